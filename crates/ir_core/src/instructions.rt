@@ -1,0 +1,149 @@
+//! Instructions.
+use crate::lists::List;
+use crate::numbers::{Block, FuncRef, SigRef, Slot, Value};
+use crate::signatures::Ty;
+use clk_num::{Bits, Op, TrapCode};
+use debug_tags::Tags;
+use exn_tables::Table;
+
+/// An argument of a target: a value, a result of the call, or a payload of the exception.
+#[derive(Clone, Copy, Debug, PartialEq, Eq)]
+pub enum Arg {
+    Value(Value),
+    Ret(u32),
+    Exn(u32),
+}
+
+/// A target of a branch: a block and the arguments for its parameters.
+#[derive(Drop)]
+pub struct BlockCall {
+    pub block: Block,
+    pub args: List<Arg>,
+}
+
+/// The flags of a memory access.
+#[derive(Clone, Copy, Debug, PartialEq, Eq)]
+pub struct Flags {
+    pub notrap: bool,
+    pub aligned: bool,
+    pub readonly: bool,
+    pub can_move: bool,
+    pub little: bool,
+    pub big: bool,
+    pub heap: bool,
+    pub table: bool,
+    pub vmctx: bool,
+}
+
+/// What a load reads: the whole type, or a number of bytes that are extended to the type.
+#[derive(Clone, Copy, Debug, PartialEq, Eq)]
+pub enum Access {
+    Full(Ty),
+    Uload(Ty, u8),
+    Sload(Ty, u8),
+}
+
+/// An instruction by its format.
+#[derive(Drop)]
+pub enum Inst {
+    Nop,
+    SequencePoint,
+    Const(Bits),
+    Pure {
+        op: Op,
+        args: List<Value>,
+    },
+    PureImm {
+        op: Op,
+        arg: Value,
+        imm: Bits,
+    },
+    Load {
+        access: Access,
+        flags: Flags,
+        address: Value,
+        offset: i32,
+    },
+    /// `narrow` is the number of bytes stored by `istore8`, `istore16` and `istore32`, and none for `store`.
+    Store {
+        narrow: Option<u8>,
+        flags: Flags,
+        value: Value,
+        address: Value,
+        offset: i32,
+    },
+    StackLoad {
+        ty: Ty,
+        slot: Slot,
+        offset: i32,
+    },
+    StackStore {
+        value: Value,
+        slot: Slot,
+        offset: i32,
+    },
+    FuncAddr(FuncRef),
+    Jump(BlockCall),
+    Brif {
+        cond: Value,
+        yes: BlockCall,
+        no: BlockCall,
+    },
+    BrTable {
+        index: Value,
+        default: BlockCall,
+        entries: List<BlockCall>,
+    },
+    Return(List<Value>),
+    Trap(TrapCode),
+    Trapz {
+        cond: Value,
+        code: TrapCode,
+    },
+    Trapnz {
+        cond: Value,
+        code: TrapCode,
+    },
+    Call {
+        callee: FuncRef,
+        args: List<Value>,
+    },
+    ReturnCall {
+        callee: FuncRef,
+        args: List<Value>,
+    },
+    TryCall {
+        callee: FuncRef,
+        sig: SigRef,
+        args: List<Value>,
+        normal: BlockCall,
+        table: Table<BlockCall>,
+    },
+    CallIndirect {
+        sig: SigRef,
+        address: Value,
+        args: List<Value>,
+    },
+    ReturnCallIndirect {
+        sig: SigRef,
+        address: Value,
+        args: List<Value>,
+    },
+    TryCallIndirect {
+        sig: SigRef,
+        address: Value,
+        args: List<Value>,
+        normal: BlockCall,
+        table: Table<BlockCall>,
+    },
+}
+
+/// An instruction with its results and debug tags. `ty` is the controlling type of an instruction whose form has a
+/// suffix that may be left out, and none for every other form.
+#[derive(Drop)]
+pub struct InstData {
+    pub inst: Inst,
+    pub ty: Option<Ty>,
+    pub results: List<Value>,
+    pub tags: Tags,
+}

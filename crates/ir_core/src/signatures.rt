@@ -1,0 +1,57 @@
+//! Types and signatures.
+use crate::lists::List;
+
+/// The type of a value: an integer of 8, 16, 32, 64 or 128 bits.
+#[derive(Clone, Copy, Debug, PartialEq, Eq)]
+pub enum Ty {
+    I8,
+    I16,
+    I32,
+    I64,
+    I128,
+}
+
+/// A calling convention.
+#[derive(Clone, Copy, Debug, PartialEq, Eq)]
+pub enum Conv {
+    Fast,
+    Cold,
+    Tail,
+    SystemV,
+    WindowsFastcall,
+    AppleAarch64,
+    Probestack,
+    Winch,
+}
+
+/// How an argument narrower than its register is extended.
+#[derive(Clone, Copy, Debug, PartialEq, Eq)]
+pub enum Ext {
+    No,
+    Uext,
+    Sext,
+}
+
+/// What a parameter is for.
+#[derive(Clone, Copy, Debug, PartialEq, Eq)]
+pub enum Purpose {
+    Normal,
+    Vmctx,
+    Sret,
+}
+
+/// A parameter or a result of a signature.
+#[derive(Clone, Copy, Debug, PartialEq, Eq)]
+pub struct Param {
+    pub ty: Ty,
+    pub ext: Ext,
+    pub purpose: Purpose,
+}
+
+/// A signature: parameters, results and the calling convention.
+#[derive(Drop)]
+pub struct Sig {
+    pub params: List<Param>,
+    pub results: List<Param>,
+    pub conv: Conv,
+}

@@ -2,7 +2,7 @@
 -- blocks, slots, signatures and callees are natural numbers without an end. The parts are those of the CLIF reference;
 -- names, signatures, declarations, targets, tables and tags are the types of the code, seen as plain data.
 use Rattle.std.specs.Prelude.{ℕ, ℤ, List, Option}
-use Rattle.clk_num.specs.declared.bits.Bits.{Bits}
+use Rattle.clk_num.specs.Operations.{DataValue}
 use Rattle.clk_num.specs.declared.op.Op.{Op}
 use Rattle.clk_num.specs.declared.op.TrapCode.{TrapCode}
 use Rattle.exn_tables.specs.declared.table.Entry.{Entry}
@@ -19,9 +19,9 @@ use Rattle.ir_core.specs.declared.instructions.Access.{Access}
 -- an instruction that gives values, reads or writes, or ends the run, by its own frame and the memory alone
 pub data Simple : Type 0 where
   Nop : Simple
-  Const : Bits → Simple
+  Const : DataValue → Simple
   Pure : Op → (args : List ℕ) → Simple
-  PureImm : Op → (arg : ℕ) → (imm : Bits) → Simple
+  PureImm : Op → (arg : ℕ) → (imm : DataValue) → Simple
   Load : Access → Flags → (address : ℕ) → (offset : ℤ) → Simple
   -- the number of bytes stored, where it is fewer than the value has
   Store : (narrow : Option ℕ) → Flags → (value address : ℕ) → (offset : ℤ) → Simple

@@ -1,5 +1,5 @@
 -- What an instruction of the code means: the formats of the code, grouped by what they do.
-use Rattle.std.specs.Prelude.{ℕ, List}
+use Rattle.clk_num.specs.Views.{data_of}
 use Rattle.ir_core.specs.declared.instructions.Inst.{Inst}
 use Rattle.ir_core.specs.declared.instructions.Inst.TheVariants as inst
 use Rattle.ir_core.specs.declared.instructions.InstData.{InstData}
@@ -9,9 +9,9 @@ use Rattle.ir_core.specs.Module.{Nop, Const, Pure, PureImm, Load, Store, StackLo
 abbrev pub instruction_of : Inst → Instruction
 instruction_of inst.Nop = Plain Nop
 instruction_of inst.SequencePoint = SequencePoint
-instruction_of (inst.Const bits) = Plain (Const bits)
+instruction_of (inst.Const bits) = Plain (Const (data_of bits))
 instruction_of (inst.Pure op args) = Plain (Pure op args)
-instruction_of (inst.PureImm op arg imm) = Plain (PureImm op arg imm)
+instruction_of (inst.PureImm op arg imm) = Plain (PureImm op arg (data_of imm))
 instruction_of (inst.Load access flags address offset) = Plain (Load access flags address offset)
 instruction_of (inst.Store narrow flags value address offset) = Plain (Store narrow flags value address offset)
 instruction_of (inst.StackLoad ty slot offset) = Plain (StackLoad ty slot offset)

@@ -1,0 +1,5 @@
+pub mod Numbers
+pub mod Operations
+pub mod Rows
+pub mod Views
+pub mod Width

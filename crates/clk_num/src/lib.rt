@@ -1,0 +1,12 @@
+//! The operations of CLIF on bits: types of 8 to 128 bits, their values, and what each opcode gives.
+#![tactic(auto)]
+
+mod bits;
+mod eval;
+mod op;
+mod width;
+
+pub use bits::Bits;
+pub use eval::Evaled;
+pub use op::{Cc, Op, TrapCode};
+pub use width::Width;

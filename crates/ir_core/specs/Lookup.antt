@@ -5,7 +5,6 @@ use Rattle.ir_core.specs.declared.signatures.Sig.{Sig}
 use Rattle.ir_core.specs.declared.signatures.Param.{Param}
 use Rattle.ir_core.specs.declared.names.FuncName.{FuncName}
 use Rattle.ir_core.specs.declared.names.FuncName.TheVariants as name
-use Rattle.ir_core.specs.declared.declarations.Callee.{Callee}
 use Rattle.ir_core.specs.Module.{CallTarget, Direct, Indirect, Line, Block, Function, Module}
 
 abbrev pub and_then : {A B : Type 0} → Option A → (A → Option B) → Option B

@@ -6,7 +6,7 @@ use Rattle.clk_num.specs.Operations.{DataValue}
 use Rattle.clk_num.specs.declared.op.Op.{Op}
 use Rattle.clk_num.specs.declared.op.TrapCode.{TrapCode}
 use Rattle.exn_tables.specs.declared.table.Entry.{Entry}
-use Rattle.debug_tags.specs.declared.list.Tag.{Tag}
+use Rattle.debug_tags.specs.declared.tags.Tag.{Tag}
 use Rattle.ir_core.specs.declared.signatures.Ty.{Ty}
 use Rattle.ir_core.specs.declared.signatures.Sig.{Sig}
 use Rattle.ir_core.specs.declared.names.FuncName.{FuncName}

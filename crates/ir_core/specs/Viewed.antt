@@ -3,7 +3,7 @@ use Rattle.clk_num.specs.Views.{data_of}
 use Rattle.ir_core.specs.declared.instructions.Inst.{Inst}
 use Rattle.ir_core.specs.declared.instructions.Inst.TheVariants as inst
 use Rattle.ir_core.specs.declared.instructions.InstData.{InstData}
-use Rattle.ir_core.specs.Module.{Simple, Branch, CallTarget, Instruction, Line}
+use Rattle.ir_core.specs.Module.{Instruction, Line}
 use Rattle.ir_core.specs.Module.{Nop, Const, Pure, PureImm, Load, Store, StackLoad, StackStore, FuncAddr, Trap, Trapz, Trapnz, Jump, Brif, BrTable, Direct, Indirect, Plain, Branches, SequencePoint, Return, Call, ReturnCall, TryCall}
 
 abbrev pub instruction_of : Inst → Instruction

@@ -1,0 +1,112 @@
+-- The grammar of instructions, as EBNF is written: `commas a` is `a { "," a }`, `Opt a` is `[ a ]`, `Many a` is `{ a }`.
+-- The words that a place refuses in its own way are rules too: an unknown opcode, and opcodes, types, flags and table entries of CLIF that are left out.
+use Rattle.std.specs.Prelude.{◌≡◌, ℕ, Bool, true, not, List, [], ◌∷◌, refl}
+use Rattle.std.specs.List.{filter}
+use Rattle.grammar.specs.Rules.{Rule, Opt, Many, Refuse, Kind, UnknownOpcode, Unsupported, member, good}
+use Rattle.clif_insts.specs.declared.class.Class.{Class}
+use Rattle.clif_insts.specs.declared.class.Class.TheVariants as classes
+use Rattle.clif_insts.specs.Terminals.{◌then◌, ◌or◌, codes_of, refused, words, unsigned, signed, left_paren, right_paren, left_bracket, right_bracket, comma, colon, dot, ty, ty_i64, vmctx, flag, little, big, trap_code, user_trap, condition, value, block, slot, sig, callee, tag, ret, exn, default_word, iconst, binary, unary, icmp, select, convert, binary_imm, icmp_imm, load, load_wide, store, stack_load, stack_store, func_addr, nullary, jump, brif, br_table, return_word, trap, trap_if, call, try_call, call_indirect, try_call_indirect}
+
+abbrev pub commas : Rule → Rule
+commas a = a then Many (comma then a)
+
+abbrev pub number : Rule
+number = unsigned or signed
+
+abbrev pub refused_type : Rule
+refused_type = refused (classes.RefusedType ∷ []) Unsupported
+
+abbrev pub any_type : Rule
+any_type = ty or ty_i64 or refused_type
+
+-- .T
+abbrev pub suffix : Rule
+suffix = dot then any_type
+
+-- .i64
+abbrev pub suffix_i64 : Rule
+suffix_i64 = dot then (ty_i64 or refused_type)
+
+abbrev pub any_trap : Rule
+any_trap = trap_code or user_trap
+
+-- a flag but `little` and `big`; a trap code is refused here
+abbrev pub plain_flag : Rule
+plain_flag = flag or vmctx or refused (classes.TrapCode ∷ classes.UserTrap ∷ []) Unsupported
+
+-- any number of flags, `big` and `little` not together
+abbrev pub flags : Rule
+flags = Many plain_flag then Opt ((big then Many (plain_flag or big)) or (little then Many (plain_flag or little)))
+
+-- p+off
+abbrev pub address : Rule
+address = value then Opt signed
+
+-- ssN+off
+abbrev pub slot_address : Rule
+slot_address = slot then Opt signed
+
+-- blockN [ "(" [ arg { "," arg } ] ")" ]
+abbrev pub call_to : Rule → Rule
+call_to arg = block then Opt (left_paren then Opt (commas arg) then right_paren)
+
+-- a target of a branch
+abbrev pub target : Rule
+target = call_to value
+
+-- the normal target of a `try_call`, whose results are `ret0`, `ret1` and so on
+abbrev pub normal_target : Rule
+normal_target = call_to (value or ret)
+
+-- a target of an exception table, whose payloads are `exn0` and `exn1`
+abbrev pub handler : Rule
+handler = call_to (value or exn)
+
+abbrev pub entry : Rule
+entry = (tag or default_word or refused (classes.Context ∷ []) Unsupported) then colon then handler
+
+abbrev pub table : Rule
+table = left_bracket then Opt (commas entry) then right_bracket
+
+abbrev pub args : Rule
+args = left_paren then Opt (commas value) then right_paren
+
+-- the words but opcodes and those of these classes
+abbrev pub words_but : List Class → List ℕ
+words_but excepted = filter (λ c. not (member c (codes_of excepted))) (codes_of words)
+
+-- An instruction. In its place opcodes that are left out are Unsupported, and other words UnknownOpcode, but for those that may begin something else there.
+-- The values of a `return` are not part of it: they stand behind it, as far as they are not the results of the next line.
+abbrev pub inst : List Class → Rule
+inst excepted =
+    (iconst then suffix then number)
+    or (binary then Opt suffix then value then comma then value)
+    or (unary then Opt suffix then value)
+    or (icmp then Opt suffix then condition then value then comma then value)
+    or (select then Opt suffix then value then comma then value then comma then value)
+    or (convert then suffix then value)
+    or (binary_imm then Opt suffix then value then comma then number)
+    or (icmp_imm then Opt suffix then condition then value then comma then number)
+    or (load then suffix then flags then address)
+    or (load_wide then Opt suffix then flags then address)
+    or (store then Opt suffix then flags then value then comma then address)
+    or (stack_load then suffix then slot_address)
+    or (stack_store then Opt suffix then value then comma then slot_address)
+    or (func_addr then suffix_i64 then callee)
+    or nullary
+    or (jump then target)
+    or (brif then Opt suffix then value then comma then target then comma then target)
+    or (br_table then value then comma then target then comma then left_bracket then Opt (commas target) then right_bracket)
+    or return_word
+    or (trap then any_trap)
+    or (trap_if then Opt suffix then value then comma then any_trap)
+    or (call then callee then args)
+    or (try_call then callee then args then comma then sig then comma then normal_target then comma then table)
+    or (call_indirect then Opt suffix_i64 then sig then comma then value then args)
+    or (try_call_indirect then Opt suffix_i64 then value then args then comma then sig then comma then normal_target then comma then table)
+    or refused (classes.RefusedOpcode ∷ []) Unsupported
+    or Refuse (words_but excepted) UnknownOpcode
+
+-- the next token always says which way to go
+pub inst_is_good : (good (inst []) ≡ true) × (good (inst (classes.Value ∷ [])) ≡ true) × (good (inst (classes.Value ∷ classes.Block ∷ [])) ≡ true)
+inst_is_good = (refl, refl, refl)

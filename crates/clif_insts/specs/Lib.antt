@@ -1,0 +1,7 @@
+pub mod Classes
+pub mod Table
+pub mod Words
+pub mod Lexemes
+pub mod Terminals
+pub mod Grammar
+pub mod Reading

@@ -1,0 +1,19 @@
+//! The reader of one instruction.
+#![tactic(auto)]
+
+mod class;
+mod items;
+mod laws;
+mod opcodes;
+mod raw;
+mod reader;
+mod stop;
+mod words;
+
+pub use class::Class;
+pub use items::{Meaning, token_meaning};
+pub use opcodes::{OPCODES, Opcode, OpcodeRow};
+pub use raw::{RawArg, RawEntry, RawInst, RawName, RawNumber, RawOperands, RawTarget, RawTrap};
+pub use reader::Reader;
+pub use stop::Stop;
+pub use words::Entry;

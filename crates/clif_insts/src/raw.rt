@@ -1,0 +1,136 @@
+//! Instructions as the grammar reads them, with names that are not looked up yet.
+
+use crate::opcodes::Opcode;
+use clk_num::Cc;
+use ir_core::{Flags, List, Ty};
+
+/// An entity, a tag or a result by its word, as `v7`.
+#[derive(Clone, Copy, Debug, PartialEq, Eq)]
+pub struct RawName {
+    /// The number in the word, or `u64::MAX` where it is above that.
+    pub number: u64,
+    /// The word's first byte.
+    pub spot: usize,
+}
+
+/// A number.
+#[derive(Clone, Copy, Debug, PartialEq, Eq)]
+pub struct RawNumber {
+    pub value: i128,
+    /// The number's first byte.
+    pub spot: usize,
+}
+
+/// An argument of a target: `vN`, `retN` or `exnN`.
+#[derive(Clone, Copy, Debug, PartialEq, Eq)]
+pub enum RawArg {
+    Value(RawName),
+    Ret(RawName),
+    Exn(RawName),
+}
+
+/// A target: a block and its arguments.
+#[derive(Drop)]
+pub struct RawTarget {
+    pub block: RawName,
+    pub args: List<RawArg>,
+}
+
+/// An entry of an exception table: `tagN`, or none for `default`, and its target.
+#[derive(Drop)]
+pub struct RawEntry {
+    pub tag: Option<RawName>,
+    pub target: RawTarget,
+}
+
+/// A trap code. `User` has the number of a `userN`.
+#[derive(Clone, Copy, Debug, PartialEq, Eq)]
+pub enum RawTrap {
+    StkOvf,
+    IntOvf,
+    HeapOob,
+    IntDivz,
+    BadToint,
+    User(RawName),
+}
+
+/// What stands behind an opcode and its suffix, by form.
+#[derive(Drop)]
+pub enum RawOperands {
+    Nullary,
+    Number(RawNumber),
+    Unary(RawName),
+    Binary(RawName, RawName),
+    Ternary(RawName, RawName, RawName),
+    Compare(Cc, RawName, RawName),
+    BinaryImm(RawName, RawNumber),
+    CompareImm(Cc, RawName, RawNumber),
+    Load {
+        flags: Flags,
+        address: RawName,
+        offset: Option<RawNumber>,
+    },
+    Store {
+        flags: Flags,
+        value: RawName,
+        address: RawName,
+        offset: Option<RawNumber>,
+    },
+    StackLoad {
+        slot: RawName,
+        offset: Option<RawNumber>,
+    },
+    StackStore {
+        value: RawName,
+        slot: RawName,
+        offset: Option<RawNumber>,
+    },
+    FuncAddr(RawName),
+    Jump(RawTarget),
+    Brif {
+        cond: RawName,
+        yes: RawTarget,
+        no: RawTarget,
+    },
+    BrTable {
+        index: RawName,
+        default: RawTarget,
+        entries: List<RawTarget>,
+    },
+    Return(List<RawName>),
+    Trap(RawTrap),
+    TrapIf(RawName, RawTrap),
+    Call {
+        callee: RawName,
+        args: List<RawName>,
+    },
+    TryCall {
+        callee: RawName,
+        args: List<RawName>,
+        sig: RawName,
+        normal: RawTarget,
+        table: List<RawEntry>,
+    },
+    CallIndirect {
+        sig: RawName,
+        address: RawName,
+        args: List<RawName>,
+    },
+    TryCallIndirect {
+        address: RawName,
+        args: List<RawName>,
+        sig: RawName,
+        normal: RawTarget,
+        table: List<RawEntry>,
+    },
+}
+
+/// An instruction. `suffix` is none where there is no suffix, and for `func_addr` and the indirect calls, whose only suffix is `i64`.
+#[derive(Drop)]
+pub struct RawInst {
+    pub opcode: Opcode,
+    /// The opcode's first byte.
+    pub spot: usize,
+    pub suffix: Option<Ty>,
+    pub operands: RawOperands,
+}

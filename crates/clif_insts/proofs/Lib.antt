@@ -1,2 +1,5 @@
 pub mod Buckets
 pub mod Decimals
+pub mod Tags
+pub mod Takes
+pub mod Views

@@ -1,12 +1,13 @@
 //! The tokens of a text, read one after the other.
 
-ghost use Rattle.std.specs.Prelude.{◌≡◌, ◌≢◌, ◌∷◌, [], ◌<◌, ◌≤◌, length, drop, slice_get, false, IfOk, IfErr, IfSome};
-ghost use Rattle.grammar.specs.Rules as rules;
+ghost use Rattle.std.specs.Prelude.{◌≡◌, ◌≢◌, List, ◌∷◌, [], ◌<◌, ◌≤◌, length, drop, slice_get, false, IfOk, IfErr, IfSome};
+ghost use Rattle.grammar.specs.Rules.{Lexeme};
 ghost use Rattle.clif_lex.specs.Lexing.{tokens_of};
 ghost use Rattle.clif_insts.specs.Classes.{code};
-ghost use Rattle.clif_insts.specs.Lexemes.{lexemes, is_comment};
+ghost use Rattle.clif_insts.specs.Lexemes.{lexemes};
+ghost use Rattle.clif_insts.specs.Lexemes as lexeme_specs;
 ghost use Rattle.clif_insts.specs.Reading as spec;
-ghost use Rattle.clif_insts.specs.Reading.{Gives};
+ghost use Rattle.clif_insts.specs.Reading.{Gives, same};
 
 use crate::class::Class;
 use crate::items::{Meaning, token_meaning};
@@ -40,19 +41,45 @@ impl<'a> Model for Reader<'a> {
     ghost invariant = { λ r. (tokens_of r.text.now ≡ Ok r.tokens.now) × (r.at ≤ length r.tokens.now) × Upcoming r.text.now (drop r.at r.tokens.now) r.next };
 }
 
+/// Whether a token is a comment.
+#[inline]
+fn is_comment(kind: TokenKind) -> bool
+    ensures { result ≡ lexeme_specs.is_comment kind }
+{
+    matches!(kind, TokenKind::Comment)
+}
+
 /// The first token from here on that is no comment, or the list's length.
 #[inline]
-fn settle(text: &[u8], tokens: &Tokens, from: usize) -> usize
-    requires { from ≤ length tokens.now }
+fn settle(text: &[u8], tokens: &Tokens, from: usize, end: usize) -> usize
+    requires within { from ≤ end }
+    requires whole { end ≡ length tokens.now }
     ensures within { result ≤ length tokens.now }
     ensures same { lexemes text.now result (drop result tokens.now) ≡ lexemes text.now from (drop from tokens.now) }
-    ensures no_comment { IfSome (slice_get tokens.now result) (λ token. is_comment token.kind ≡ false) }
+    ensures no_comment { IfSome (slice_get tokens.now result) (λ token. lexeme_specs.is_comment token.kind ≡ false) }
 {
     let mut at = from;
-    'comments: while at < tokens.len() && matches!(tokens.get(at).kind, TokenKind::Comment) {
+    'comments: while at < end {
+        if !is_comment(tokens.get(at).kind) {
+            return at;
+        }
         at += 1;
     }
     at
+}
+
+/// What the next token is.
+#[inline]
+fn upcoming(text: &[u8], tokens: &Tokens, at: usize) -> Option<Meaning>
+    requires whole { tokens_of text.now ≡ Ok tokens.now }
+    requires no_comment { IfSome (slice_get tokens.now at) (λ token. lexeme_specs.is_comment token.kind ≡ false) }
+    ensures { lexeme_specs.Upcoming text.now (drop at tokens.now) result }
+{
+    if at < tokens.len() {
+        Some(token_meaning(text, tokens, at))
+    } else {
+        None
+    }
 }
 
 impl<'a> Reader<'a> {
@@ -62,12 +89,8 @@ impl<'a> Reader<'a> {
         requires within { from ≤ length tokens.now }
         ensures { result ≡ lexemes text.now from (drop from tokens.now) }
     {
-        let at = settle(text, tokens, from);
-        let next = if at < tokens.len() {
-            Some(token_meaning(text, tokens, at))
-        } else {
-            None
-        };
+        let at = settle(text, tokens, from, tokens.len());
+        let next = upcoming(text, tokens, at);
         Reader {
             text,
             tokens,
@@ -82,8 +105,51 @@ impl<'a> Reader<'a> {
         ensures { result ≡ spec.next_is class self.now }
     {
         match self.next {
-            Some(next) => next.class as u8 == class as u8,
+            Some(next) => class as u8 == next.class as u8,
             None => false,
+        }
+    }
+
+    /// The name that the next token spells.
+    #[inline]
+    fn front(&self) -> RawName
+        requires { self.now ≢ [] }
+        ensures { (x : Lexeme) (xs : List Lexeme) → self.now ≡ x ∷ xs → result ≡ spec.name x }
+    {
+        let number = match self.next {
+            Some(next) => next.number,
+            None => 0,
+        };
+        RawName {
+            number,
+            spot: self.tokens.get(self.at).start,
+        }
+    }
+
+    /// Passes over the next token.
+    #[inline]
+    fn advance(&mut self)
+        requires { self.old ≢ [] }
+        ensures { self.new ≡ drop 1 self.old }
+    {
+        let end = self.tokens.len();
+        let at = settle(self.text, self.tokens, self.at + 1, end);
+        self.next = upcoming(self.text, self.tokens, at);
+        self.at = at;
+    }
+
+    /// The name that a token of this class spells.
+    #[inline]
+    pub fn take(&mut self, class: Class) -> Result<RawName, Stop>
+        ensures is { Gives same self.new result (spec.name_at class self.old) }
+        ensures shorter { IfOk result (λ _. length self.new < length self.old) }
+    {
+        if self.next_is(class) {
+            let name = self.front();
+            self.advance();
+            Ok(name)
+        } else {
+            Err(Stop::Syntax)
         }
     }
 }

@@ -1,0 +1,103 @@
+-- What a reader holds, and the tokens that contracts see.
+use Rattle.std.proofs.Common.{◌≡◌, ◌≢◌, ◌||◌, ℕ, suc, ◌+◌, ◌<◌, ◌≤◌, Bool, true, false, ◌==◌, cond, List, [], ◌∷◌, length, drop, get_or, Option, Some, None, slice_get, IfSome, refl, sym, ap, subst, ◌∙◌, arith, add-one, drop-cons, length-drop, inl, inr}
+use Rattle.std.proofs.lemmas.Option.{slice_get_within, get_or_from_slice_get, slice_get_cases}
+use Rattle.grammar.specs.Rules.{Lexeme, heads, member}
+use Rattle.clif_lex.specs.declared.spans.Token.{Token}
+use Rattle.clif_insts.specs.declared.class.Class.{Class}
+use Rattle.clif_insts.specs.declared.items.Meaning.{Meaning}
+use Rattle.clif_insts.specs.Classes.{code}
+use Rattle.clif_insts.specs.Lexemes.{lexeme, lexemes, is_comment, meaning, Upcoming}
+
+pub drop_some : (ts : List Token) (i : ℕ) (t : Token) → slice_get ts i ≡ Some t → drop i ts ≡ t ∷ drop (i + 1) ts
+drop_some ts i t e =
+    let within = slice_get_within ts i t e in
+    let same = get_or_from_slice_get ts i t t e in
+    rw (add-one, drop-cons ts i t, same) refl
+
+pub drop_past : (ts : List Token) (i : ℕ) → length ts ≤ i → drop i ts ≡ []
+drop_past ts i le = go (drop i ts) (let l = length-drop i ts in omega arith)
+  where
+    go : (us : List Token) → length us ≡ 0 → us ≡ []
+    go [] e = refl
+    go (u ∷ us) e = absurd (omega arith)
+
+-- a comment is passed over
+pub skips : (text : List ℕ) (ts : List Token) (i : ℕ) (t : Token) → slice_get ts i ≡ Some t → is_comment t.kind ≡ true → lexemes text (i + 1) (drop (i + 1) ts) ≡ lexemes text i (drop i ts)
+unfolding lexemes
+skips text ts i t e comment = rw (drop_some ts i t e, comment) refl
+
+-- any other token is the next
+pub takes : (text : List ℕ) (ts : List Token) (i : ℕ) (t : Token) → slice_get ts i ≡ Some t → is_comment t.kind ≡ false → lexemes text i (drop i ts) ≡ lexeme text i t ∷ lexemes text (i + 1) (drop (i + 1) ts)
+unfolding lexemes
+takes text ts i t e no_comment = rw (drop_some ts i t e, no_comment) refl
+
+pub upcoming_some : (text : List ℕ) (ts : List Token) (i : ℕ) (t : Token) (m : Meaning) → slice_get ts i ≡ Some t → is_comment t.kind ≡ false → m ≡ meaning text t → Upcoming text (drop i ts) (Some m)
+upcoming_some text ts i t m e no_comment same = rw (drop_some ts i t e) (no_comment, ap Some same)
+
+pub upcoming_none : (text : List ℕ) (ts : List Token) (i : ℕ) → length ts ≤ i → Upcoming text (drop i ts) None
+upcoming_none text ts i le = rw (drop_past ts i le) refl
+
+-- the next token's class
+pub heads_some : (text : List ℕ) (place : ℕ) (ts : List Token) (m : Meaning) (class : Class) → Upcoming text ts (Some m) → (code class == code m.class) ≡ heads (code class ∷ []) (lexemes text place ts)
+unfolding lexemes
+heads_some text place [] m class up = absurd cc
+heads_some text place (t ∷ ts) m class up =
+    let same : m ≡ meaning text t = (let e = up.1 in cc) in
+    rw (up.0, same) (go (code class == code (meaning text t).class))
+  where
+    go : (b : Bool) → b ≡ (b || false)
+    go true = refl
+    go false = refl
+
+pub heads_none : (text : List ℕ) (place : ℕ) (ts : List Token) (class : Class) → Upcoming text ts None → false ≡ heads (code class ∷ []) (lexemes text place ts)
+unfolding lexemes
+heads_none text place [] class up = refl
+heads_none text place (t ∷ ts) class up = absurd (let e = up.1 in cc)
+
+-- what is said of an element that there is
+pub if_some : {A : Type 0} (P : A → Type 0) (o : Option A) (x : A) → o ≡ Some x → IfSome o P → P x
+if_some P (Some y) x e h = subst P (let f : y ≡ x = cc in f) h
+if_some P None x e h = absurd cc
+
+pub to_if_some : {A : Type 0} (P : A → Type 0) (o : Option A) (x : A) → o ≡ Some x → P x → IfSome o P
+to_if_some P o x e h = subst (λ (z : Option _). IfSome z P) (sym e) h
+
+pub if_none : {A : Type 0} (P : A → Type 0) (o : Option A) → o ≡ None → IfSome o P
+if_none P o e = subst (λ (z : Option _). IfSome z P) (sym e) tt
+
+-- where a token is left, the next is there
+pub some_next : (text : List ℕ) (ts : List Token) (i : ℕ) → lexemes text i (drop i ts) ≢ [] → i < length ts
+unfolding lexemes
+some_next text ts i h = go (drop i ts) refl
+  where
+    go : (us : List Token) → drop i ts ≡ us → i < length ts
+    go [] e = absurd (h (rw e refl))
+    go (u ∷ us) e = (let l = length-drop i ts in let k = ap length e in omega arith)
+
+-- the next token of a reader
+pub front_is : (text : List ℕ) (place : ℕ) (ts : List Token) (m : Meaning) (x : Lexeme) (xs : List Lexeme) → Upcoming text ts (Some m) → lexemes text place ts ≡ x ∷ xs
+    → (t : Token) → (us : List Token) → ts ≡ t ∷ us → (m.number ≡ x.number) × (t.start ≡ x.spot)
+unfolding lexemes
+front_is text place ts m x xs up e t us f =
+    let up2 = subst (λ (z : List Token). Upcoming text z (Some m)) f up in
+    let same : m ≡ meaning text t = (let e = up2.1 in cc) in
+    let whole : lexeme text place t ∷ lexemes text (place + 1) us ≡ x ∷ xs = rw (up2.0) at (rw f at e) in
+    let head : lexeme text place t ≡ x = cc in
+    (ap (λ (z : Meaning). z.number) same ∙ ap (λ (z : Lexeme). z.number) head, ap (λ (z : Lexeme). z.spot) head)
+
+pub some_at : (ts : List Token) (i : ℕ) → i < length ts → (t : Token) × (slice_get ts i ≡ Some t)
+some_at ts i less = go (slice_get ts i) refl
+  where
+    go : (o : Option Token) → slice_get ts i ≡ o → (t : Token) × (slice_get ts i ≡ Some t)
+    go (Some t) e = (t, e)
+    go None e = elim (slice_get_cases ts i).1 [
+      | inl h ↦ (h.0, h.2)
+      | inr h ↦ absurd (let l = h.0 in omega arith)
+    ]
+
+-- the next token of a reader is no comment
+pub upcoming_not : (text : List ℕ) (ts : List Token) (i : ℕ) (t : Token) (next : Option Meaning) → slice_get ts i ≡ Some t → Upcoming text (drop i ts) next → is_comment t.kind ≡ false
+upcoming_not text ts i t next e up = (subst (λ (z : List Token). Upcoming text z next) (drop_some ts i t e) up).0
+
+pub upcoming_there : (text : List ℕ) (ts : List Token) (i : ℕ) (t : Token) → slice_get ts i ≡ Some t → Upcoming text (drop i ts) None → ⊥
+upcoming_there text ts i t e up = (let u = (subst (λ (z : List Token). Upcoming text z None) (drop_some ts i t e) up).1 in cc)

@@ -1,5 +1,5 @@
 -- The tokens of a text as the grammar sees them. Comments are passed over.
-use Rattle.std.specs.Prelude.{ℕ, ◌+◌, ◌==◌, Bool, true, false, if◌then◌else◌, List, [], ◌∷◌, drop, Option, Some, None, ◌≡◌}
+use Rattle.std.specs.Prelude.{ℕ, ◌+◌, ◌==◌, Bool, true, false, if◌then◌else◌, List, [], ◌∷◌, drop, ℤ, pos, Option, Some, None, ◌≡◌}
 use Rattle.grammar.specs.Rules.{Lexeme}
 use Rattle.clif_lex.specs.declared.spans.TokenKind.{TokenKind}
 use Rattle.clif_lex.specs.declared.spans.TokenKind.TheVariants as kinds
@@ -46,12 +46,22 @@ meaning_of (kinds.Mark byte) s = means (mark_class byte) 0
 abbrev pub meaning : List ℕ → Token → Meaning
 meaning text token = meaning_of token.kind (spelling text token)
 
+-- what a number spells
+abbrev pub amount_of : TokenKind → List ℕ → ℤ
+amount_of kinds.Number s = spelled_number s
+amount_of kind s = pos 0
+
+-- what a name spells, without its `%`
+abbrev pub name_of : TokenKind → List ℕ → List ℕ
+name_of kinds.Name s = drop 1 s
+name_of kind s = []
+
 abbrev pub lexeme : List ℕ → ℕ → Token → Lexeme
 lexeme text place token = record {
   class = code (meaning text token).class;
   number = (meaning text token).number;
-  amount = spelled_number (spelling text token);
-  name = drop 1 (spelling text token);
+  amount = amount_of token.kind (spelling text token);
+  name = name_of token.kind (spelling text token);
   place = place;
   spot = token.start }
 

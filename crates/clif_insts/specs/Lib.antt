@@ -5,3 +5,4 @@ pub mod Lexemes
 pub mod Terminals
 pub mod Grammar
 pub mod Reading
+pub mod Parts

@@ -1,6 +1,5 @@
 //! Instructions as the grammar reads them, with names that are not looked up yet.
 
-use crate::opcodes::Opcode;
 use clk_num::Cc;
 use ir_core::{Flags, List, Ty};
 
@@ -128,9 +127,8 @@ pub enum RawOperands {
 /// An instruction. `suffix` is none where there is no suffix, and for `func_addr` and the indirect calls, whose only suffix is `i64`.
 #[derive(Drop)]
 pub struct RawInst {
-    pub opcode: Opcode,
-    /// The opcode's first byte.
-    pub spot: usize,
+    /// The opcode's row in the table of opcodes, and its first byte.
+    pub opcode: RawName,
     pub suffix: Option<Ty>,
     pub operands: RawOperands,
 }

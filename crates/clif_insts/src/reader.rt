@@ -1,7 +1,7 @@
 //! The tokens of a text, read one after the other.
 
 ghost use Rattle.std.specs.Prelude.{◌≡◌, ◌≢◌, List, ◌∷◌, [], ◌<◌, ◌≤◌, length, drop, slice_get, false, IfOk, IfErr, IfSome};
-ghost use Rattle.grammar.specs.Rules.{Lexeme};
+ghost use Rattle.grammar.specs.Rules.{Lexeme, heads};
 ghost use Rattle.clif_lex.specs.Lexing.{tokens_of};
 ghost use Rattle.clif_insts.specs.Classes.{code};
 ghost use Rattle.clif_insts.specs.Lexemes.{lexemes};
@@ -108,6 +108,22 @@ impl<'a> Reader<'a> {
             Some(next) => class as u8 == next.class as u8,
             None => false,
         }
+    }
+
+    /// Whether the next token is of one of these classes.
+    #[inline]
+    pub fn next_is_either(&self, first: Class, second: Class) -> bool
+        ensures { result ≡ heads (code first ∷ code second ∷ []) self.now }
+    {
+        self.next_is(first) || self.next_is(second)
+    }
+
+    /// Whether the next token is of one of these classes.
+    #[inline]
+    pub fn next_is_one_of(&self, first: Class, second: Class, third: Class) -> bool
+        ensures { result ≡ heads (code first ∷ code second ∷ code third ∷ []) self.now }
+    {
+        self.next_is(first) || self.next_is_either(second, third)
     }
 
     /// The name that the next token spells.

@@ -1,16 +1,16 @@
 -- Facts on the reading of naturals as signed numbers, and on integers modulo a power of two.
-use Rattle.std.proofs.Common.{◌≡◌, ℕ, zero, suc, ◌+◌, ◌-◌, ◌*◌, ◌/◌, ◌%◌, ◌^◌, ◌<◌, ◌≤◌, Bool, true, false, cond, ℤ, pos, negsuc, ◌-ℤ◌, ◌+ℤ◌, neg_ℤ, refl, sym, ◌∙◌, ap, subst, arith, lit<, lit≤, eqb, ltb, inl, inr, ◌⊎◌, FitsSigned, to_z, of_z, ◌<ℤ◌, ◌≤ℤ◌, to_z-of_z, leb, ◌&&◌}
+use Rattle.std.proofs.Common.{◌≡◌, ℕ, suc, ◌+◌, ◌-◌, ◌*◌, ◌/◌, ◌%◌, ◌^◌, ◌<◌, ◌≤◌, true, false, ℤ, pos, negsuc, ◌-ℤ◌, neg_ℤ, refl, sym, ◌∙◌, ap, arith, lit≤, ltb, inl, inr, ◌⊎◌, FitsSigned, to_z, of_z, to_z-of_z, leb, ◌&&◌}
 use Rattle.std.specs.Int.RustNames.{unsigned_abs, int_lt as lt_z}
 use Rattle.std.proofs.Math.Nat.{mod-eq_of_lt}
 use Rattle.std.specs.Int.{w128}
 use Rattle.std.proofs.lemmas.Int.{ints, to_z_pos}
-use Rattle.std.proofs.lemmas.Nat.{pow_pos, div_below, mod-mul-add, shr_split, mod_below, div-add-mod'}
+use Rattle.std.proofs.lemmas.Nat.{pow_pos, div_below, mod-mul-add, mod_below, div-add-mod'}
 use Rattle.std.proofs.lemmas.Bool.Decides.{nat_tests}
 use Rattle.std.proofs.lemmas.Bool.{cases_lt}
 use Rattle.clk_num.specs.declared.width.Width.{Width}
 use Rattle.clk_num.specs.declared.width.Width.TheVariants.{W8, W16, W32, W64, W128}
 use Rattle.clk_num.specs.Width.{bits_of}
-use Rattle.clk_num.specs.Numbers.{signed, wrapped, fits, fits_signed, floored}
+use Rattle.clk_num.specs.Numbers.{signed, wrapped, fits}
 
 -- two to the power of a width is twice the power below it
 pub power_halves : (t : Width) → 2 ^ bits_of t ≡ 2 * 2 ^ (bits_of t - 1)
@@ -59,9 +59,9 @@ pub signed_cases : (t : Width) (n : ℕ) → n < 2 ^ bits_of t
     → ((n < 2 ^ (bits_of t - 1)) × (signed (bits_of t) n ≡ pos n))
     ⊎ ((2 ^ (bits_of t - 1) ≤ n) × (signed (bits_of t) n ≡ negsuc (2 ^ bits_of t - 1 - n)) × (2 ^ bits_of t - 1 - n < 2 ^ (bits_of t - 1)))
 signed_cases t n h = elim (cases_lt n (2 ^ (bits_of t - 1))) [
-    inl low ↦ inl (low, signed_low (bits_of t) n low)
+  | inl low ↦ inl (low, signed_low (bits_of t) n low)
   | inr high ↦ inr (high, signed_high (bits_of t) n high h, (let e = power_halves t in omega arith))
-  ]
+]
 
 -- what the code reads is the signed reading
 pub read_low : (t : Width) (n g : ℕ) → g ≡ 2 ^ (bits_of t - 1) - 1 → n ≤ g → to_z w128 n ≡ signed (bits_of t) n
@@ -125,9 +125,12 @@ complement_of (pos n) f h =
 complement_of (negsuc n) f h =
     let small : n < 2 ^ 127 = f.sfits in
     let value : (negsuc 0 -ℤ negsuc n) ≡ pos n = omega (arith, ints) in
-    let fits : FitsSigned w128 (pos n) = record { sfits = small } in
-    (n, refl, ap (λ (z : ℤ). unsigned_abs (to_z w128 (of_z w128 (negsuc 0 -ℤ z)))) (to_z-of_z f)
-      ∙ ap (λ (z : ℤ). unsigned_abs (to_z w128 (of_z w128 z))) value ∙ ap unsigned_abs (to_z-of_z fits))
+    let fits : FitsSigned w128 (pos n) = record { sfits = small } in (
+      n,
+      refl,
+      ap (λ (z : ℤ). unsigned_abs (to_z w128 (of_z w128 (negsuc 0 -ℤ z)))) (to_z-of_z f)
+          ∙ ap (λ (z : ℤ). unsigned_abs (to_z w128 (of_z w128 z))) value ∙ ap unsigned_abs (to_z-of_z fits),
+    )
 
 -- another number in the code
 pub number_of : (z : ℤ) → FitsSigned w128 z → lt_z (to_z w128 (of_z w128 z)) (pos 0) ≡ false

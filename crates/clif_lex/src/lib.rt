@@ -8,6 +8,8 @@ mod lexing;
 mod numbers;
 mod places;
 mod spans;
+#[cfg(test)]
+mod tests;
 
 pub use faults::{LexErr, Place, TextErr, TextKind};
 pub use lexing::tokens;

@@ -77,19 +77,17 @@ fn number_at(at: usize, text: &[u8]) -> Result<Token, LexErr>
     ensures start { IfOk result (λ t. t.start ≡ at) }
     ensures within { IfOk result (λ t. t.end ≤ at + length text.now) }
 {
-    if lacks_digits(text) {
-        return Err(LexErr::BadNumber(at));
-    }
     let len = number_len(text);
     let (number, rest) = text.split_at(len);
-    if is_letter(first(rest)) || !is_in_range(number) {
-        return Err(LexErr::BadNumber(at));
+    if lacks_digits(text) || is_letter(first(rest)) || !is_in_range(number) {
+        Err(LexErr::BadNumber(at))
+    } else {
+        Ok(Token {
+            kind: TokenKind::Number,
+            start: at,
+            end: at + len,
+        })
     }
-    Ok(Token {
-        kind: TokenKind::Number,
-        start: at,
-        end: at + len,
-    })
 }
 
 /// The word that begins the text, or the Header where one may stand.

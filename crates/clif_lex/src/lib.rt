@@ -15,4 +15,4 @@ pub use faults::{LexErr, Place, TextErr, TextKind};
 pub use lexing::tokens;
 pub use numbers::number;
 pub use places::place;
-pub use spans::{Token, TokenKind, Tokens, spelling};
+pub use spans::{Token, TokenIter, TokenKind, Tokens, spelling};

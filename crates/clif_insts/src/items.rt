@@ -5,7 +5,6 @@ ghost use Rattle.std.specs.Char.{digit_value, is_ascii_digit};
 ghost use Rattle.std.specs.List.{suffix_len, prefix_len};
 ghost use Rattle.clif_lex.specs.Bytes.{first, is_sign};
 ghost use Rattle.clif_lex.specs.Lexing.{tokens_of};
-ghost use Rattle.clif_lex.specs.Spans.{spelling};
 ghost use Rattle.clif_insts.specs.Table as table;
 ghost use Rattle.clif_insts.specs.Words as words;
 ghost use Rattle.clif_insts.specs.Lexemes as spec;
@@ -237,17 +236,6 @@ fn number_class(number: &[u8]) -> Class
     }
 }
 
-/// TEMP
-fn spelling_at<'a>(text: &'a [u8], tokens: &Tokens, i: usize) -> &'a [u8]
-    requires whole { tokens_of text.now ≡ Ok tokens.now }
-    requires below { i < length tokens.now }
-    ensures { IfSome (slice_get tokens.now i) (λ token. result.now ≡ spelling text.now token) }
-{
-    let token = tokens.get(i);
-    let end = if token.end <= text.len() { token.end } else { text.len() };
-    if token.start <= end { &text[token.start..end] } else { &text[0..0] }
-}
-
 /// The meaning of a token of the text.
 #[inline]
 pub fn token_meaning(text: &[u8], tokens: &Tokens, i: usize) -> Meaning
@@ -259,8 +247,8 @@ pub fn token_meaning(text: &[u8], tokens: &Tokens, i: usize) -> Meaning
         TokenKind::Header => means(Class::Header, 0),
         TokenKind::Comment => means(Class::Other, 0),
         TokenKind::Name => means(Class::Name, 0),
-        TokenKind::Word => word_meaning(spelling_at(text, tokens, i)),
-        TokenKind::Number => means(number_class(spelling_at(text, tokens, i)), 0),
+        TokenKind::Word => word_meaning(tokens.spelling(text, i)),
+        TokenKind::Number => means(number_class(tokens.spelling(text, i)), 0),
         TokenKind::Srcloc => means(Class::Srcloc, 0),
         TokenKind::Arrow => means(Class::Arrow, 0),
         TokenKind::Mark(byte) => means(mark_class(byte), 0),

@@ -1,3 +1,4 @@
 pub mod ArithmeticLemmas
+pub mod BitwiseLemmas
 pub mod Examples
 pub mod Numbers

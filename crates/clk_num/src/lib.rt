@@ -7,6 +7,7 @@ mod bitwise;
 mod eval;
 mod law;
 mod op;
+mod shifts;
 mod width;
 
 pub use bits::Bits;

@@ -102,7 +102,7 @@ top_zeros : (k n m : ℕ) → n < 2 ^ m → 2 ^ m ≤ 2 * n + 1 → m ≤ k → 
 unfolding zeros_from_top
 top_zeros zero n m h g le = omega arith
 top_zeros (suc k) n m h g le = elim (cases_lt k m) [
-    inl above ↦
+  | inl above ↦
       let whole : m ≡ suc k = omega arith in
       let e : 2 ^ suc k ≡ 2 ^ k * 2 = pow-suc 2 k in
       let h' : n < 2 ^ suc k = rw (← whole) h in
@@ -117,7 +117,7 @@ top_zeros (suc k) n m h g le = elim (cases_lt k m) [
       let clear : eqb (bit n k) 0 ≡ true = ap (λ (d : ℕ). eqb (d % 2) 0) none in
       let ih = top_zeros k n m h g within in
       rw clear (omega arith)
-  ]
+]
 
 zeros_from_top_le : (k n : ℕ) → zeros_from_top k n ≤ k
 unfolding zeros_from_top
@@ -136,12 +136,12 @@ leading_is t x h =
     let (m, sums, below, above) = leading_length 128 x (value_lt t x h) in
     let le = bits_le t in
     let within : m ≤ bits_of t = elim (cases_lt (bits_of t) m) [
-        inl over ↦
+      | inl over ↦
           let e : 2 ^ suc (bits_of t) ≡ 2 ^ bits_of t * 2 = pow-suc 2 (bits_of t) in
           let grows : 2 ^ suc (bits_of t) ≤ 2 ^ m = pow_mono over in
           absurd (omega arith)
       | inr in_width ↦ in_width
-      ] in
+    ] in
     let zeros = top_zeros (bits_of t) x m below above within in
     (omega arith, omega arith)
 
@@ -232,7 +232,7 @@ reversal_is (suc k) n a =
     let e : 2 ^ suc k ≡ 2 ^ k * 2 = pow-suc 2 k in
     let ih = reversal_is k (n / 2) (a * 2 + n % 2) in
     let rest : sum_below k (λ i. bit (n / 2) (k - 1 - i) * 2 ^ i) ≡ sum_below k (λ i. bit n (suc k - 1 - i) * 2 ^ i) =
-        sum_same k _ _ (λ i p. ap (λ (d : ℕ). d * 2 ^ i) (sym (bit_at-suc n (k - 1 - i)) ∙ ap (bit n) (let j : suc (k - 1 - i) ≡ suc k - 1 - i = omega arith in j))) in
+    sum_same k _ _ (λ i p. ap (λ (d : ℕ). d * 2 ^ i) (sym (bit_at-suc n (k - 1 - i)) ∙ ap (bit n) (let j : suc (k - 1 - i) ≡ suc k - 1 - i = omega arith in j))) in
     let place : suc k - 1 - k ≡ 0 = omega arith in
     let lowest : bit n (suc k - 1 - k) ≡ n % 2 = ap (bit n) place ∙ ap (λ (m : ℕ). m % 2) (div-one n) in
     let moved = double_times a (bit n (suc k - 1 - k)) (2 ^ k) (2 ^ suc k) e in
@@ -251,8 +251,8 @@ bitrev_is t x r k h e f =
     let own_is : reverse_bits_onto w x 0 ≡ own = reversal_is w x 0 ∙ zero-times (2 ^ w) own in
     let small : own < 2 ^ w = with_bits_lt w _ (λ i. bit_at-lt x (w - 1 - i)) in
     let shifted : r ≡ own * 2 ^ d =
-        e ∙ ap (λ (k : ℕ). reverse_bits_onto k x 0) whole ∙ reversal_split w d x 0
-        ∙ ap₂ (reverse_bits_onto d) high own_is ∙ reversal_none d own in
+    e ∙ ap (λ (k : ℕ). reverse_bits_onto k x 0) whole ∙ reversal_split w d x 0
+    ∙ ap₂ (reverse_bits_onto d) high own_is ∙ reversal_none d own in
     ap₂ (λ (r k : ℕ). r / 2 ^ (128 - k) % 2 ^ w) shifted f ∙ ap (λ (n : ℕ). n % 2 ^ w) (shl-shr own d) ∙ mod-eq_of_lt small
   where
     zero-times : (p n : ℕ) → 0 * p + n ≡ n

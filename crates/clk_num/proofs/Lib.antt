@@ -2,3 +2,4 @@ pub mod ArithmeticLemmas
 pub mod BitwiseLemmas
 pub mod Examples
 pub mod Numbers
+pub mod ShiftLemmas

@@ -4,6 +4,8 @@
 mod arithmetic;
 mod bits;
 mod bitwise;
+mod conversions;
+mod division;
 mod eval;
 mod law;
 mod op;

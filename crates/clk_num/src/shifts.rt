@@ -47,7 +47,10 @@ fn rotated(x: Bits, up: u32) -> Bits
     if up == 0 {
         x
     } else {
-        Bits::new(x.width, (x.value << up) | (x.value >> (x.width.bits() - up)))
+        Bits::new(
+            x.width,
+            (x.value << up) | (x.value >> (x.width.bits() - up)),
+        )
     }
 }
 

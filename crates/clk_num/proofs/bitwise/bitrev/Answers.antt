@@ -6,4 +6,4 @@ use Rattle.clk_num.proofs.bitwise.bitrev.Goals as goal
 pub returns : goal.returns
 returns c =
     value_is _ _ _ _ c.new.ensures.width
-      (c.new.ensures.value ∙ bitrev_is c.args.x.width c.args.x.value _ _ c.args.x.in_range c.reverse_bits.ensures c.bits-above.ensures)
+    (c.new.ensures.value ∙ bitrev_is c.args.x.width c.args.x.value _ _ c.args.x.in_range c.reverse_bits.ensures c.bits-above.ensures)

@@ -7,7 +7,7 @@ use Rattle.clk_num.proofs.bitwise.bswap.Goals.{in-W8, in-W16, in-W32, in-W64, in
 pub returns : goal.returns
 returns c =
     value_is _ _ _ _ c.new.ensures.width (c.new.ensures.value ∙ elim c.match-x.branch [
-        in-W8 w ↦ swapped_8 _ _ _ w.in-W8.is c.args.x.in_range w.value-is
+      | in-W8 w ↦ swapped_8 _ _ _ w.in-W8.is c.args.x.in_range w.value-is
       | in-W16 w ↦
           let small : c.match-x.value < 2 ^ 16 = rw (w.value-is ∙ w.from-value.ensures) w.swap_bytes.type_inv in
           swapped_16 _ _ _ w.in-W16.is (w.value-is ∙ w.from-value.ensures ∙ w.swap_bytes.ensures) small
@@ -20,4 +20,4 @@ returns c =
       | in-W128 w ↦
           let small : c.match-x.value < 2 ^ 128 = rw w.value-is w.swap_bytes-value.type_inv in
           swapped_128 _ _ _ w.in-W128.is (w.value-is ∙ w.swap_bytes-value.ensures) small
-      ])
+    ])

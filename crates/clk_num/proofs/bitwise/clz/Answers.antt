@@ -14,5 +14,5 @@ pub returns : goal.returns
 returns c =
     let e : c.bits-above.result ≡ bits_of c.args.x.width = c.bits-above.ensures in
     value_is _ _ _ _ c.new.ensures.width
-      (c.new.ensures.value ∙ ap (λ (n : ℕ). n % 2 ^ bits_of c.args.x.width) (c.from.ensures ∙ ap (λ (k : ℕ). count_leading_zeros 128 c.args.x.value - (128 - k)) e)
-        ∙ clz_is c.args.x.width c.args.x.value c.args.x.in_range)
+    (c.new.ensures.value ∙ ap (λ (n : ℕ). n % 2 ^ bits_of c.args.x.width) (c.from.ensures ∙ ap (λ (k : ℕ). count_leading_zeros 128 c.args.x.value - (128 - k)) e)
+    ∙ clz_is c.args.x.width c.args.x.value c.args.x.in_range)

@@ -9,5 +9,5 @@ pub returns : goal.returns
 returns c =
     let e : c.bits.result ≡ bits_of c.args.x.width = c.bits.ensures in
     value_is _ _ _ _ c.new.ensures.width
-      (c.new.ensures.value ∙ ap (λ (n : ℕ). n % 2 ^ bits_of c.args.x.width) (c.from.ensures ∙ c.min.ensures ∙ ap (λ (k : ℕ). min (count_trailing_zeros 128 c.args.x.value) k) e)
-        ∙ ctz_is c.args.x.width c.args.x.value)
+    (c.new.ensures.value ∙ ap (λ (n : ℕ). n % 2 ^ bits_of c.args.x.width) (c.from.ensures ∙ c.min.ensures ∙ ap (λ (k : ℕ). min (count_trailing_zeros 128 c.args.x.value) k) e)
+    ∙ ctz_is c.args.x.width c.args.x.value)

@@ -7,4 +7,4 @@ use Rattle.clk_num.proofs.bitwise.popcnt.Goals as goal
 pub returns : goal.returns
 returns c =
     value_is _ _ _ _ c.new.ensures.width
-      (c.new.ensures.value ∙ ap (λ (n : ℕ). n % 2 ^ bits_of c.args.x.width) c.from.ensures ∙ popcnt_is c.args.x.width c.args.x.value c.args.x.in_range)
+    (c.new.ensures.value ∙ ap (λ (n : ℕ). n % 2 ^ bits_of c.args.x.width) c.from.ensures ∙ popcnt_is c.args.x.width c.args.x.value c.args.x.in_range)

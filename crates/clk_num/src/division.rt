@@ -5,8 +5,8 @@ ghost use Rattle.clk_num.specs.Views.{data_of, evaluation_of};
 ghost use Rattle.clk_num.specs.Operations.{division, divides_by_zero, sdiv_trap, udiv, urem, sdiv, srem};
 
 use crate::bits::Bits;
-use crate::eval::Evaled;
 use crate::op::TrapCode;
+use crate::operations::Evaled;
 
 /// `udiv`.
 pub(crate) fn udiv(x: Bits, y: Bits) -> Evaled

@@ -6,14 +6,14 @@ mod bits;
 mod bitwise;
 mod conversions;
 mod division;
-mod eval;
 mod law;
 mod op;
+mod operations;
 mod shifts;
 mod width;
 
 pub use bits::Bits;
-pub use eval::Evaled;
 pub use law::worked_examples;
 pub use op::{Cc, Op, TrapCode};
+pub use operations::{Evaled, eval};
 pub use width::Width;

@@ -1,21 +1,21 @@
 -- What the machine's operations on bits give, against the sums over bits and bytes of the table of operations.
-use Rattle.std.proofs.Common.{◌≡◌, ℕ, zero, suc, ◌+◌, ◌-◌, ◌*◌, ◌/◌, ◌%◌, ◌^◌, ◌<◌, ◌≤◌, Bool, true, false, cond, refl, sym, ◌∙◌, ap, ap₂, subst, arith, lit<, lit≤, eqb, ltb, leb, inl, inr, ◌⊎◌, min, max, add-one, zero-add}
-use Rattle.std.specs.Int.{w8, w16, w32, w64, w128, reverse_bits_onto, swap_bytes}
+use Rattle.std.proofs.Common.{◌≡◌, ℕ, zero, suc, ◌+◌, ◌-◌, ◌*◌, ◌/◌, ◌%◌, ◌^◌, ◌<◌, ◌≤◌, Bool, true, false, cond, refl, sym, ◌∙◌, ap, ap₂, subst, arith, lit<, lit≤, eqb, inl, inr, min, zero-add}
+use Rattle.std.specs.Int.{w16, w32, w64, w128, reverse_bits_onto, swap_bytes}
 use Rattle.std.proofs.Math.Nat.{mod-eq_of_lt, mod-one, div-one, suc-add, pow-suc, div-eq_of_lt, div-eq_of_lt-le, mul-le-mul_right, add-mul, mul_assoc, mul_comm}
 use Rattle.std.proofs.Math.Pow.{pow_mono}
 use Rattle.std.proofs.Math.Numerals.{one-add}
 use lib.Bits.{bit_and, bit_or, bit_xor}
 use lib.Count.{ones, ones_in, ones_step, under, count_leading_zeros, count_trailing_zeros, leading_length}
-use Rattle.std.proofs.lemmas.Nat.{pow_pos, mod-pow-add, shr-shr, shl-shr, pow_below}
+use Rattle.std.proofs.lemmas.Nat.{pow_pos, mod-pow-add, shr-shr, shl-shr}
 use Rattle.std.proofs.lemmas.Nat.Bits.{bit_at_and, bit_at_or, bit_at_xor, bit_at_not, bit_at-suc, bit_at-lt}
 use Rattle.std.proofs.lemmas.Bool.Decides.{nat_tests}
 use Rattle.std.proofs.lemmas.Bool.{cases_lt}
 use Rattle.clk_num.specs.declared.width.Width.{Width}
 use Rattle.clk_num.specs.declared.width.Width.TheVariants.{W8, W16, W32, W64, W128}
 use Rattle.clk_num.specs.Width.{bits_of}
-use Rattle.clk_num.specs.Numbers.{bit, byte, sum_below, with_bits, with_bytes, zeros_from_top, zeros_from_bottom}
+use Rattle.clk_num.specs.Numbers.{bit, sum_below, with_bits, with_bytes, zeros_from_top, zeros_from_bottom}
 use Rattle.clk_num.specs.Operations.{band, bor, bxor, bnot, clz, ctz, popcnt, bitrev, bswap}
-use Rattle.clk_num.proofs.Numbers.{power_halves, half_power_le, power_divides}
+use Rattle.clk_num.proofs.Numbers.{power_halves, half_power_le}
 
 -- ---- sums
 

@@ -1,5 +1,5 @@
 -- What the code's comparisons and conversions give, against the table of operations.
-use Rattle.std.proofs.Common.{◌≡◌, ℕ, zero, suc, ◌+◌, ◌-◌, ◌*◌, ◌/◌, ◌%◌, ◌^◌, ◌<◌, ◌≤◌, Bool, ℤ, refl, sym, ◌∙◌, ap, ap₂, subst, arith, to_z, of_z, lit≤}
+use Rattle.std.proofs.Common.{◌≡◌, ℕ, ◌+◌, ◌*◌, ◌/◌, ◌%◌, ◌^◌, ◌<◌, ◌≤◌, Bool, ℤ, refl, sym, ◌∙◌, ap, ap₂, arith, to_z, of_z, lit≤}
 use Rattle.std.specs.Int.{w128}
 use Rattle.std.proofs.Math.Nat.{mod-eq_of_lt}
 use lib.Bits.{bit_or}

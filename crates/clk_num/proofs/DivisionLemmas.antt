@@ -1,20 +1,18 @@
 -- What the code's divisions give, against the table of operations.
-use Rattle.std.proofs.Common.{◌≡◌, ◌≢◌, ℕ, zero, suc, ◌+◌, ◌-◌, ◌*◌, ◌/◌, ◌%◌, ◌^◌, ◌<◌, ◌≤◌, Bool, true, false, ℤ, pos, negsuc, neg_ℤ, refl, sym, ◌∙◌, ap, ap₂, subst, arith, to_z, of_z, lit≤, eqb, ◌&&◌, Option, Some, None, inl, inr, ◌⊎◌, FitsSigned, add-one, List, [], ◌∷◌}
+use Rattle.std.proofs.Common.{◌≡◌, ◌≢◌, ℕ, zero, suc, ◌+◌, ◌-◌, ◌*◌, ◌/◌, ◌%◌, ◌^◌, ◌<◌, ◌≤◌, Bool, true, false, ℤ, pos, negsuc, neg_ℤ, refl, sym, ◌∙◌, ap, ap₂, subst, arith, to_z, of_z, eqb, ◌&&◌, Option, Some, None, inl, inr, FitsSigned, add-one, [], ◌∷◌}
 use Rattle.std.specs.Int.{w128}
 use Rattle.std.specs.Int.RustNames.{int_div, int_rem, unsigned_abs}
 use Rattle.std.proofs.Math.Nat.{mod-eq_of_lt, div-le_self, mod-le}
 use lib.Signed.{mag, mag_rem}
-use Rattle.std.proofs.lemmas.Nat.{pow_pos, div_below, mod_below}
+use Rattle.std.proofs.lemmas.Nat.{pow_pos, div_below}
 use Rattle.std.proofs.lemmas.Bool.Decides.{nat_tests}
 use Rattle.clk_num.specs.declared.op.TrapCode.{TrapCode}
 use Rattle.clk_num.specs.declared.op.TrapCode.TheVariants.{IntDivz, IntOvf}
 use Rattle.clk_num.specs.declared.width.Width.{Width}
-use Rattle.clk_num.specs.declared.width.Width.TheVariants.{W8, W16, W32, W64, W128}
 use Rattle.clk_num.specs.Width.{bits_of}
 use Rattle.clk_num.specs.Numbers.{signed, wrapped, quotient, remainder}
-use Rattle.clk_num.specs.Operations.{Evaluation, Traps, Values, DataValue, value_of, trap_or, divides_by_zero, sdiv_trap, udiv, urem, sdiv, srem}
+use Rattle.clk_num.specs.Operations.{Evaluation, Traps, Values, DataValue, trap_or, divides_by_zero, sdiv_trap, udiv, urem, sdiv, srem}
 use Rattle.clk_num.proofs.Numbers.{read_back, read_both, signed_cases, signed_mag, half_power_le, power_halves}
-use Rattle.clk_num.proofs.ArithmeticLemmas.{signed_result}
 
 -- ---- traps
 

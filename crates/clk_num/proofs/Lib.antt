@@ -4,4 +4,5 @@ pub mod ConversionLemmas
 pub mod DivisionLemmas
 pub mod Examples
 pub mod Numbers
+pub mod RowLemmas
 pub mod ShiftLemmas

@@ -1,12 +1,11 @@
 -- What the code's shifts and rotations give, against the table of operations.
-use Rattle.std.proofs.Common.{◌≡◌, ℕ, zero, suc, ◌+◌, ◌-◌, ◌*◌, ◌/◌, ◌%◌, ◌^◌, ◌<◌, ◌≤◌, ℤ, refl, sym, ◌∙◌, ap, ap₂, subst, arith, to_z, of_z}
+use Rattle.std.proofs.Common.{◌≡◌, ℕ, ◌+◌, ◌-◌, ◌*◌, ◌/◌, ◌%◌, ◌^◌, ◌<◌, ℤ, sym, ◌∙◌, ap, ap₂, subst, arith, to_z, of_z}
 use Rattle.std.specs.Int.{w128}
-use Rattle.std.proofs.Math.Nat.{mod-eq_of_lt, mul-mod_left, div-one, mul-one}
+use Rattle.std.proofs.Math.Nat.{mod-eq_of_lt, mul-mod_left, div-one}
 use lib.Bits.{bit_or}
 use lib.Signed.{mag, shr_z}
-use Rattle.std.proofs.lemmas.Nat.{pow_pos, mod-pow-add, shl-shr, shr_below, shr_le, or_mod, or_shifted}
+use Rattle.std.proofs.lemmas.Nat.{mod-pow-add, shl-shr, shr_below, shr_le, or_mod, or_shifted}
 use Rattle.clk_num.specs.declared.width.Width.{Width}
-use Rattle.clk_num.specs.declared.width.Width.TheVariants.{W8, W16, W32, W64, W128}
 use Rattle.clk_num.specs.Width.{bits_of}
 use Rattle.clk_num.specs.Numbers.{signed, wrapped, floored}
 use Rattle.clk_num.specs.Operations.{ishl, ushr, sshr, rotl, rotr}

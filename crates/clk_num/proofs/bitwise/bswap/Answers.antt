@@ -1,4 +1,4 @@
-use Rattle.std.proofs.Common.{◌∙◌, ◌≡◌, ◌<◌, ◌^◌, rules, arith}
+use Rattle.std.proofs.Common.{◌∙◌, ◌<◌, ◌^◌}
 use Rattle.clk_num.proofs.ArithmeticLemmas.{value_is}
 use Rattle.clk_num.proofs.BitwiseLemmas.{swapped_8, swapped_16, swapped_32, swapped_64, swapped_128}
 use Rattle.clk_num.proofs.bitwise.bswap.Goals as goal

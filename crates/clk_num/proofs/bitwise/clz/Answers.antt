@@ -1,4 +1,4 @@
-use Rattle.std.proofs.Common.{◌∙◌, ◌≡◌, ◌≤◌, ◌-◌, ◌%◌, ◌^◌, ℕ, ap}
+use Rattle.std.proofs.Common.{◌∙◌, ◌≡◌, ◌-◌, ◌%◌, ◌^◌, ℕ, ap}
 use lib.Count.{count_leading_zeros}
 use Rattle.clk_num.specs.Width.{bits_of}
 use Rattle.clk_num.proofs.ArithmeticLemmas.{value_is}

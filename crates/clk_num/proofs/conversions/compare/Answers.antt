@@ -1,4 +1,4 @@
-use Rattle.std.proofs.Common.{refl, Bool, ℤ}
+use Rattle.std.proofs.Common.{refl, ℤ}
 use Rattle.std.specs.Int.RustNames.{int_lt, int_le}
 use Rattle.clk_num.specs.declared.op.Cc.TheVariants.{Eq, Ne, Slt, Sge, Sgt, Sle, Ult, Uge, Ugt, Ule}
 use Rattle.clk_num.specs.Operations.{holds}

@@ -1,4 +1,4 @@
-use Rattle.std.proofs.Common.{◌∙◌, refl}
+use Rattle.std.proofs.Common.{◌∙◌}
 use Rattle.clk_num.proofs.ArithmeticLemmas.{value_is}
 use Rattle.clk_num.proofs.ShiftLemmas.{rotl_is}
 use Rattle.clk_num.proofs.shifts.rotl.Goals as goal

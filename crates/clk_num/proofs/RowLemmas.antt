@@ -1,6 +1,7 @@
 -- The rows of the table of operations, as the code's choice of an operation meets them.
 use Rattle.std.proofs.Common.{◌≡◌, ◌≤◌, ◌<◌, Bool, true, false, cond, refl, sym, ◌∙◌, ap, subst, arith, Option, Some, None, List, [], ◌∷◌, length, get_or, ltb}
-use Rattle.std.specs.Prelude.{IsSome}
+use Rattle.std.specs.Prelude.{IsSome, is_some}
+use Rattle.std.proofs.Common.{◌&&◌}
 use Rattle.std.proofs.lemmas.Bool.{false≢true}
 use Rattle.std.proofs.lemmas.Bool.Decides.{nat_tests}
 use Rattle.clk_num.specs.declared.op.Op.{Op}
@@ -8,7 +9,7 @@ use Rattle.clk_num.specs.declared.op.Op.TheVariants.{Iadd, Isub, Imul, Band, Bor
 use Rattle.clk_num.specs.declared.width.Width.{Width}
 use Rattle.clk_num.specs.declared.width.Width.TheVariants.{W8, W16, W32, W64, W128}
 use Rattle.clk_num.specs.Width.{bits_of, same}
-use Rattle.clk_num.specs.Rows.{Fits, row, of_one, of_two, up_to_64, from_16}
+use Rattle.clk_num.specs.Rows.{Fits, row, of_one, of_two, any, up_to_64, from_16}
 use Rattle.clk_num.specs.Operations.{DataValue, Evaluation, Values, widths, within, operation, meaning}
 
 -- two types of one width are one
@@ -237,3 +238,46 @@ list_of_three (x ∷ []) a b c h k e d f = absurd (omega arith)
 list_of_three (x ∷ y ∷ []) a b c h k e d f = absurd (omega arith)
 list_of_three (x ∷ y ∷ z ∷ []) a b c h k e d f = cc
 list_of_three (x ∷ y ∷ z ∷ w ∷ xs) a b c h k e d f = absurd (omega arith)
+
+-- ---- the code's test of the operands
+
+pub row_at : (op known : Op) (ts : List Width) (b : Bool) → op ≡ known → b ≡ is_some (row known ts) → b ≡ is_some (row op ts)
+row_at op known ts b e h = h ∙ ap (λ (op : Op). is_some (row op ts)) (sym e)
+
+pub one_has : (has : Width → Bool) (results : Width → List Width) (t : Width) (b : Bool) → b ≡ has t → b ≡ is_some (of_one has results (t ∷ []))
+one_has has results t b e = e ∙ go (has t)
+  where
+    go : (b : Bool) → b ≡ is_some {T = List Width} (cond b (Some (results t)) None)
+    go true = refl
+    go false = refl
+
+pub two_have : (results : Width → List Width) (t u : Width) (b : Bool) → b ≡ same t u → b ≡ is_some (of_two any results (t ∷ u ∷ []))
+two_have results t u b e = e ∙ go (same t u)
+  where
+    go : (b : Bool) → b ≡ is_some {T = List Width} (cond b (Some (results t)) None)
+    go true = refl
+    go false = refl
+
+pub two_narrow_have : (results : Width → List Width) (t u : Width) (b : Bool) → b ≡ (same t u && up_to_64 t)
+    → b ≡ is_some (of_two up_to_64 results (t ∷ u ∷ []))
+two_narrow_have results t u b e = e ∙ go (same t u) (up_to_64 t)
+  where
+    go : (a b : Bool) → (a && b) ≡ is_some {T = List Width} (cond a (cond b (Some (results t)) None) None)
+    go true true = refl
+    go true false = refl
+    go false b = refl
+
+pub three_have : (t u : Width) (b : Bool) → b ≡ same t u → b ≡ is_some {T = List Width} (cond (same t u) (Some (t ∷ [])) None)
+three_have t u b e = e ∙ go (same t u)
+  where
+    go : (b : Bool) → b ≡ is_some {T = List Width} (cond b (Some (t ∷ [])) None)
+    go true = refl
+    go false = refl
+
+-- where the opcode has no such row
+pub without_row : (op : Op) (ts : List Width) → (Fits op ts → ⊥) → false ≡ is_some (row op ts)
+without_row op ts none = go (is_some (row op ts)) refl
+  where
+    go : (b : Bool) → is_some (row op ts) ≡ b → false ≡ is_some (row op ts)
+    go true e = absurd (none e)
+    go false e = sym e

@@ -9,6 +9,7 @@ mod division;
 mod law;
 mod op;
 mod operations;
+mod rows;
 mod shifts;
 mod width;
 
@@ -16,4 +17,5 @@ pub use bits::Bits;
 pub use law::worked_examples;
 pub use op::{Cc, Op, TrapCode};
 pub use operations::{Evaled, eval};
+pub use rows::fits;
 pub use width::Width;

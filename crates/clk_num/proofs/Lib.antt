@@ -4,5 +4,6 @@ pub mod ConversionLemmas
 pub mod DivisionLemmas
 pub mod Examples
 pub mod Numbers
+pub mod ResultLemmas
 pub mod RowLemmas
 pub mod ShiftLemmas

@@ -14,7 +14,7 @@ mod shifts;
 mod width;
 
 pub use bits::Bits;
-pub use law::worked_examples;
+pub use law::{result_types, worked_examples};
 pub use op::{Cc, Op, TrapCode};
 pub use operations::{Evaled, eval};
 pub use rows::fits;

@@ -1,4 +1,4 @@
-use Rattle.std.proofs.Common.{refl, true, ◌≡◌, ap, ap₂, ◌∙◌, ℕ, ltb, leb}
+use Rattle.std.proofs.Common.{refl, true, ◌≡◌, ap, ap₂, ℕ, ltb, leb}
 use Rattle.std.proofs.lemmas.Bool.{false≢true}
 use Rattle.clk_num.specs.declared.op.Op.{Op}
 use Rattle.clk_num.specs.declared.op.Op.TheVariants.{Ineg, Bnot, Iabs, Clz, Ctz, Popcnt, Bitrev, Bswap, Uextend, Sextend, Ireduce, Isplit}

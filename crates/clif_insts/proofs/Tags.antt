@@ -1,10 +1,12 @@
 -- The number that the code compares is the one by which the grammar counts.
-use Rattle.std.proofs.Common.{◌≡◌, ℕ, refl}
+use Rattle.std.proofs.Common.{◌≡◌, ℕ, ◌&&◌, nat_le, refl}
 use denote.Enum.Declared.{tag_of}
+use Rattle.grammar.specs.Rules.{member}
 use Rattle.clif_insts.specs.declared.class.Class.{Class}
 use Rattle.clif_insts.specs.declared.class.Class.TheVariants as classes
 use Rattle.clif_insts.specs.contracts.class.Class.{the_type}
 use Rattle.clif_insts.specs.Classes.{code}
+use Rattle.clif_insts.specs.Terminals.{codes_of, words}
 
 pub tag-code : (c : Class) → tag_of the_type c ≡ code c
 tag-code classes.Header = refl
@@ -55,6 +57,7 @@ tag-code classes.Ret = refl
 tag-code classes.Exn = refl
 tag-code classes.UserName = refl
 tag-code classes.UserTrap = refl
+tag-code classes.Other = refl
 tag-code classes.Iconst = refl
 tag-code classes.Binary = refl
 tag-code classes.Unary = refl
@@ -81,4 +84,81 @@ tag-code classes.TryCall = refl
 tag-code classes.CallIndirect = refl
 tag-code classes.TryCallIndirect = refl
 tag-code classes.RefusedOpcode = refl
-tag-code classes.Other = refl
+
+-- the words that are no opcodes stand together
+pub word-range : (c : Class) → (nat_le (code classes.Function) (code c) && nat_le (code c) (code classes.Other)) ≡ member (code c) (codes_of words)
+word-range classes.Header = refl
+word-range classes.Name = refl
+word-range classes.Unsigned = refl
+word-range classes.Signed = refl
+word-range classes.Srcloc = refl
+word-range classes.Arrow = refl
+word-range classes.LeftParen = refl
+word-range classes.RightParen = refl
+word-range classes.LeftBrace = refl
+word-range classes.RightBrace = refl
+word-range classes.LeftBracket = refl
+word-range classes.RightBracket = refl
+word-range classes.Comma = refl
+word-range classes.Colon = refl
+word-range classes.Equals = refl
+word-range classes.Dot = refl
+word-range classes.Less = refl
+word-range classes.Greater = refl
+word-range classes.Function = refl
+word-range classes.Conv = refl
+word-range classes.Cold = refl
+word-range classes.Ty = refl
+word-range classes.TyI64 = refl
+word-range classes.RefusedType = refl
+word-range classes.Ext = refl
+word-range classes.Vmctx = refl
+word-range classes.Sret = refl
+word-range classes.ExplicitSlot = refl
+word-range classes.Align = refl
+word-range classes.Colocated = refl
+word-range classes.RefusedDecl = refl
+word-range classes.Default = refl
+word-range classes.Context = refl
+word-range classes.Flag = refl
+word-range classes.Little = refl
+word-range classes.Big = refl
+word-range classes.TrapCode = refl
+word-range classes.Condition = refl
+word-range classes.Value = refl
+word-range classes.Block = refl
+word-range classes.Slot = refl
+word-range classes.Sig = refl
+word-range classes.Callee = refl
+word-range classes.Tag = refl
+word-range classes.Ret = refl
+word-range classes.Exn = refl
+word-range classes.UserName = refl
+word-range classes.UserTrap = refl
+word-range classes.Other = refl
+word-range classes.Iconst = refl
+word-range classes.Binary = refl
+word-range classes.Unary = refl
+word-range classes.Icmp = refl
+word-range classes.Select = refl
+word-range classes.Convert = refl
+word-range classes.BinaryImm = refl
+word-range classes.IcmpImm = refl
+word-range classes.Load = refl
+word-range classes.LoadWide = refl
+word-range classes.Store = refl
+word-range classes.StackLoad = refl
+word-range classes.StackStore = refl
+word-range classes.FuncAddr = refl
+word-range classes.Nullary = refl
+word-range classes.Jump = refl
+word-range classes.Brif = refl
+word-range classes.BrTable = refl
+word-range classes.Return = refl
+word-range classes.Trap = refl
+word-range classes.TrapIf = refl
+word-range classes.Call = refl
+word-range classes.TryCall = refl
+word-range classes.CallIndirect = refl
+word-range classes.TryCallIndirect = refl
+word-range classes.RefusedOpcode = refl

@@ -4,8 +4,9 @@ use Rattle.std.proofs.lemmas.Bool.{eqb-true, eq-eqb}
 use Rattle.grammar.specs.Rules.{Lexeme, Kind, Syntax, Out, token, ◌>>=◌}
 use Rattle.clif_insts.specs.declared.class.Class.{Class}
 use Rattle.clif_insts.specs.declared.raw.RawName.{RawName}
+use Rattle.clif_insts.specs.declared.raw.RawNumber.{RawNumber}
 use Rattle.clif_insts.specs.Classes.{code}
-use Rattle.clif_insts.specs.Reading.{next_is, name, name_at}
+use Rattle.clif_insts.specs.Reading.{next_is, name, name_at, amount, amount_at}
 
 or_false : (b : Bool) → (b || false) ≡ b
 or_false true = refl
@@ -35,5 +36,20 @@ pub misses_name : (class : Class) (ts : List Lexeme) → next_is class ts ≡ fa
 unfolding name_at
 misses_name class [] h = refl
 misses_name class (x ∷ xs) h =
+    let same : (x.class == code class) ≡ false = sym (same_class class x xs) ∙ h in
+    rw same refl
+
+pub takes_amount : (class : Class) (ts : List Lexeme) → next_is class ts ≡ true → (n : RawNumber) (after : List Lexeme) → ((x : Lexeme) (xs : List Lexeme) → ts ≡ x ∷ xs → n ≡ amount x) → after ≡ drop 1 ts
+    → amount_at class ts ≡ Ok (n, after)
+unfolding amount_at
+takes_amount class [] h n after front rest = absurd cc
+takes_amount class (x ∷ xs) h n after front rest =
+    let same : (x.class == code class) ≡ true = sym (same_class class x xs) ∙ h in
+    rw (same, front x xs refl, rest) refl
+
+pub misses_amount : (class : Class) (ts : List Lexeme) → next_is class ts ≡ false → amount_at class ts ≡ Err (Syntax, ts)
+unfolding amount_at
+misses_amount class [] h = refl
+misses_amount class (x ∷ xs) h =
     let same : (x.class == code class) ≡ false = sym (same_class class x xs) ∙ h in
     rw same refl

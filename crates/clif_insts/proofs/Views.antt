@@ -6,7 +6,10 @@ use Rattle.clif_lex.specs.declared.spans.Token.{Token}
 use Rattle.clif_insts.specs.declared.class.Class.{Class}
 use Rattle.clif_insts.specs.declared.items.Meaning.{Meaning}
 use Rattle.clif_insts.specs.Classes.{code}
-use Rattle.clif_insts.specs.Lexemes.{lexeme, lexemes, is_comment, meaning, Upcoming}
+use Rattle.clif_insts.specs.Lexemes.{lexeme, lexemes, is_comment, is_number, amount_of, meaning, Upcoming}
+use Rattle.clif_lex.specs.declared.spans.TokenKind.{TokenKind}
+use Rattle.clif_lex.specs.declared.spans.TokenKind.TheVariants as kinds
+use Rattle.clif_lex.specs.Spans.{spelling}
 
 pub drop_some : (ts : List Token) (i : ℕ) (t : Token) → slice_get ts i ≡ Some t → drop i ts ≡ t ∷ drop (i + 1) ts
 drop_some ts i t e =
@@ -101,3 +104,34 @@ upcoming_not text ts i t next e up = (subst (λ (z : List Token). Upcoming text 
 
 pub upcoming_there : (text : List ℕ) (ts : List Token) (i : ℕ) (t : Token) → slice_get ts i ≡ Some t → Upcoming text (drop i ts) None → ⊥
 upcoming_there text ts i t e up = (let u = (subst (λ (z : List Token). Upcoming text z None) (drop_some ts i t e) up).1 in cc)
+
+pub number_kind : (kind : TokenKind) → is_number kind ≡ true → kind ≡ kinds.Number
+number_kind kinds.Header e = absurd cc
+number_kind kinds.Comment e = absurd cc
+number_kind kinds.Name e = absurd cc
+number_kind kinds.Word e = absurd cc
+number_kind kinds.Number e = refl
+number_kind kinds.Srcloc e = absurd cc
+number_kind kinds.Arrow e = absurd cc
+number_kind (kinds.Mark b) e = absurd cc
+
+-- what the next token spells as a number
+pub amount_is : (text : List ℕ) (ts : List Token) (i : ℕ) (t : Token) (next : Option Meaning) (x : Lexeme) (xs : List Lexeme) → slice_get ts i ≡ Some t → Upcoming text (drop i ts) next → lexemes text i (drop i ts) ≡ x ∷ xs
+    → (amount_of t.kind (spelling text t) ≡ x.amount) × (t.start ≡ x.spot)
+amount_is text ts i t next x xs e up whole =
+    let front = sym (takes text ts i t e (upcoming_not text ts i t next e up)) ∙ whole in
+    let head : lexeme text i t ≡ x = cc in
+    (ap (λ (z : Lexeme). z.amount) head, ap (λ (z : Lexeme). z.spot) head)
+
+-- whether the next token's class is among those that are asked for
+pub heads_among : (text : List ℕ) (place : ℕ) (ts : List Token) (m : Meaning) (cs : List ℕ) → Upcoming text ts (Some m) → member (code m.class) cs ≡ heads cs (lexemes text place ts)
+unfolding lexemes
+heads_among text place [] m cs up = absurd cc
+heads_among text place (t ∷ ts) m cs up =
+    let same : m ≡ meaning text t = (let e = up.1 in cc) in
+    rw (up.0, same) refl
+
+pub heads_none_among : (text : List ℕ) (place : ℕ) (ts : List Token) (cs : List ℕ) → Upcoming text ts None → false ≡ heads cs (lexemes text place ts)
+unfolding lexemes
+heads_none_among text place [] cs up = refl
+heads_none_among text place (t ∷ ts) cs up = absurd (let e = up.1 in cc)

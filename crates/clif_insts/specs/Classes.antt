@@ -1,7 +1,7 @@
 -- The classes of tokens as the grammar counts them. No definition but this one uses the numbers.
 use Rattle.std.specs.Prelude.{ℕ}
 use Rattle.clif_insts.specs.declared.class.Class.{Class}
-use Rattle.clif_insts.specs.declared.class.Class.TheVariants.{Header, Name, Unsigned, Signed, Srcloc, Arrow, LeftParen, RightParen, LeftBrace, RightBrace, LeftBracket, RightBracket, Comma, Colon, Equals, Dot, Less, Greater, Function, Conv, Cold, Ty, TyI64, RefusedType, Ext, Vmctx, Sret, ExplicitSlot, Align, Colocated, RefusedDecl, Default, Context, Flag, Little, Big, TrapCode, Condition, Value, Block, Slot, Sig, Callee, Tag, Ret, Exn, UserName, UserTrap, Iconst, Binary, Unary, Icmp, Select, Convert, BinaryImm, IcmpImm, Load, LoadWide, Store, StackLoad, StackStore, FuncAddr, Nullary, Jump, Brif, BrTable, Return, Trap, TrapIf, Call, TryCall, CallIndirect, TryCallIndirect, RefusedOpcode, Other}
+use Rattle.clif_insts.specs.declared.class.Class.TheVariants.{Header, Name, Unsigned, Signed, Srcloc, Arrow, LeftParen, RightParen, LeftBrace, RightBrace, LeftBracket, RightBracket, Comma, Colon, Equals, Dot, Less, Greater, Function, Conv, Cold, Ty, TyI64, RefusedType, Ext, Vmctx, Sret, ExplicitSlot, Align, Colocated, RefusedDecl, Default, Context, Flag, Little, Big, TrapCode, Condition, Value, Block, Slot, Sig, Callee, Tag, Ret, Exn, UserName, UserTrap, Other, Iconst, Binary, Unary, Icmp, Select, Convert, BinaryImm, IcmpImm, Load, LoadWide, Store, StackLoad, StackStore, FuncAddr, Nullary, Jump, Brif, BrTable, Return, Trap, TrapIf, Call, TryCall, CallIndirect, TryCallIndirect, RefusedOpcode}
 
 abbrev pub code : Class → ℕ
 code Header = 0
@@ -52,30 +52,30 @@ code Ret = 44
 code Exn = 45
 code UserName = 46
 code UserTrap = 47
-code Iconst = 48
-code Binary = 49
-code Unary = 50
-code Icmp = 51
-code Select = 52
-code Convert = 53
-code BinaryImm = 54
-code IcmpImm = 55
-code Load = 56
-code LoadWide = 57
-code Store = 58
-code StackLoad = 59
-code StackStore = 60
-code FuncAddr = 61
-code Nullary = 62
-code Jump = 63
-code Brif = 64
-code BrTable = 65
-code Return = 66
-code Trap = 67
-code TrapIf = 68
-code Call = 69
-code TryCall = 70
-code CallIndirect = 71
-code TryCallIndirect = 72
-code RefusedOpcode = 73
-code Other = 74
+code Other = 48
+code Iconst = 49
+code Binary = 50
+code Unary = 51
+code Icmp = 52
+code Select = 53
+code Convert = 54
+code BinaryImm = 55
+code IcmpImm = 56
+code Load = 57
+code LoadWide = 58
+code Store = 59
+code StackLoad = 60
+code StackStore = 61
+code FuncAddr = 62
+code Nullary = 63
+code Jump = 64
+code Brif = 65
+code BrTable = 66
+code Return = 67
+code Trap = 68
+code TrapIf = 69
+code Call = 70
+code TryCall = 71
+code CallIndirect = 72
+code TryCallIndirect = 73
+code RefusedOpcode = 74

@@ -46,10 +46,13 @@ meaning_of (kinds.Mark byte) s = means (mark_class byte) 0
 abbrev pub meaning : List ℕ → Token → Meaning
 meaning text token = meaning_of token.kind (spelling text token)
 
+abbrev pub is_number : TokenKind → Bool
+is_number kinds.Number = true
+is_number kind = false
+
 -- what a number spells
 abbrev pub amount_of : TokenKind → List ℕ → ℤ
-amount_of kinds.Number s = spelled_number s
-amount_of kind s = pos 0
+amount_of kind s = if is_number kind then spelled_number s else pos 0
 
 -- what a name spells, without its `%`
 abbrev pub name_of : TokenKind → List ℕ → List ℕ

@@ -6,3 +6,4 @@ pub mod Terminals
 pub mod Grammar
 pub mod Reading
 pub mod Parts
+pub mod Forms

@@ -46,3 +46,8 @@ unfoldable pub name_at : Class → List Lexeme → Out RawName
 name_at class ts = do
   x ← token (code class) ts
   Ok (name x.0, x.1)
+
+unfoldable pub amount_at : Class → List Lexeme → Out RawNumber
+amount_at class ts = do
+  x ← token (code class) ts
+  Ok (amount x.0, x.1)

@@ -1,6 +1,7 @@
 //! The classes of tokens that the grammar tells apart.
 
 /// What a token is to the grammar. Words are told apart by their spelling; of an opcode the class says its form.
+/// The words that are no opcodes stand together, from `Function` to `Other`.
 #[derive(Clone, Copy, Debug, PartialEq, Eq)]
 pub enum Class {
     /// A line of a filetest's head.
@@ -99,6 +100,8 @@ pub enum Class {
     UserName,
     /// `userN`, a trap code.
     UserTrap,
+    /// Any other word.
+    Other,
     /// An opcode of the form `iconst.T n`.
     Iconst,
     /// An opcode of the form `op[.T] x, y`.
@@ -151,6 +154,4 @@ pub enum Class {
     TryCallIndirect,
     /// An opcode of another kind.
     RefusedOpcode,
-    /// Any other word.
-    Other,
 }

@@ -2,6 +2,7 @@
 #![tactic(auto)]
 
 mod class;
+mod forms;
 mod items;
 mod laws;
 mod opcodes;
@@ -12,10 +13,11 @@ mod stop;
 mod words;
 
 pub use class::Class;
+pub use forms::any_inst;
 pub use items::{Meaning, token_meaning};
 pub use opcodes::{OPCODES, Opcode, OpcodeRow};
 pub use parts::Place;
-pub use raw::{RawArg, RawEntry, RawInst, RawName, RawNumber, RawOperands, RawTarget, RawTrap};
+pub use raw::{RawArg, RawEntry, RawFlag, RawInst, RawName, RawNumber, RawOperands, RawTarget, RawTrap};
 pub use reader::Reader;
 pub use stop::Stop;
 pub use words::Entry;

@@ -1,13 +1,16 @@
 //! The parts of instructions.
 
-ghost use Rattle.std.specs.Prelude.{◌≡◌, ◌∷◌, [], ◌<◌, ◌≤◌, length, IfOk, IfErr};
+ghost use Rattle.std.specs.Prelude.{◌≡◌, ◌∷◌, [], ◌++◌, ◌<◌, ◌≤◌, length, IfOk, IfErr};
 ghost use Rattle.clif_insts.specs.declared.class.Class.TheVariants as classes;
 ghost use Rattle.clif_insts.specs.declared.stop.Stop.TheVariants.{NoMemory};
 ghost use Rattle.clif_insts.specs.Reading.{Gives, same};
+ghost use Rattle.grammar.specs.Rules.{heads};
+ghost use Rattle.clif_insts.specs.Classes.{code};
+ghost use Rattle.clif_insts.specs.Terminals.{codes_of};
 ghost use Rattle.clif_insts.specs.Parts as parts;
 
 use crate::class::Class;
-use crate::raw::{RawArg, RawEntry, RawName, RawTarget, RawTrap};
+use crate::raw::{RawArg, RawEntry, RawFlag, RawName, RawNumber, RawTarget, RawTrap};
 use crate::reader::Reader;
 use crate::stop::Stop;
 use clk_num::Cc;
@@ -50,6 +53,20 @@ fn condition_of(number: u64) -> Cc
         7 => Cc::Uge,
         8 => Cc::Ugt,
         _ => Cc::Ule,
+    }
+}
+
+/// A flag but `little`, `big` and `vmctx`, by its place among them.
+fn flag_of(number: u64) -> RawFlag
+    ensures { result ≡ parts.flag_of number }
+{
+    match number {
+        0 => RawFlag::Notrap,
+        1 => RawFlag::Aligned,
+        2 => RawFlag::Readonly,
+        3 => RawFlag::CanMove,
+        4 => RawFlag::Heap,
+        _ => RawFlag::Table,
     }
 }
 
@@ -491,4 +508,130 @@ pub(crate) fn table(alloc: Global, reader: &mut Reader<'_>) -> Result<Vec<RawEnt
     };
     reader.take(Class::RightBracket)?;
     Ok(list)
+}
+
+/// A number.
+#[tactic(auto, unfolding(crate::specs::Parts::number_at))]
+pub(crate) fn number(reader: &mut Reader<'_>) -> Result<RawNumber, Stop>
+    ensures is { Gives same reader.new result (parts.number_at reader.old) }
+    ensures shorter { IfOk result (λ _. length reader.new < length reader.old) }
+{
+    if reader.next_is(Class::Unsigned) {
+        reader.take_number(Class::Unsigned)
+    } else {
+        reader.take_number(Class::Signed)
+    }
+}
+
+/// An offset, if there is one.
+#[tactic(auto, unfolding(crate::specs::Parts::offset_at))]
+pub(crate) fn offset(reader: &mut Reader<'_>) -> Result<Option<RawNumber>, Stop>
+    ensures is { Gives same reader.new result (parts.offset_at reader.old) }
+    ensures shorter { IfOk result (λ _. length reader.new ≤ length reader.old) }
+{
+    if reader.next_is(Class::Signed) {
+        Ok(Some(reader.take_number(Class::Signed)?))
+    } else {
+        Ok(None)
+    }
+}
+
+/// Whether a flag but `little` and `big` may be read here, or refused.
+fn begins_plain_flag(reader: &Reader<'_>) -> bool
+    ensures { result ≡ heads (codes_of parts.begins_plain_flag) reader.now }
+{
+    reader.next_is(Class::Flag)
+        || reader.next_is_one_of(Class::Vmctx, Class::TrapCode, Class::UserTrap)
+}
+
+/// A flag but `little` and `big`.
+#[tactic(auto, unfolding(crate::specs::Parts::plain_flag_at))]
+pub(crate) fn plain_flag(reader: &mut Reader<'_>) -> Result<RawFlag, Stop>
+    ensures is { Gives same reader.new result (parts.plain_flag_at reader.old) }
+    ensures shorter { IfOk result (λ _. length reader.new < length reader.old) }
+{
+    if reader.next_is(Class::Flag) {
+        let word = reader.take(Class::Flag)?;
+        Ok(flag_of(word.number))
+    } else if reader.next_is(Class::Vmctx) {
+        reader.take(Class::Vmctx)?;
+        Ok(RawFlag::Vmctx)
+    } else {
+        Err(if reader.next_is_either(Class::TrapCode, Class::UserTrap) {
+            Stop::Unsupported
+        } else {
+            Stop::Syntax
+        })
+    }
+}
+
+/// Flags but `little` and `big`.
+fn plain_flags(alloc: Global, reader: &mut Reader<'_>) -> Result<Vec<RawFlag>, Stop>
+    ensures is { Gives (λ x. x.items) reader.new result (parts.plain_flags_at reader.old) }
+    ensures shorter { IfOk result (λ _. length reader.new ≤ length reader.old) }
+{
+    let mut list = Vec::new(alloc);
+    'list: while begins_plain_flag(reader) {
+        let item = plain_flag(reader)?;
+        list.push(item)?;
+    }
+    Ok(list)
+}
+
+/// Whether a flag begins here, or a word that is refused in its place. Of `little` and `big` it may be this one alone.
+fn begins_ordered_flag(reader: &Reader<'_>, order: Class) -> bool
+    ensures { result ≡ heads (codes_of parts.begins_plain_flag ++ code order ∷ []) reader.now }
+{
+    begins_plain_flag(reader) || reader.next_is(order)
+}
+
+fn order_flag(order: Class) -> RawFlag
+    ensures { result ≡ parts.order_flag order }
+{
+    match order {
+        Class::Little => RawFlag::Little,
+        _ => RawFlag::Big,
+    }
+}
+
+#[tactic(auto, unfolding(crate::specs::Parts::ordered_flag_at))]
+pub(crate) fn ordered_flag(reader: &mut Reader<'_>, order: Class) -> Result<RawFlag, Stop>
+    ensures is { Gives same reader.new result (parts.ordered_flag_at order reader.old) }
+    ensures shorter { IfOk result (λ _. length reader.new < length reader.old) }
+{
+    if begins_plain_flag(reader) {
+        plain_flag(reader)
+    } else {
+        reader.take(order)?;
+        Ok(order_flag(order))
+    }
+}
+
+/// Flags, with `little` or `big` among them.
+fn ordered_flags(reader: &mut Reader<'_>, order: Class, front: Vec<RawFlag>) -> Result<Vec<RawFlag>, Stop>
+    ensures is { Gives (λ x. x.items) reader.new result (parts.ordered_flags_at order front.items reader.old) }
+    ensures shorter { IfOk result (λ _. length reader.new ≤ length reader.old) }
+{
+    let mut list = front;
+    'list: while begins_ordered_flag(reader, order) {
+        let item = ordered_flag(reader, order)?;
+        list.push(item)?;
+    }
+    Ok(list)
+}
+
+/// Flags.
+#[tactic(auto, unfolding(crate::specs::Parts::flags_at))]
+pub(crate) fn flags(alloc: Global, reader: &mut Reader<'_>) -> Result<Vec<RawFlag>, Stop>
+    ensures is { Gives (λ x. x.items) reader.new result (parts.flags_at reader.old) }
+    ensures shorter { IfOk result (λ _. length reader.new ≤ length reader.old) }
+{
+    let list = plain_flags(alloc, reader)?;
+    if reader.next_is(Class::Big) {
+        ordered_flags(reader, Class::Big, list)
+    } else if reader.next_is(Class::Little) {
+        ordered_flags(reader, Class::Little, list)
+    } else {
+        Ok(list)
+    }
 }

@@ -1,7 +1,7 @@
 //! Instructions as the grammar reads them, with names that are not looked up yet.
 
 use clk_num::Cc;
-use ir_core::{Flags, List, Ty};
+use ir_core::{List, Ty};
 
 /// An entity, a tag or a result by its word, as `v7`.
 #[derive(Clone, Copy, Debug, PartialEq, Eq)]
@@ -53,6 +53,20 @@ pub enum RawTrap {
     User(RawName),
 }
 
+/// A flag of a memory access.
+#[derive(Clone, Copy, Debug, PartialEq, Eq)]
+pub enum RawFlag {
+    Notrap,
+    Aligned,
+    Readonly,
+    CanMove,
+    Heap,
+    Table,
+    Vmctx,
+    Little,
+    Big,
+}
+
 /// What stands behind an opcode and its suffix, by form.
 #[derive(Drop)]
 pub enum RawOperands {
@@ -65,12 +79,12 @@ pub enum RawOperands {
     BinaryImm(RawName, RawNumber),
     CompareImm(Cc, RawName, RawNumber),
     Load {
-        flags: Flags,
+        flags: List<RawFlag>,
         address: RawName,
         offset: Option<RawNumber>,
     },
     Store {
-        flags: Flags,
+        flags: List<RawFlag>,
         value: RawName,
         address: RawName,
         offset: Option<RawNumber>,

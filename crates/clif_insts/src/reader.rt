@@ -1,7 +1,8 @@
 //! The tokens of a text, read one after the other.
 
 ghost use Rattle.std.specs.Prelude.{◌≡◌, ◌≢◌, List, ◌∷◌, [], ◌<◌, ◌≤◌, length, drop, slice_get, false, IfOk, IfErr, IfSome};
-ghost use Rattle.grammar.specs.Rules.{Lexeme, heads};
+ghost use Rattle.grammar.specs.Rules.{Lexeme, heads, member};
+ghost use Rattle.clif_insts.specs.Terminals.{codes_of, words};
 ghost use Rattle.clif_lex.specs.Lexing.{tokens_of};
 ghost use Rattle.clif_insts.specs.Classes.{code};
 ghost use Rattle.clif_insts.specs.Lexemes.{lexemes};
@@ -11,7 +12,7 @@ ghost use Rattle.clif_insts.specs.Reading.{Gives, same};
 
 use crate::class::Class;
 use crate::items::{Meaning, token_meaning};
-use crate::raw::RawName;
+use crate::raw::{RawName, RawNumber};
 use crate::stop::Stop;
 use clif_lex::{TokenKind, Tokens};
 use std::marker::Model;
@@ -49,6 +50,14 @@ fn is_comment(kind: TokenKind) -> bool
     matches!(kind, TokenKind::Comment)
 }
 
+/// Whether a token is a number.
+#[inline]
+fn is_number(kind: TokenKind) -> bool
+    ensures { result ≡ lexeme_specs.is_number kind }
+{
+    matches!(kind, TokenKind::Number)
+}
+
 /// The first token from here on that is no comment, or the list's length.
 #[inline]
 fn settle(text: &[u8], tokens: &Tokens, from: usize, end: usize) -> usize
@@ -80,6 +89,14 @@ fn upcoming(text: &[u8], tokens: &Tokens, at: usize) -> Option<Meaning>
     } else {
         None
     }
+}
+
+/// Whether the class is that of words that are no opcodes.
+#[inline]
+fn is_word(class: Class) -> bool
+    ensures { result ≡ member (code class) (codes_of words) }
+{
+    Class::Function as u8 <= class as u8 && class as u8 <= Class::Other as u8
 }
 
 impl<'a> Reader<'a> {
@@ -142,6 +159,42 @@ impl<'a> Reader<'a> {
         }
     }
 
+    /// What the next token spells as a number, or 0 where it is none.
+    #[inline]
+    fn front_amount(&self) -> i128
+        requires { self.now ≢ [] }
+        ensures { (x : Lexeme) (xs : List Lexeme) → self.now ≡ x ∷ xs → result ≡ x.amount }
+    {
+        let token = self.tokens.get(self.at);
+        if is_number(token.kind) {
+            self.tokens.number(self.text, self.at)
+        } else {
+            0
+        }
+    }
+
+    /// The number that the next token spells.
+    #[inline]
+    fn front_number(&self) -> RawNumber
+        requires { self.now ≢ [] }
+        ensures { (x : Lexeme) (xs : List Lexeme) → self.now ≡ x ∷ xs → result ≡ spec.amount x }
+    {
+        let value = self.front_amount();
+        let spot = self.front().spot;
+        RawNumber { value, spot }
+    }
+
+    /// Whether the next token is a word that is no opcode.
+    #[inline]
+    pub fn next_is_word(&self) -> bool
+        ensures { result ≡ heads (codes_of words) self.now }
+    {
+        match self.next {
+            Some(next) => is_word(next.class),
+            None => false,
+        }
+    }
+
     /// Passes over the next token.
     #[inline]
     fn advance(&mut self)
@@ -164,6 +217,21 @@ impl<'a> Reader<'a> {
             let name = self.front();
             self.advance();
             Ok(name)
+        } else {
+            Err(Stop::Syntax)
+        }
+    }
+
+    /// The number that a token of this class spells.
+    #[inline]
+    pub fn take_number(&mut self, class: Class) -> Result<RawNumber, Stop>
+        ensures is { Gives same self.new result (spec.amount_at class self.old) }
+        ensures shorter { IfOk result (λ _. length self.new < length self.old) }
+    {
+        if self.next_is(class) {
+            let number = self.front_number();
+            self.advance();
+            Ok(number)
         } else {
             Err(Stop::Syntax)
         }

@@ -1,0 +1,262 @@
+-- Instructions, read from left to right, one definition a form.
+use Rattle.std.specs.Prelude.{Bool, if◌then◌else◌, List, [], ◌∷◌, length, Option, Some, None, Result, Ok, Err}
+use Rattle.grammar.specs.Rules.{Lexeme, Syntax, UnknownOpcode, Unsupported, Out, heads, ◌>>=◌}
+use Rattle.clif_insts.specs.declared.class.Class.{Class}
+use Rattle.clif_insts.specs.declared.class.Class.TheVariants as classes
+use Rattle.clif_insts.specs.declared.parts.Place.TheVariants as places
+use Rattle.clif_insts.specs.declared.raw.RawInst.{RawInst}
+use Rattle.clif_insts.specs.declared.raw.RawOperands.TheVariants as operands
+use Rattle.clif_insts.specs.Terminals.{words}
+use Rattle.clif_insts.specs.Reading.{next_is, name_at}
+use Rattle.clif_insts.specs.Parts.{refuse, suffix_at, opt_suffix_at, suffix_i64_at, opt_suffix_i64_at, condition_at, trap_at, number_at, offset_at, flags_at, args_at, target_at, target_list_at, table_at}
+
+unfoldable pub iconst_at : List Lexeme → Out RawInst
+iconst_at ts = do
+  opcode ← name_at classes.Iconst ts
+  suffix ← suffix_at opcode.1
+  number ← number_at suffix.1
+  Ok (record { opcode = opcode.0; suffix = Some suffix.0; operands = operands.Number number.0 }, number.1)
+
+unfoldable pub binary_at : List Lexeme → Out RawInst
+binary_at ts = do
+  opcode ← name_at classes.Binary ts
+  suffix ← opt_suffix_at opcode.1
+  x ← name_at classes.Value suffix.1
+  s2 ← name_at classes.Comma x.1
+  y ← name_at classes.Value s2.1
+  Ok (record { opcode = opcode.0; suffix = suffix.0; operands = operands.Binary x.0 y.0 }, y.1)
+
+unfoldable pub unary_at : List Lexeme → Out RawInst
+unary_at ts = do
+  opcode ← name_at classes.Unary ts
+  suffix ← opt_suffix_at opcode.1
+  x ← name_at classes.Value suffix.1
+  Ok (record { opcode = opcode.0; suffix = suffix.0; operands = operands.Unary x.0 }, x.1)
+
+unfoldable pub icmp_at : List Lexeme → Out RawInst
+icmp_at ts = do
+  opcode ← name_at classes.Icmp ts
+  suffix ← opt_suffix_at opcode.1
+  condition ← condition_at suffix.1
+  x ← name_at classes.Value condition.1
+  s3 ← name_at classes.Comma x.1
+  y ← name_at classes.Value s3.1
+  Ok (record { opcode = opcode.0; suffix = suffix.0; operands = operands.Compare condition.0 x.0 y.0 }, y.1)
+
+unfoldable pub select_at : List Lexeme → Out RawInst
+select_at ts = do
+  opcode ← name_at classes.Select ts
+  suffix ← opt_suffix_at opcode.1
+  x ← name_at classes.Value suffix.1
+  s2 ← name_at classes.Comma x.1
+  y ← name_at classes.Value s2.1
+  s4 ← name_at classes.Comma y.1
+  z ← name_at classes.Value s4.1
+  Ok (record { opcode = opcode.0; suffix = suffix.0; operands = operands.Ternary x.0 y.0 z.0 }, z.1)
+
+unfoldable pub convert_at : List Lexeme → Out RawInst
+convert_at ts = do
+  opcode ← name_at classes.Convert ts
+  suffix ← suffix_at opcode.1
+  x ← name_at classes.Value suffix.1
+  Ok (record { opcode = opcode.0; suffix = Some suffix.0; operands = operands.Unary x.0 }, x.1)
+
+unfoldable pub binary_imm_at : List Lexeme → Out RawInst
+binary_imm_at ts = do
+  opcode ← name_at classes.BinaryImm ts
+  suffix ← opt_suffix_at opcode.1
+  x ← name_at classes.Value suffix.1
+  s2 ← name_at classes.Comma x.1
+  number ← number_at s2.1
+  Ok (record { opcode = opcode.0; suffix = suffix.0; operands = operands.BinaryImm x.0 number.0 }, number.1)
+
+unfoldable pub icmp_imm_at : List Lexeme → Out RawInst
+icmp_imm_at ts = do
+  opcode ← name_at classes.IcmpImm ts
+  suffix ← opt_suffix_at opcode.1
+  condition ← condition_at suffix.1
+  x ← name_at classes.Value condition.1
+  s3 ← name_at classes.Comma x.1
+  number ← number_at s3.1
+  Ok (record { opcode = opcode.0; suffix = suffix.0; operands = operands.CompareImm condition.0 x.0 number.0 }, number.1)
+
+unfoldable pub load_at : List Lexeme → Out RawInst
+load_at ts = do
+  opcode ← name_at classes.Load ts
+  suffix ← suffix_at opcode.1
+  flags ← flags_at suffix.1
+  address ← name_at classes.Value flags.1
+  offset ← offset_at address.1
+  Ok (record { opcode = opcode.0; suffix = Some suffix.0; operands = operands.Load flags.0 address.0 offset.0 }, offset.1)
+
+unfoldable pub load_wide_at : List Lexeme → Out RawInst
+load_wide_at ts = do
+  opcode ← name_at classes.LoadWide ts
+  suffix ← opt_suffix_at opcode.1
+  flags ← flags_at suffix.1
+  address ← name_at classes.Value flags.1
+  offset ← offset_at address.1
+  Ok (record { opcode = opcode.0; suffix = suffix.0; operands = operands.Load flags.0 address.0 offset.0 }, offset.1)
+
+unfoldable pub store_at : List Lexeme → Out RawInst
+store_at ts = do
+  opcode ← name_at classes.Store ts
+  suffix ← opt_suffix_at opcode.1
+  flags ← flags_at suffix.1
+  value ← name_at classes.Value flags.1
+  s3 ← name_at classes.Comma value.1
+  address ← name_at classes.Value s3.1
+  offset ← offset_at address.1
+  Ok (record { opcode = opcode.0; suffix = suffix.0; operands = operands.Store flags.0 value.0 address.0 offset.0 }, offset.1)
+
+unfoldable pub stack_load_at : List Lexeme → Out RawInst
+stack_load_at ts = do
+  opcode ← name_at classes.StackLoad ts
+  suffix ← suffix_at opcode.1
+  slot ← name_at classes.Slot suffix.1
+  offset ← offset_at slot.1
+  Ok (record { opcode = opcode.0; suffix = Some suffix.0; operands = operands.StackLoad slot.0 offset.0 }, offset.1)
+
+unfoldable pub stack_store_at : List Lexeme → Out RawInst
+stack_store_at ts = do
+  opcode ← name_at classes.StackStore ts
+  suffix ← opt_suffix_at opcode.1
+  value ← name_at classes.Value suffix.1
+  s2 ← name_at classes.Comma value.1
+  slot ← name_at classes.Slot s2.1
+  offset ← offset_at slot.1
+  Ok (record { opcode = opcode.0; suffix = suffix.0; operands = operands.StackStore value.0 slot.0 offset.0 }, offset.1)
+
+unfoldable pub func_addr_at : List Lexeme → Out RawInst
+func_addr_at ts = do
+  opcode ← name_at classes.FuncAddr ts
+  s0 ← suffix_i64_at opcode.1
+  callee ← name_at classes.Callee s0.1
+  Ok (record { opcode = opcode.0; suffix = None; operands = operands.FuncAddr callee.0 }, callee.1)
+
+unfoldable pub nullary_at : List Lexeme → Out RawInst
+nullary_at ts = do
+  opcode ← name_at classes.Nullary ts
+  Ok (record { opcode = opcode.0; suffix = None; operands = operands.Nullary }, opcode.1)
+
+unfoldable pub jump_at : List Lexeme → Out RawInst
+jump_at ts = do
+  opcode ← name_at classes.Jump ts
+  target ← target_at places.Branch opcode.1
+  Ok (record { opcode = opcode.0; suffix = None; operands = operands.Jump target.0 }, target.1)
+
+unfoldable pub brif_at : List Lexeme → Out RawInst
+brif_at ts = do
+  opcode ← name_at classes.Brif ts
+  suffix ← opt_suffix_at opcode.1
+  cond ← name_at classes.Value suffix.1
+  s2 ← name_at classes.Comma cond.1
+  then_target ← target_at places.Branch s2.1
+  s4 ← name_at classes.Comma then_target.1
+  else_target ← target_at places.Branch s4.1
+  Ok (record { opcode = opcode.0; suffix = suffix.0; operands = operands.Brif cond.0 then_target.0 else_target.0 }, else_target.1)
+
+unfoldable pub br_table_at : List Lexeme → Out RawInst
+br_table_at ts = do
+  opcode ← name_at classes.BrTable ts
+  index ← name_at classes.Value opcode.1
+  s1 ← name_at classes.Comma index.1
+  default ← target_at places.Branch s1.1
+  s3 ← name_at classes.Comma default.1
+  entries ← target_list_at s3.1
+  Ok (record { opcode = opcode.0; suffix = None; operands = operands.BrTable index.0 default.0 entries.0 }, entries.1)
+
+unfoldable pub return_inst_at : List Lexeme → Out RawInst
+return_inst_at ts = do
+  opcode ← name_at classes.Return ts
+  Ok (record { opcode = opcode.0; suffix = None; operands = operands.Return [] }, opcode.1)
+
+unfoldable pub trap_inst_at : List Lexeme → Out RawInst
+trap_inst_at ts = do
+  opcode ← name_at classes.Trap ts
+  code ← trap_at opcode.1
+  Ok (record { opcode = opcode.0; suffix = None; operands = operands.Trap code.0 }, code.1)
+
+unfoldable pub trap_if_at : List Lexeme → Out RawInst
+trap_if_at ts = do
+  opcode ← name_at classes.TrapIf ts
+  suffix ← opt_suffix_at opcode.1
+  x ← name_at classes.Value suffix.1
+  s2 ← name_at classes.Comma x.1
+  code ← trap_at s2.1
+  Ok (record { opcode = opcode.0; suffix = suffix.0; operands = operands.TrapIf x.0 code.0 }, code.1)
+
+unfoldable pub call_at : List Lexeme → Out RawInst
+call_at ts = do
+  opcode ← name_at classes.Call ts
+  callee ← name_at classes.Callee opcode.1
+  args ← args_at callee.1
+  Ok (record { opcode = opcode.0; suffix = None; operands = operands.Call callee.0 args.0 }, args.1)
+
+unfoldable pub try_call_at : List Lexeme → Out RawInst
+try_call_at ts = do
+  opcode ← name_at classes.TryCall ts
+  callee ← name_at classes.Callee opcode.1
+  args ← args_at callee.1
+  s2 ← name_at classes.Comma args.1
+  sig ← name_at classes.Sig s2.1
+  s4 ← name_at classes.Comma sig.1
+  normal ← target_at places.Normal s4.1
+  s6 ← name_at classes.Comma normal.1
+  table ← table_at s6.1
+  Ok (record { opcode = opcode.0; suffix = None; operands = operands.TryCall callee.0 args.0 sig.0 normal.0 table.0 }, table.1)
+
+unfoldable pub call_indirect_at : List Lexeme → Out RawInst
+call_indirect_at ts = do
+  opcode ← name_at classes.CallIndirect ts
+  s0 ← opt_suffix_i64_at opcode.1
+  sig ← name_at classes.Sig s0.1
+  s2 ← name_at classes.Comma sig.1
+  address ← name_at classes.Value s2.1
+  args ← args_at address.1
+  Ok (record { opcode = opcode.0; suffix = None; operands = operands.CallIndirect sig.0 address.0 args.0 }, args.1)
+
+unfoldable pub try_call_indirect_at : List Lexeme → Out RawInst
+try_call_indirect_at ts = do
+  opcode ← name_at classes.TryCallIndirect ts
+  s0 ← opt_suffix_i64_at opcode.1
+  address ← name_at classes.Value s0.1
+  args ← args_at address.1
+  s3 ← name_at classes.Comma args.1
+  sig ← name_at classes.Sig s3.1
+  s5 ← name_at classes.Comma sig.1
+  normal ← target_at places.Normal s5.1
+  s7 ← name_at classes.Comma normal.1
+  table ← table_at s7.1
+  Ok (record { opcode = opcode.0; suffix = None; operands = operands.TryCallIndirect address.0 args.0 sig.0 normal.0 table.0 }, table.1)
+
+-- An instruction, where no word of these classes may begin one. The values of a `return` stand behind it.
+unfoldable pub inst_at : List Lexeme → Out RawInst
+inst_at ts =
+    if next_is classes.Iconst ts then iconst_at ts
+    else if next_is classes.Binary ts then binary_at ts
+    else if next_is classes.Unary ts then unary_at ts
+    else if next_is classes.Icmp ts then icmp_at ts
+    else if next_is classes.Select ts then select_at ts
+    else if next_is classes.Convert ts then convert_at ts
+    else if next_is classes.BinaryImm ts then binary_imm_at ts
+    else if next_is classes.IcmpImm ts then icmp_imm_at ts
+    else if next_is classes.Load ts then load_at ts
+    else if next_is classes.LoadWide ts then load_wide_at ts
+    else if next_is classes.Store ts then store_at ts
+    else if next_is classes.StackLoad ts then stack_load_at ts
+    else if next_is classes.StackStore ts then stack_store_at ts
+    else if next_is classes.FuncAddr ts then func_addr_at ts
+    else if next_is classes.Nullary ts then nullary_at ts
+    else if next_is classes.Jump ts then jump_at ts
+    else if next_is classes.Brif ts then brif_at ts
+    else if next_is classes.BrTable ts then br_table_at ts
+    else if next_is classes.Return ts then return_inst_at ts
+    else if next_is classes.Trap ts then trap_inst_at ts
+    else if next_is classes.TrapIf ts then trap_if_at ts
+    else if next_is classes.Call ts then call_at ts
+    else if next_is classes.TryCall ts then try_call_at ts
+    else if next_is classes.CallIndirect ts then call_indirect_at ts
+    else if next_is classes.TryCallIndirect ts then try_call_indirect_at ts
+    else if next_is classes.RefusedOpcode ts then Err (Unsupported, ts)
+    else refuse words UnknownOpcode ts

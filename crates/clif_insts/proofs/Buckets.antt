@@ -1,12 +1,11 @@
 -- A word is looked for among those alone that begin as it does.
-use Rattle.std.proofs.Common.{◌≡◌, ℕ, Bool, true, false, ◌==◌, ◌&&◌, cond, List, [], ◌∷◌, Option, Some, None, refl, subst, ◌∙◌}
+use Rattle.std.proofs.Common.{◌≡◌, ℕ, Bool, true, false, ◌==◌, ◌&&◌, cond, List, [], ◌∷◌, None, refl, subst, ◌∙◌}
 use Rattle.std.specs.List.{list_all, list_any}
 use Rattle.std.specs.Str.{bytes_eq}
 use Rattle.std.proofs.lemmas.Bool.{eqb-true, eq-eqb}
 use Rattle.clif_lex.specs.Bytes.{first}
-use Rattle.clif_insts.specs.Table.{Row, all_words}
+use Rattle.clif_insts.specs.Table.{Row}
 use Rattle.clif_insts.specs.Words.{look_up}
-use Rattle.clif_insts.specs.declared.items.Meaning.{Meaning}
 
 -- the rows whose words begin with the letter
 abbrev pub with_letter : ℕ → List Row → List Row

@@ -1,5 +1,5 @@
 -- The number that the code compares is the one by which the grammar counts.
-use Rattle.std.proofs.Common.{◌≡◌, ℕ, ◌&&◌, nat_le, refl}
+use Rattle.std.proofs.Common.{◌≡◌, ◌&&◌, nat_le, refl}
 use denote.Enum.Declared.{tag_of}
 use Rattle.grammar.specs.Rules.{member}
 use Rattle.clif_insts.specs.declared.class.Class.{Class}

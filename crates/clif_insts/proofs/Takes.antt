@@ -1,7 +1,7 @@
 -- A token of the class that is looked for is read, and no other.
-use Rattle.std.proofs.Common.{◌≡◌, ℕ, Bool, true, false, ◌==◌, ◌||◌, cond, List, [], ◌∷◌, drop, Result, Ok, Err, refl, sym, ap, ◌∙◌}
+use Rattle.std.proofs.Common.{◌≡◌, ℕ, Bool, true, false, ◌==◌, ◌||◌, List, [], ◌∷◌, drop, Ok, Err, refl, sym, ◌∙◌}
 use Rattle.std.proofs.lemmas.Bool.{eqb-true, eq-eqb}
-use Rattle.grammar.specs.Rules.{Lexeme, Kind, Syntax, Out, token, ◌>>=◌}
+use Rattle.grammar.specs.Rules.{Lexeme, Syntax}
 use Rattle.clif_insts.specs.declared.class.Class.{Class}
 use Rattle.clif_insts.specs.declared.raw.RawName.{RawName}
 use Rattle.clif_insts.specs.declared.raw.RawNumber.{RawNumber}

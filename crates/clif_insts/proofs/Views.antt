@@ -1,5 +1,5 @@
 -- What a reader holds, and the tokens that contracts see.
-use Rattle.std.proofs.Common.{◌≡◌, ◌≢◌, ◌||◌, ℕ, suc, ◌+◌, ◌<◌, ◌≤◌, Bool, true, false, ◌==◌, cond, List, [], ◌∷◌, length, drop, get_or, Option, Some, None, slice_get, IfSome, refl, sym, ap, subst, ◌∙◌, arith, add-one, drop-cons, length-drop, inl, inr}
+use Rattle.std.proofs.Common.{◌≡◌, ◌≢◌, ◌||◌, ℕ, ◌+◌, ◌<◌, ◌≤◌, Bool, true, false, ◌==◌, List, [], ◌∷◌, length, drop, Option, Some, None, slice_get, IfSome, refl, sym, ap, subst, ◌∙◌, arith, add-one, drop-cons, length-drop, inl, inr}
 use Rattle.std.proofs.lemmas.Option.{slice_get_within, get_or_from_slice_get, slice_get_cases}
 use Rattle.grammar.specs.Rules.{Lexeme, heads, member}
 use Rattle.clif_lex.specs.declared.spans.Token.{Token}

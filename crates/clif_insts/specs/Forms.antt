@@ -1,7 +1,6 @@
 -- Instructions, read from left to right, one definition a form.
-use Rattle.std.specs.Prelude.{Bool, if◌then◌else◌, List, [], ◌∷◌, length, Option, Some, None, Result, Ok, Err}
-use Rattle.grammar.specs.Rules.{Lexeme, Syntax, UnknownOpcode, Unsupported, Out, heads, ◌>>=◌}
-use Rattle.clif_insts.specs.declared.class.Class.{Class}
+use Rattle.std.specs.Prelude.{if◌then◌else◌, List, [], Some, None, Ok, Err}
+use Rattle.grammar.specs.Rules.{Lexeme, UnknownOpcode, Unsupported, Out, ◌>>=◌}
 use Rattle.clif_insts.specs.declared.class.Class.TheVariants as classes
 use Rattle.clif_insts.specs.declared.parts.Place.TheVariants as places
 use Rattle.clif_insts.specs.declared.raw.RawInst.{RawInst}

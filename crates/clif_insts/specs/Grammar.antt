@@ -1,8 +1,8 @@
 -- The grammar of instructions, as EBNF is written: `commas a` is `a { "," a }`, `Opt a` is `[ a ]`, `Many a` is `{ a }`.
 -- The words that a place refuses in its own way are rules too: an unknown opcode, and opcodes, types, flags and table entries of CLIF that are left out.
-use Rattle.std.specs.Prelude.{◌≡◌, ℕ, Bool, true, not, List, [], ◌∷◌, refl}
+use Rattle.std.specs.Prelude.{◌≡◌, ℕ, true, not, List, [], ◌∷◌, refl}
 use Rattle.std.specs.List.{filter}
-use Rattle.grammar.specs.Rules.{Rule, Opt, Many, Refuse, Kind, UnknownOpcode, Unsupported, member, good}
+use Rattle.grammar.specs.Rules.{Rule, Opt, Many, Refuse, UnknownOpcode, Unsupported, member, good}
 use Rattle.clif_insts.specs.declared.class.Class.{Class}
 use Rattle.clif_insts.specs.declared.class.Class.TheVariants as classes
 use Rattle.clif_insts.specs.Terminals.{◌then◌, ◌or◌, codes_of, refused, words, unsigned, signed, left_paren, right_paren, left_bracket, right_bracket, comma, colon, dot, ty, ty_i64, vmctx, flag, little, big, trap_code, user_trap, condition, value, block, slot, sig, callee, tag, ret, exn, default_word, iconst, binary, unary, icmp, select, convert, binary_imm, icmp_imm, load, load_wide, store, stack_load, stack_store, func_addr, nullary, jump, brif, br_table, return_word, trap, trap_if, call, try_call, call_indirect, try_call_indirect}

@@ -66,7 +66,8 @@ lexeme text place token = record {
   amount = amount_of token.kind (spelling text token);
   name = name_of token.kind (spelling text token);
   place = place;
-  spot = token.start }
+  spot = token.start;
+}
 
 abbrev pub is_comment : TokenKind → Bool
 is_comment kinds.Comment = true

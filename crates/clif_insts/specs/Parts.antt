@@ -1,6 +1,6 @@
 -- The parts of instructions, read from left to right.
-use Rattle.std.specs.Prelude.{◌≡◌, ℕ, ◌==◌, Bool, true, false, if◌then◌else◌, List, [], ◌∷◌, ◌++◌, length, Option, Some, None, Result, Ok, Err}
-use Rattle.grammar.specs.Rules.{Lexeme, Kind, Syntax, UnknownOpcode, Unsupported, Out, heads, ◌>>=◌}
+use Rattle.std.specs.Prelude.{ℕ, ◌==◌, Bool, if◌then◌else◌, List, [], ◌∷◌, ◌++◌, length, Option, Some, None, Ok, Err}
+use Rattle.grammar.specs.Rules.{Lexeme, Kind, Syntax, Unsupported, Out, heads, ◌>>=◌}
 use Rattle.clk_num.specs.declared.op.Cc.{Cc}
 use Rattle.clk_num.specs.declared.op.Cc.TheVariants as cc
 use Rattle.ir_core.specs.declared.signatures.Ty.{Ty}

@@ -1,6 +1,6 @@
 -- Reading from left to right: a value and the tokens behind it, or why reading stopped and the tokens from there on.
-use Rattle.std.specs.Prelude.{◌≡◌, ℕ, zero, suc, Bool, if◌then◌else◌, List, [], ◌∷◌, ◌++◌, length, Option, Some, None, Result, Ok, Err}
-use Rattle.grammar.specs.Rules.{Lexeme, Kind, Syntax, UnknownOpcode, Unsupported, Out, heads, token, ◌>>=◌}
+use Rattle.std.specs.Prelude.{◌≡◌, ℕ, zero, suc, Bool, if◌then◌else◌, List, [], ◌∷◌, ◌++◌, Result, Ok, Err}
+use Rattle.grammar.specs.Rules.{Lexeme, Syntax, UnknownOpcode, Unsupported, Out, heads, token, ◌>>=◌}
 use Rattle.clif_insts.specs.declared.class.Class.{Class}
 use Rattle.clif_insts.specs.declared.raw.RawName.{RawName}
 use Rattle.clif_insts.specs.declared.raw.RawNumber.{RawNumber}

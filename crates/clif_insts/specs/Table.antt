@@ -36,85 +36,85 @@ abbrev pub opcodes : List Group
 opcodes =
     -- `iconst.T n`
     group Iconst (
-        codes "iconst" ∷ []) ∷
+    codes "iconst" ∷ []) ∷
     -- `op[.T] x, y`
     group Binary (
-        codes "iadd" ∷ codes "isub" ∷ codes "imul" ∷ codes "band" ∷ codes "bor" ∷ codes "bxor" ∷
-        codes "smin" ∷ codes "smax" ∷ codes "umin" ∷ codes "umax" ∷ codes "umulhi" ∷ codes "smulhi" ∷
-        codes "udiv" ∷ codes "urem" ∷ codes "sdiv" ∷ codes "srem" ∷ codes "ishl" ∷ codes "ushr" ∷
-        codes "sshr" ∷ codes "rotl" ∷ codes "rotr" ∷ codes "uadd_overflow" ∷ codes "sadd_overflow" ∷
-        codes "usub_overflow" ∷ codes "ssub_overflow" ∷ codes "iconcat" ∷ []) ∷
+    codes "iadd" ∷ codes "isub" ∷ codes "imul" ∷ codes "band" ∷ codes "bor" ∷ codes "bxor" ∷
+    codes "smin" ∷ codes "smax" ∷ codes "umin" ∷ codes "umax" ∷ codes "umulhi" ∷ codes "smulhi" ∷
+    codes "udiv" ∷ codes "urem" ∷ codes "sdiv" ∷ codes "srem" ∷ codes "ishl" ∷ codes "ushr" ∷
+    codes "sshr" ∷ codes "rotl" ∷ codes "rotr" ∷ codes "uadd_overflow" ∷ codes "sadd_overflow" ∷
+    codes "usub_overflow" ∷ codes "ssub_overflow" ∷ codes "iconcat" ∷ []) ∷
     -- `op[.T] x`
     group Unary (
-        codes "ineg" ∷ codes "bnot" ∷ codes "iabs" ∷ codes "clz" ∷ codes "ctz" ∷ codes "popcnt" ∷
-        codes "bitrev" ∷ codes "bswap" ∷ codes "isplit" ∷ []) ∷
+    codes "ineg" ∷ codes "bnot" ∷ codes "iabs" ∷ codes "clz" ∷ codes "ctz" ∷ codes "popcnt" ∷
+    codes "bitrev" ∷ codes "bswap" ∷ codes "isplit" ∷ []) ∷
     -- `icmp[.T] cc x, y`
     group Icmp (
-        codes "icmp" ∷ []) ∷
+    codes "icmp" ∷ []) ∷
     -- `select[.T] c, x, y`
     group Select (
-        codes "select" ∷ []) ∷
+    codes "select" ∷ []) ∷
     -- `op.T x`
     group Convert (
-        codes "uextend" ∷ codes "sextend" ∷ codes "ireduce" ∷ []) ∷
+    codes "uextend" ∷ codes "sextend" ∷ codes "ireduce" ∷ []) ∷
     -- `op[.T] x, n`
     group BinaryImm (
-        codes "iadd_imm" ∷ codes "imul_imm" ∷ codes "band_imm" ∷ codes "bor_imm" ∷ codes "bxor_imm" ∷
-        codes "ishl_imm" ∷ codes "ushr_imm" ∷ codes "sshr_imm" ∷ []) ∷
+    codes "iadd_imm" ∷ codes "imul_imm" ∷ codes "band_imm" ∷ codes "bor_imm" ∷ codes "bxor_imm" ∷
+    codes "ishl_imm" ∷ codes "ushr_imm" ∷ codes "sshr_imm" ∷ []) ∷
     -- `icmp_imm[.T] cc x, n`
     group IcmpImm (
-        codes "icmp_imm" ∷ []) ∷
+    codes "icmp_imm" ∷ []) ∷
     -- `op.T flags p+off`
     group Load (
-        codes "load" ∷ codes "uload8" ∷ codes "sload8" ∷ codes "uload16" ∷ codes "sload16" ∷ []) ∷
+    codes "load" ∷ codes "uload8" ∷ codes "sload8" ∷ codes "uload16" ∷ codes "sload16" ∷ []) ∷
     -- `op[.i64] flags p+off`
     group LoadWide (
-        codes "uload32" ∷ codes "sload32" ∷ []) ∷
+    codes "uload32" ∷ codes "sload32" ∷ []) ∷
     -- `op[.T] flags x, p+off`
     group Store (
-        codes "store" ∷ codes "istore8" ∷ codes "istore16" ∷ codes "istore32" ∷ []) ∷
+    codes "store" ∷ codes "istore8" ∷ codes "istore16" ∷ codes "istore32" ∷ []) ∷
     -- `stack_load.T ssN+off`
     group StackLoad (
-        codes "stack_load" ∷ []) ∷
+    codes "stack_load" ∷ []) ∷
     -- `stack_store[.T] x, ssN+off`
     group StackStore (
-        codes "stack_store" ∷ []) ∷
+    codes "stack_store" ∷ []) ∷
     -- `func_addr.i64 fnN`
     group FuncAddr (
-        codes "func_addr" ∷ []) ∷
+    codes "func_addr" ∷ []) ∷
     -- no operands
     group Nullary (
-        codes "nop" ∷ codes "sequence_point" ∷ []) ∷
+    codes "nop" ∷ codes "sequence_point" ∷ []) ∷
     -- `jump call-to`
     group Jump (
-        codes "jump" ∷ []) ∷
+    codes "jump" ∷ []) ∷
     -- `brif[.T] x, call-to, call-to`
     group Brif (
-        codes "brif" ∷ []) ∷
+    codes "brif" ∷ []) ∷
     -- `br_table v, call-to, [call-to, ..]`
     group BrTable (
-        codes "br_table" ∷ []) ∷
+    codes "br_table" ∷ []) ∷
     -- `return v, ..`
     group Return (
-        codes "return" ∷ []) ∷
+    codes "return" ∷ []) ∷
     -- `trap code`
     group Trap (
-        codes "trap" ∷ []) ∷
+    codes "trap" ∷ []) ∷
     -- `op[.T] x, code`
     group TrapIf (
-        codes "trapz" ∷ codes "trapnz" ∷ []) ∷
+    codes "trapz" ∷ codes "trapnz" ∷ []) ∷
     -- `op fnN(v, ..)`
     group Call (
-        codes "call" ∷ codes "return_call" ∷ []) ∷
+    codes "call" ∷ codes "return_call" ∷ []) ∷
     -- `try_call fnN(v, ..), sigN, call-to, table`
     group TryCall (
-        codes "try_call" ∷ []) ∷
+    codes "try_call" ∷ []) ∷
     -- `op[.i64] sigN, v(v, ..)`
     group CallIndirect (
-        codes "call_indirect" ∷ codes "return_call_indirect" ∷ []) ∷
+    codes "call_indirect" ∷ codes "return_call_indirect" ∷ []) ∷
     -- `try_call_indirect[.i64] v(v, ..), sigN, call-to, table`
     group TryCallIndirect (
-        codes "try_call_indirect" ∷ []) ∷
+    codes "try_call_indirect" ∷ []) ∷
     []
 
 -- the opcodes of CLIF that are refused
@@ -143,7 +143,7 @@ other_words =
     group Function (codes "function" ∷ []) ∷
     -- a calling convention but `cold`
     group Conv (codes "fast" ∷ codes "tail" ∷ codes "system_v" ∷ codes "windows_fastcall" ∷ codes "apple_aarch64" ∷
-        codes "probestack" ∷ codes "winch" ∷ []) ∷
+    codes "probestack" ∷ codes "winch" ∷ []) ∷
     -- `cold`
     group Cold (codes "cold" ∷ []) ∷
     -- a type but `i64`
@@ -180,10 +180,9 @@ other_words =
     group TrapCode (codes "stk_ovf" ∷ codes "int_ovf" ∷ codes "heap_oob" ∷ codes "int_divz" ∷ codes "bad_toint" ∷ []) ∷
     -- a condition of `icmp`
     group Condition (codes "eq" ∷ codes "ne" ∷ codes "slt" ∷ codes "sge" ∷ codes "sgt" ∷ codes "sle" ∷ codes "ult" ∷ codes "uge" ∷
-        codes "ugt" ∷ codes "ule" ∷ []) ∷
+    codes "ugt" ∷ codes "ule" ∷ []) ∷
     []
 
 -- no word stands in it twice
 unfoldable pub all_words : List Row
 all_words = numbered_through 0 opcodes ++ rows RefusedOpcode 0 refused_opcodes ++ numbered_each other_words
-

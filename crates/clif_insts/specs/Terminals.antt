@@ -1,6 +1,6 @@
 -- The terminals of the grammar: a token of one class each.
 use Rattle.std.specs.Prelude.{ℕ, List, [], ◌∷◌, map}
-use Rattle.grammar.specs.Rules.{Rule, Tok, Seq, Alt, Opt, Many, Refuse, Kind, UnknownOpcode, Unsupported}
+use Rattle.grammar.specs.Rules.{Rule, Tok, Seq, Alt, Refuse, Kind}
 use Rattle.clif_insts.specs.declared.class.Class.{Class}
 use Rattle.clif_insts.specs.declared.class.Class.TheVariants as classes
 use Rattle.clif_insts.specs.Classes.{code}

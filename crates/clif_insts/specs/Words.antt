@@ -1,5 +1,5 @@
 -- What a word is to the grammar: a word with a meaning of its own, or a word with a number behind it, as `v7`.
-use Rattle.std.specs.Prelude.{ℕ, ◌+◌, ◌*◌, ◌-◌, ◌==◌, ◌&&◌, ◌||◌, ◌^◌, not, nat_lt, Bool, false, if◌then◌else◌, List, [], ◌∷◌, ◌++◌, map, length, take, drop, codes, Option, Some, None, is_some}
+use Rattle.std.specs.Prelude.{ℕ, ◌+◌, ◌*◌, ◌-◌, ◌==◌, ◌&&◌, ◌||◌, ◌^◌, not, nat_lt, Bool, false, if◌then◌else◌, List, [], ◌∷◌, length, take, drop, codes, Option, Some, None, is_some}
 use Rattle.std.specs.Str.{bytes_eq}
 use Rattle.std.specs.List.{prefix_len, suffix_len}
 use Rattle.std.specs.Char.{is_ascii_digit, digit_value}
@@ -8,7 +8,7 @@ use Rattle.clif_insts.specs.declared.class.Class.{Class}
 use Rattle.clif_insts.specs.declared.class.Class.TheVariants.{Block, Callee, Exn, Other, RefusedDecl, RefusedType, Ret, Sig, Slot, Tag, UserName, UserTrap, Value}
 use Rattle.clif_insts.specs.declared.words.Entry.{Entry}
 use Rattle.clif_insts.specs.declared.items.Meaning.{Meaning}
-use Rattle.clif_insts.specs.Table.{Row, Group, group, rows, numbered_each, all_words}
+use Rattle.clif_insts.specs.Table.{Row, group, rows, numbered_each, all_words}
 
 -- a class, and which of its words it is
 abbrev pub means : Class → ℕ → Meaning

@@ -5,7 +5,10 @@ ghost use Rattle.clif_insts.specs.Reading.{Gives, same};
 ghost use Rattle.clif_insts.specs.Forms as forms;
 
 use crate::class::Class;
-use crate::parts::{Place, args, condition, flags, number, offset, opt_suffix, opt_suffix_i64, suffix, suffix_i64, table, target, target_list, trap};
+use crate::parts::{
+    Place, args, condition, flags, number, offset, opt_suffix, opt_suffix_i64, suffix, suffix_i64,
+    table, target, target_list, trap,
+};
 use crate::raw::{RawInst, RawOperands};
 use crate::reader::Reader;
 use crate::stop::Stop;
@@ -168,7 +171,11 @@ fn load(alloc: Global, reader: &mut Reader<'_>) -> Result<RawInst, Stop>
     Ok(RawInst {
         opcode,
         suffix: Some(suffix),
-        operands: RawOperands::Load { flags: List::from_vec(flags), address, offset },
+        operands: RawOperands::Load {
+            flags: List::from_vec(flags),
+            address,
+            offset,
+        },
     })
 }
 
@@ -186,7 +193,11 @@ fn load_wide(alloc: Global, reader: &mut Reader<'_>) -> Result<RawInst, Stop>
     Ok(RawInst {
         opcode,
         suffix,
-        operands: RawOperands::Load { flags: List::from_vec(flags), address, offset },
+        operands: RawOperands::Load {
+            flags: List::from_vec(flags),
+            address,
+            offset,
+        },
     })
 }
 
@@ -206,7 +217,12 @@ fn store(alloc: Global, reader: &mut Reader<'_>) -> Result<RawInst, Stop>
     Ok(RawInst {
         opcode,
         suffix,
-        operands: RawOperands::Store { flags: List::from_vec(flags), value, address, offset },
+        operands: RawOperands::Store {
+            flags: List::from_vec(flags),
+            value,
+            address,
+            offset,
+        },
     })
 }
 
@@ -242,7 +258,11 @@ fn stack_store(reader: &mut Reader<'_>) -> Result<RawInst, Stop>
     Ok(RawInst {
         opcode,
         suffix,
-        operands: RawOperands::StackStore { value, slot, offset },
+        operands: RawOperands::StackStore {
+            value,
+            slot,
+            offset,
+        },
     })
 }
 
@@ -307,7 +327,11 @@ fn brif(alloc: Global, reader: &mut Reader<'_>) -> Result<RawInst, Stop>
     Ok(RawInst {
         opcode,
         suffix,
-        operands: RawOperands::Brif { cond, yes: then_target, no: else_target },
+        operands: RawOperands::Brif {
+            cond,
+            yes: then_target,
+            no: else_target,
+        },
     })
 }
 
@@ -326,7 +350,11 @@ fn br_table(alloc: Global, reader: &mut Reader<'_>) -> Result<RawInst, Stop>
     Ok(RawInst {
         opcode,
         suffix: None,
-        operands: RawOperands::BrTable { index, default, entries: List::from_vec(entries) },
+        operands: RawOperands::BrTable {
+            index,
+            default,
+            entries: List::from_vec(entries),
+        },
     })
 }
 
@@ -389,7 +417,10 @@ fn call(alloc: Global, reader: &mut Reader<'_>) -> Result<RawInst, Stop>
     Ok(RawInst {
         opcode,
         suffix: None,
-        operands: RawOperands::Call { callee, args: List::from_vec(args) },
+        operands: RawOperands::Call {
+            callee,
+            args: List::from_vec(args),
+        },
     })
 }
 
@@ -411,7 +442,13 @@ fn try_call(alloc: Global, reader: &mut Reader<'_>) -> Result<RawInst, Stop>
     Ok(RawInst {
         opcode,
         suffix: None,
-        operands: RawOperands::TryCall { callee, args: List::from_vec(args), sig, normal, table: List::from_vec(table) },
+        operands: RawOperands::TryCall {
+            callee,
+            args: List::from_vec(args),
+            sig,
+            normal,
+            table: List::from_vec(table),
+        },
     })
 }
 
@@ -430,7 +467,11 @@ fn call_indirect(alloc: Global, reader: &mut Reader<'_>) -> Result<RawInst, Stop
     Ok(RawInst {
         opcode,
         suffix: None,
-        operands: RawOperands::CallIndirect { sig, address, args: List::from_vec(args) },
+        operands: RawOperands::CallIndirect {
+            sig,
+            address,
+            args: List::from_vec(args),
+        },
     })
 }
 
@@ -453,7 +494,13 @@ fn try_call_indirect(alloc: Global, reader: &mut Reader<'_>) -> Result<RawInst, 
     Ok(RawInst {
         opcode,
         suffix: None,
-        operands: RawOperands::TryCallIndirect { address, args: List::from_vec(args), sig, normal, table: List::from_vec(table) },
+        operands: RawOperands::TryCallIndirect {
+            address,
+            args: List::from_vec(args),
+            sig,
+            normal,
+            table: List::from_vec(table),
+        },
     })
 }
 

@@ -132,10 +132,7 @@ fn digits_len(word: &[u8]) -> usize
     ensures len { result ≡ words.digits_len word.now }
     ensures within { result ≤ length word.now }
 {
-    word.iter()
-        .rev()
-        .take_while(|c| c.is_ascii_digit())
-        .count()
+    word.iter().rev().take_while(|c| c.is_ascii_digit()).count()
 }
 
 fn is_digits_x(text: &[u8]) -> bool

@@ -17,7 +17,9 @@ pub use forms::any_inst;
 pub use items::{Meaning, token_meaning};
 pub use opcodes::{OPCODES, Opcode, OpcodeRow};
 pub use parts::Place;
-pub use raw::{RawArg, RawEntry, RawFlag, RawInst, RawName, RawNumber, RawOperands, RawTarget, RawTrap};
+pub use raw::{
+    RawArg, RawEntry, RawFlag, RawInst, RawName, RawNumber, RawOperands, RawTarget, RawTrap,
+};
 pub use reader::Reader;
 pub use stop::Stop;
 pub use words::Entry;

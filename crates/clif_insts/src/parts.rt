@@ -210,7 +210,10 @@ fn one_value(alloc: Global, item: RawName) -> Result<Vec<RawName>, Stop>
 }
 
 /// Those behind commas, after those in front.
-pub(crate) fn more_values(reader: &mut Reader<'_>, front: Vec<RawName>) -> Result<Vec<RawName>, Stop>
+pub(crate) fn more_values(
+    reader: &mut Reader<'_>,
+    front: Vec<RawName>,
+) -> Result<Vec<RawName>, Stop>
     ensures is { Gives (λ x. x.items) reader.new result (parts.more_values_at front.items reader.old) }
     ensures shorter { IfOk result (λ _. length reader.new ≤ length reader.old) }
 {
@@ -292,7 +295,11 @@ fn one_arg(alloc: Global, item: RawArg) -> Result<Vec<RawArg>, Stop>
 }
 
 /// Those behind commas, after those in front.
-pub(crate) fn more_args(reader: &mut Reader<'_>, place: Place, front: Vec<RawArg>) -> Result<Vec<RawArg>, Stop>
+pub(crate) fn more_args(
+    reader: &mut Reader<'_>,
+    place: Place,
+    front: Vec<RawArg>,
+) -> Result<Vec<RawArg>, Stop>
     ensures is { Gives (λ x. x.items) reader.new result (parts.more_args_at place front.items reader.old) }
     ensures shorter { IfOk result (λ _. length reader.new ≤ length reader.old) }
 {
@@ -305,7 +312,11 @@ pub(crate) fn more_args(reader: &mut Reader<'_>, place: Place, front: Vec<RawArg
 }
 
 #[tactic(auto, unfolding(crate::specs::Parts::some_args_at))]
-pub(crate) fn some_args(alloc: Global, reader: &mut Reader<'_>, place: Place) -> Result<Vec<RawArg>, Stop>
+pub(crate) fn some_args(
+    alloc: Global,
+    reader: &mut Reader<'_>,
+    place: Place,
+) -> Result<Vec<RawArg>, Stop>
     ensures is { Gives (λ x. x.items) reader.new result (parts.some_args_at place reader.old) }
     ensures shorter { IfOk result (λ _. length reader.new < length reader.old) }
 {
@@ -326,7 +337,11 @@ fn begins_arg(reader: &Reader<'_>, place: Place) -> bool
 }
 
 #[tactic(auto, unfolding(crate::specs::Parts::target_args_at))]
-pub(crate) fn target_args(alloc: Global, reader: &mut Reader<'_>, place: Place) -> Result<Vec<RawArg>, Stop>
+pub(crate) fn target_args(
+    alloc: Global,
+    reader: &mut Reader<'_>,
+    place: Place,
+) -> Result<Vec<RawArg>, Stop>
     ensures is { Gives (λ x. x.items) reader.new result (parts.target_args_at place reader.old) }
     ensures shorter { IfOk result (λ _. length reader.new < length reader.old) }
 {
@@ -341,7 +356,11 @@ pub(crate) fn target_args(alloc: Global, reader: &mut Reader<'_>, place: Place) 
 }
 
 #[tactic(auto, unfolding(crate::specs::Parts::opt_target_args_at))]
-pub(crate) fn opt_target_args(alloc: Global, reader: &mut Reader<'_>, place: Place) -> Result<Vec<RawArg>, Stop>
+pub(crate) fn opt_target_args(
+    alloc: Global,
+    reader: &mut Reader<'_>,
+    place: Place,
+) -> Result<Vec<RawArg>, Stop>
     ensures is { Gives (λ x. x.items) reader.new result (parts.opt_target_args_at place reader.old) }
     ensures shorter { IfOk result (λ _. length reader.new ≤ length reader.old) }
 {
@@ -354,7 +373,11 @@ pub(crate) fn opt_target_args(alloc: Global, reader: &mut Reader<'_>, place: Pla
 
 /// A target.
 #[tactic(auto, unfolding(crate::specs::Parts::target_at))]
-pub(crate) fn target(alloc: Global, reader: &mut Reader<'_>, place: Place) -> Result<RawTarget, Stop>
+pub(crate) fn target(
+    alloc: Global,
+    reader: &mut Reader<'_>,
+    place: Place,
+) -> Result<RawTarget, Stop>
     ensures is { Gives same reader.new result (parts.target_at place reader.old) }
     ensures shorter { IfOk result (λ _. length reader.new < length reader.old) }
 {
@@ -385,7 +408,11 @@ fn one_target(alloc: Global, item: RawTarget) -> Result<Vec<RawTarget>, Stop>
 }
 
 /// Those behind commas, after those in front.
-pub(crate) fn more_targets(alloc: Global, reader: &mut Reader<'_>, front: Vec<RawTarget>) -> Result<Vec<RawTarget>, Stop>
+pub(crate) fn more_targets(
+    alloc: Global,
+    reader: &mut Reader<'_>,
+    front: Vec<RawTarget>,
+) -> Result<Vec<RawTarget>, Stop>
     ensures is { Gives (λ x. x.items) reader.new result (parts.more_targets_at front.items reader.old) }
     ensures shorter { IfOk result (λ _. length reader.new ≤ length reader.old) }
 {
@@ -473,7 +500,11 @@ fn one_entry(alloc: Global, item: RawEntry) -> Result<Vec<RawEntry>, Stop>
 }
 
 /// Those behind commas, after those in front.
-pub(crate) fn more_entries(alloc: Global, reader: &mut Reader<'_>, front: Vec<RawEntry>) -> Result<Vec<RawEntry>, Stop>
+pub(crate) fn more_entries(
+    alloc: Global,
+    reader: &mut Reader<'_>,
+    front: Vec<RawEntry>,
+) -> Result<Vec<RawEntry>, Stop>
     ensures is { Gives (λ x. x.items) reader.new result (parts.more_entries_at front.items reader.old) }
     ensures shorter { IfOk result (λ _. length reader.new ≤ length reader.old) }
 {
@@ -608,7 +639,11 @@ pub(crate) fn ordered_flag(reader: &mut Reader<'_>, order: Class) -> Result<RawF
 }
 
 /// Flags, with `little` or `big` among them.
-fn ordered_flags(reader: &mut Reader<'_>, order: Class, front: Vec<RawFlag>) -> Result<Vec<RawFlag>, Stop>
+fn ordered_flags(
+    reader: &mut Reader<'_>,
+    order: Class,
+    front: Vec<RawFlag>,
+) -> Result<Vec<RawFlag>, Stop>
     ensures is { Gives (λ x. x.items) reader.new result (parts.ordered_flags_at order front.items reader.old) }
     ensures shorter { IfOk result (λ _. length reader.new ≤ length reader.old) }
 {

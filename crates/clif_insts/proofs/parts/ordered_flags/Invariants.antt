@@ -1,4 +1,4 @@
-use Rattle.std.proofs.Common.{List, ◌∷◌, [], ◌++◌, ◌≤◌, length}
+use Rattle.std.proofs.Common.{◌∷◌, [], ◌++◌, ◌≤◌, length}
 use Rattle.clif_insts.specs.Classes.{code}
 use Rattle.clif_insts.specs.Terminals.{codes_of}
 use Rattle.clif_insts.specs.Reading.{each, with_front}

@@ -1,4 +1,4 @@
-use Rattle.std.proofs.Common.{List, ◌∷◌, [], ◌++◌, ◌≤◌, length}
+use Rattle.std.proofs.Common.{List, [], ◌≤◌, length}
 use Rattle.clif_insts.specs.declared.raw.RawFlag.{RawFlag}
 use Rattle.clif_insts.specs.Terminals.{codes_of}
 use Rattle.clif_insts.specs.Reading.{each, with_front}

@@ -1,6 +1,4 @@
-use Rattle.std.proofs.Common.{◌≡◌, false, slice_get, Some, length, ◌<◌, arith}
-use Rattle.std.specs.Prelude.{◌⊎◌}
-use Rattle.std.proofs.lemmas.Option.{slice_get-get_or, slice_get_cases}
+use Rattle.std.proofs.Common.{◌≡◌, false, length, ◌<◌, arith}
 use Rattle.clif_lex.specs.declared.spans.Token.{Token}
 use Rattle.clif_insts.specs.Lexemes.{is_comment, meaning}
 use Rattle.clif_insts.proofs.Views.{if_some, upcoming_some, some_at}

@@ -1,7 +1,5 @@
-use Rattle.std.proofs.Common.{◌≡◌, ◌<◌, length, drop, sym, ap, ◌∙◌, arith}
+use Rattle.std.proofs.Common.{◌<◌, length, drop, sym, ap, ◌∙◌, arith}
 use Rattle.std.proofs.lemmas.Grind.{common_steps}
-use Rattle.clif_lex.specs.declared.spans.Token.{Token}
-use Rattle.clif_insts.specs.Lexemes.{lexemes}
 use Rattle.clif_insts.proofs.Views.{some_at, some_next, takes, upcoming_not}
 use Rattle.clif_insts.proofs.reader.Reader.advance.Goals as goal
 

@@ -1,4 +1,4 @@
-use Rattle.std.proofs.Common.{◌≡◌, ◌≢◌, ◌<◌, length, drop, sym, ap, refl, ◌∙◌, arith}
+use Rattle.std.proofs.Common.{drop, refl, ◌∙◌}
 use Rattle.clif_insts.proofs.Views.{some_next, drop_some, front_is, upcoming_there}
 use Rattle.clif_insts.proofs.reader.Reader.front.Goals as goal
 use Rattle.clif_insts.proofs.reader.Reader.front.Goals.{in-Some, in-None}

@@ -1,7 +1,7 @@
 use mir.Syntax.{w128}
 use mir.Val.{SFits}
 use Rattle.std.proofs.lemmas.Int.{to_z-of_z}
-use Rattle.std.proofs.Common.{◌≡◌, true, false, sym, ap, refl, ◌∙◌, rules}
+use Rattle.std.proofs.Common.{◌≡◌, true, false, sym, ◌∙◌, rules}
 use Rattle.clif_lex.specs.declared.spans.Token.{Token}
 use Rattle.clif_lex.specs.declared.spans.TokenKind.TheVariants.{Number}
 use Rattle.clif_lex.specs.Numbers.{spelled_number}

@@ -1,5 +1,3 @@
-use Rattle.std.proofs.Common.{sym, ◌∙◌, subst}
-use Rattle.clif_insts.specs.Lexemes.{Upcoming}
 use Rattle.clif_insts.proofs.Tags.{tag-code}
 use Rattle.clif_insts.proofs.Views.{heads_some, heads_none}
 use Rattle.clif_insts.proofs.reader.Reader.next_is.Goals as goal

@@ -1,0 +1,6 @@
+//! Debug tags: the list of tags that stands on a call or on a `sequence_point`.
+#![tactic(auto)]
+
+mod tags;
+
+pub use tags::{Tag, Tags, prefixed};

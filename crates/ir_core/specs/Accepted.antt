@@ -2,7 +2,6 @@
 -- rules stand in the order in which they are tried at one place; availability comes after all others over the module.
 use Rattle.std.specs.Prelude.{◌≡◌, ◌≢◌, ◌<◌, ◌*◌, ⊤, ℕ, suc, List, [], ◌∷◌, length, map, Option, Some, None, Bool, true, false, not, ◌&&◌, ◌||◌, nat_lt, nat_le, ◌==◌, IsSomeAnd, IsSome, IsTrue, slice_get}
 use Rattle.std.specs.List.{list_any}
-use Rattle.exn_tables.specs.declared.table.Entry.{Entry}
 use Rattle.debug_tags.specs.declared.tags.Tag.{Tag}
 use Rattle.debug_tags.specs.Tags.{is_slot}
 use Rattle.clk_num.specs.Width.{bits_of}

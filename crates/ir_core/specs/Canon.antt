@@ -1,6 +1,6 @@
 -- Canonical numbers of a function: values in order of definition in the text, blocks by their place. Slots, signatures and
 -- callees keep theirs. Functions that differ in nothing else are the same up to numbering.
-use Rattle.std.specs.Prelude.{◌≡◌, ℕ, suc, List, [], ◌∷◌, ◌++◌, map, Option, Some, None, nat_eq, if◌then◌else◌}
+use Rattle.std.specs.Prelude.{◌≡◌, ℕ, suc, List, [], ◌∷◌, ◌++◌, map, nat_eq, if◌then◌else◌}
 use Rattle.ir_core.specs.declared.signatures.Ty.{Ty}
 use Rattle.ir_core.specs.Module.{Function, Module}
 use Rattle.ir_core.specs.Lookup.{type_in, definitions, block_numbers}

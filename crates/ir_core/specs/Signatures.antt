@@ -1,6 +1,6 @@
 -- When two signatures are the same: the parameters and the results in order, each with its type and attributes, and the
 -- convention.
-use Rattle.std.specs.Prelude.{List, [], ◌∷◌, Bool, true, false, ◌&&◌, Option, Some, None}
+use Rattle.std.specs.Prelude.{List, [], ◌∷◌, Bool, true, false, ◌&&◌}
 use Rattle.clk_num.specs.Width.{same}
 use Rattle.ir_core.specs.declared.signatures.Sig.{Sig}
 use Rattle.ir_core.specs.declared.signatures.Param.{Param}

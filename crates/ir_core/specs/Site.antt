@@ -1,7 +1,7 @@
 -- A call that can be replaced by its callee's body: a direct call of a function of the module in another function.
-use Rattle.std.specs.Prelude.{◌≡◌, ⊤, ℕ, List, ◌∷◌, ◌++◌, Option, Some, None, slice_get}
+use Rattle.std.specs.Prelude.{◌≡◌, ℕ, ◌∷◌, ◌++◌, Option, Some, None, slice_get}
 use Rattle.ir_core.specs.declared.declarations.Callee.{Callee}
-use Rattle.ir_core.specs.Module.{CallTarget, Direct, Indirect, Instruction, Call, ReturnCall, TryCall, Line, Block, Function, Module}
+use Rattle.ir_core.specs.Module.{CallTarget, Direct, Indirect, Instruction, Call, ReturnCall, TryCall, Block, Module}
 use Rattle.ir_core.specs.Lookup.{find_block, find_function}
 use Rattle.ir_core.specs.Splice.{Splicing}
 

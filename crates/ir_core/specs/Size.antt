@@ -2,10 +2,10 @@
 -- parameters, instructions, results, operands (each value, `ret` or `exn` in the place of an operand or a target's
 -- argument), entries of `br_table` lists and of exception tables, debug tags, slots and callee declarations, and for each
 -- signature of its list 1 plus its parameters plus its results. Its own signature is not counted.
-use Rattle.std.specs.Prelude.{ℕ, ◌+◌, List, length, sum_by}
+use Rattle.std.specs.Prelude.{ℕ, ◌+◌, length, sum_by}
 use Rattle.ir_core.specs.declared.signatures.Sig.{Sig}
 use Rattle.ir_core.specs.declared.instructions.BlockCall.{BlockCall}
-use Rattle.ir_core.specs.Module.{Branch, Jump, Brif, BrTable, Instruction, Plain, Branches, SequencePoint, Return, Call, ReturnCall, TryCall, Line, Block, Function}
+use Rattle.ir_core.specs.Module.{Branch, Jump, Brif, BrTable, Instruction, Branches, TryCall, Line, Block, Function}
 use Rattle.ir_core.specs.Uses.{operands, targets}
 
 abbrev pub branch_entries : Branch → ℕ

@@ -1,14 +1,14 @@
 -- A call replaced by the body of its callee. The block of the call is cut at the call and jumps to the body's first block.
 -- The body stands behind it, under numbers of its own; what the body does at its returns and calls depends on the kind of
 -- the call. The rest of the caller's blocks follow.
-use Rattle.std.specs.Prelude.{ℕ, zero, suc, ◌+◌, ◌*◌, List, [], ◌∷◌, ◌++◌, length, map, take, drop, zip, Option, Some, None, nat_eq, if◌then◌else◌, slice_get}
+use Rattle.std.specs.Prelude.{ℕ, zero, suc, ◌+◌, ◌*◌, List, [], ◌∷◌, ◌++◌, length, map, take, drop, Option, Some, None, nat_eq, if◌then◌else◌, slice_get}
 use Rattle.exn_tables.specs.declared.table.Entry.{Entry}
 use Rattle.debug_tags.specs.declared.tags.Tag.{Tag}
 use Rattle.ir_core.specs.declared.signatures.Ty.{Ty}
 use Rattle.ir_core.specs.declared.instructions.Arg.{Arg}
 use Rattle.ir_core.specs.declared.instructions.Arg.TheVariants as arg
 use Rattle.ir_core.specs.declared.instructions.BlockCall.{BlockCall}
-use Rattle.ir_core.specs.Module.{Branch, Jump, CallTarget, Direct, Indirect, Instruction, Plain, Branches, SequencePoint, Return, Call, ReturnCall, TryCall, Line, Block, Function, Module}
+use Rattle.ir_core.specs.Module.{Jump, CallTarget, Direct, Indirect, Instruction, Branches, SequencePoint, Return, Call, ReturnCall, TryCall, Line, Block, Function, Module}
 use Rattle.ir_core.specs.Lookup.{same_name, find_block, type_in}
 use Rattle.ir_core.specs.Renaming.{Renaming, target_under, tag_under, entry_under, called_under, instruction_under, line_under, block_under, typed_under}
 use Rattle.ir_core.specs.Import.{sigs_after, sig_after, callees_after, callee_after, slot_after}

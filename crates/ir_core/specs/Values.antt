@@ -1,14 +1,13 @@
 -- What the instructions of a frame read and write: values by their numbers, the bytes of the slots, of which some may be
 -- unwritten, and the memory. Numbers stand in slots little-endian, and in memory little-endian or, with the flag `big`,
 -- big-endian.
-use Rattle.std.specs.Prelude.{ℕ, zero, suc, ◌+◌, ◌*◌, ◌/◌, ◌%◌, List, [], ◌∷◌, ◌++◌, length, reverse, take, drop, Option, Some, None, Bool, true, ◌&&◌, nat_eq, nat_le, if◌then◌else◌, slice_get, ℤ, pos, negsuc, ◌+ℤ◌}
+use Rattle.std.specs.Prelude.{ℕ, zero, suc, ◌+◌, ◌*◌, ◌/◌, ◌%◌, List, [], ◌∷◌, ◌++◌, length, reverse, take, drop, Option, Some, None, Bool, ◌&&◌, nat_eq, nat_le, if◌then◌else◌, slice_get, ℤ, pos, negsuc, ◌+ℤ◌}
 use Rattle.clk_num.specs.declared.width.Width.{Width}
 use Rattle.clk_num.specs.declared.width.Width.TheVariants.{W8, W16, W32, W64, W128}
 use Rattle.clk_num.specs.Width.{bits_of}
 use Rattle.clk_num.specs.Numbers.{wrapped, fits}
 use Rattle.clk_num.specs.Operations.{DataValue, sextend}
 use Rattle.ir_core.specs.declared.signatures.Ty.{Ty}
-use Rattle.ir_core.specs.declared.declarations.SlotDecl.{SlotDecl}
 use Rattle.ir_core.specs.declared.instructions.Access.{Access}
 use Rattle.ir_core.specs.declared.instructions.Access.TheVariants.{Full, Uload, Sload}
 use Rattle.ir_core.specs.Module.{Function}

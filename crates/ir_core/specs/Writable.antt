@@ -1,12 +1,12 @@
 -- Which modules have a text that reads as the module again: names spelled by the rules of tokens, numbers and sizes within
 -- the limits, each instruction of a form of the CLIF reference with results of the types that the form gives, and
 -- immediates of type i128 that a literal can give.
-use Rattle.std.specs.Prelude.{◌≡◌, ◌≢◌, ◌<◌, ◌≤◌, ◌^◌, ◌*◌, ⊤, ℕ, List, [], ◌∷◌, length, map, Option, Some, None, Bool, true, false, not, ◌&&◌, ◌||◌, nat_lt, nat_le, ◌==◌, IsTrue, IsSome, IsNone, IsSomeAnd, slice_get, ℤ, pos, neg_ℤ, ◌≤ℤ◌, ◌<ℤ◌, if◌then◌else◌}
+use Rattle.std.specs.Prelude.{◌≡◌, ◌≢◌, ◌<◌, ◌≤◌, ◌^◌, ⊤, ℕ, List, [], ◌∷◌, length, Option, Some, None, Bool, true, false, ◌&&◌, ◌||◌, nat_le, ◌==◌, IsTrue, IsSome, IsSomeAnd, ℤ, pos, neg_ℤ, ◌≤ℤ◌, ◌<ℤ◌}
 use Rattle.exn_tables.specs.declared.table.Entry.{Entry}
 use Rattle.debug_tags.specs.declared.tags.Tag.{Tag}
 use Rattle.debug_tags.specs.declared.tags.Tag.TheVariants as tag
 use Rattle.clk_num.specs.declared.width.Width.{Width}
-use Rattle.clk_num.specs.declared.width.Width.TheVariants.{W8, W16, W32, W64, W128}
+use Rattle.clk_num.specs.declared.width.Width.TheVariants.{W128}
 use Rattle.clk_num.specs.Width.{double, half}
 use Rattle.clk_num.specs.Numbers.{signed}
 use Rattle.clk_num.specs.Operations.{DataValue}
@@ -25,7 +25,7 @@ use Rattle.ir_core.specs.declared.instructions.Arg.TheVariants as arg
 use Rattle.ir_core.specs.declared.instructions.BlockCall.{BlockCall}
 use Rattle.ir_core.specs.declared.instructions.Access.{Access}
 use Rattle.ir_core.specs.declared.instructions.Access.TheVariants.{Full, Uload, Sload}
-use Rattle.ir_core.specs.Module.{Simple, Nop, Const, Pure, PureImm, Load, Store, StackLoad, StackStore, FuncAddr, Trap, Trapz, Trapnz, Branch, Jump, Brif, BrTable, CallTarget, Instruction, Plain, Branches, SequencePoint, Return, Call, ReturnCall, TryCall, Line, Block, Function, Module}
+use Rattle.ir_core.specs.Module.{Simple, Nop, Const, Pure, PureImm, Load, Store, StackLoad, StackStore, FuncAddr, Trap, Trapz, Trapnz, Branch, Jump, Brif, BrTable, Instruction, Plain, Branches, SequencePoint, Return, Call, ReturnCall, TryCall, Line, Block, Function, Module}
 use Rattle.ir_core.specs.Lookup.{Each, type_of, signature_of, param_types, width_of, ty_of}
 use Rattle.ir_core.specs.Uses.{branch_targets}
 use Rattle.ir_core.specs.Accepted.{has_immediate, access_type, flags_form}

@@ -1,0 +1,5 @@
+pub mod Loops
+pub mod Operations
+pub mod Tails
+pub mod Throws
+pub mod Written

@@ -1,0 +1,5 @@
+pub mod Local
+pub mod Frames
+pub mod Related
+pub mod Showing
+pub mod Returning

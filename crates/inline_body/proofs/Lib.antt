@@ -6,3 +6,5 @@ pub mod Returning
 pub mod Effects
 pub mod Stepping
 pub mod Runs
+pub mod Places
+pub mod Equal

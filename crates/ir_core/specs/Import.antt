@@ -36,7 +36,8 @@ new_place same ys (Some x) = first_place same ys x
 abbrev pub same_sigs : Option Sig → Option Sig → Bool
 same_sigs (Some a) (Some b) = same_sig a b
 same_sigs (Some a) None = false
-same_sigs None b = false
+same_sigs None (Some b) = false
+same_sigs None None = true
 
 -- of callees whose signatures stand in the one list
 abbrev pub same_callee : List Sig → Callee → Callee → Bool

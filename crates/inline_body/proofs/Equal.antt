@@ -23,7 +23,7 @@ both_true false b h = cc
 pub true_both : (a b : Bool) → a ≡ true → b ≡ true → (a && b) ≡ true
 true_both a b h k = ap₂ (λ x y. x && y) h k
 
-number_equal : (a b : ℕ) → nat_eq a b ≡ true → a ≡ b
+pub number_equal : (a b : ℕ) → nat_eq a b ≡ true → a ≡ b
 number_equal a b h = elim (cases_eq a b) [ inl q ↦ q | inr q ↦ absurd (let e : false ≡ true = sym (ne_eqb a b q) ∙ h in cc) ]
 
 bytes_equal : (as' bs : List ℕ) → same_bytes as' bs ≡ true → as' ≡ bs

@@ -8,3 +8,5 @@ pub mod Stepping
 pub mod Runs
 pub mod Places
 pub mod Equal
+pub mod Merging
+pub mod Ordering

@@ -10,3 +10,5 @@ pub mod Places
 pub mod Equal
 pub mod Merging
 pub mod Ordering
+pub mod Functions
+pub mod Linking

@@ -12,3 +12,4 @@ pub mod Merging
 pub mod Ordering
 pub mod Functions
 pub mod Linking
+pub mod Numbering

@@ -1,11 +1,12 @@
 -- Canonical numbers of a function: values in order of definition in the text, blocks by their place. Slots, signatures and
--- callees keep theirs. Functions that differ in nothing else are the same up to numbering.
+-- callees keep theirs. Whole functions with the same canonical form are the same up to numbering.
 use Rattle.std.specs.Prelude.{◌≡◌, ℕ, suc, List, [], ◌∷◌, ◌++◌, map, nat_eq, if◌then◌else◌}
 use Rattle.ir_core.specs.declared.signatures.Ty.{Ty}
 use Rattle.ir_core.specs.Module.{Function, Module}
-use Rattle.ir_core.specs.Lookup.{type_in, definitions, block_numbers}
+use Rattle.ir_core.specs.Lookup.{Each, type_in, definitions, block_numbers}
 use Rattle.ir_core.specs.Renaming.{Renaming, block_under}
 use Rattle.ir_core.specs.Splice.{with_type}
+use Rattle.ir_core.specs.Whole.{Whole}
 
 -- the place of a number in a list; what is not in it comes behind
 abbrev pub place : List ℕ → ℕ → ℕ
@@ -26,5 +27,8 @@ canonical f = record f { types = types_in_order (canonical_names f).value f.type
 abbrev pub canonical_module : Module → Module
 canonical_module m = map canonical m
 
+abbrev pub SameFunction : Function → Function → Type 0
+SameFunction f g = Whole f × Whole g × (canonical f ≡ canonical g)
+
 abbrev pub SameUpToNumbering : Module → Module → Type 0
-SameUpToNumbering m r = canonical_module m ≡ canonical_module r
+SameUpToNumbering m r = Each Whole m × Each Whole r × (canonical_module m ≡ canonical_module r)

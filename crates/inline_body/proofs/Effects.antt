@@ -86,4 +86,3 @@ comes_to ns f e s m (Return vs) = need_comes (Return vs) (all_of e vs) Stuck (λ
 comes_to ns f e s m (Call t args) = calls_comes e (Call t args) t args false (λ c xs. tt)
 comes_to ns f e s m (ReturnCall t args) = calls_comes e (ReturnCall t args) t args true (λ c xs. tt)
 comes_to ns f e s m (TryCall t sig args normal table) = calls_comes e (TryCall t sig args normal table) t args false (λ c xs. tt)
-

@@ -1,6 +1,6 @@
 -- Functions of a module by their names, and one in another's place: the module speaks of the same names where its callees
 -- do.
-use Rattle.std.proofs.Common.{◌≡◌, ◌⊎◌, inl, inr, ℕ, List, [], ◌∷◌, ◌++◌, map, Option, Some, None, Bool, true, false, refl, sym, ap, ap₂, ◌∙◌, subst}
+use Rattle.std.proofs.Common.{◌≡◌, ◌⊎◌, inl, inr, List, [], ◌∷◌, ◌++◌, map, Some, Bool, true, false, refl, sym, ap, ◌∙◌, subst}
 use Rattle.std.specs.Prelude.{if◌then◌else◌}
 use Rattle.ir_core.specs.declared.names.FuncName.{FuncName}
 use Rattle.ir_core.specs.declared.declarations.Callee.{Callee}
@@ -10,7 +10,7 @@ use Rattle.ir_core.specs.Names.{mentioned, names}
 use Rattle.ir_core.specs.Import.{with_item, with_items, callees_with, callees_after, same_callee, sigs_after}
 use Rattle.ir_core.specs.Splice.{replace}
 use Rattle.inline_body.proofs.Local.{some_same}
-use Rattle.inline_body.proofs.Equal.{name_equal, name_same, equal_name}
+use Rattle.inline_body.proofs.Equal.{name_equal, equal_name}
 use Rattle.inline_body.proofs.Ordering.{Within, in_order_same}
 
 pub function_hit : (x : FuncName) (h : Function) (hs : Module) → h.name ≡ x → find_function x (h ∷ hs) ≡ Some h

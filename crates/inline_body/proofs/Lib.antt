@@ -12,4 +12,5 @@ pub mod Merging
 pub mod Ordering
 pub mod Functions
 pub mod Linking
+pub mod Laws
 pub mod Numbering

@@ -12,16 +12,12 @@ use Rattle.ir_core.specs.declared.instructions.Arg.TheVariants as arg
 use Rattle.debug_tags.specs.declared.tags.Tag.TheVariants as tag
 use Rattle.ir_core.specs.Module.{Block, BrTable, Branch, Branches, Brif, Call, CallTarget, Const, Direct, FuncAddr, Function, Indirect, Instruction, Jump, Line, Load, Module, Nop, Plain, Pure, PureImm, Return, ReturnCall, SequencePoint, Simple, StackLoad, StackStore, Store, Trap, Trapnz, Trapz, TryCall}
 use Rattle.ir_core.specs.Lookup.{find_block, find_function}
-use Rattle.ir_core.specs.Names.{names}
-use Rattle.ir_core.specs.Machine.{User}
-use Rattle.ir_core.specs.Runs.{first}
 use Rattle.ir_core.specs.Renaming.{Renaming, arg_under, block_under, branch_under, called_under, entry_under, instruction_under, line_under, simple_under, tag_under, target_under}
-use Rattle.ir_core.specs.Import.{callee_after}
 use Rattle.ir_core.specs.Splice.{Splicing, Within, after_block, after_blocks, body, callee_names, caller_names, cut_block, kind_of, pair, piece, replace, sides, spliced, spliced_blocks, triangle}
 use Rattle.ir_core.specs.Site.{Site}
 use Rattle.inline_body.proofs.Local.{Fits, some_same}
 use Rattle.inline_body.proofs.Frames.{Embeds}
-use Rattle.inline_body.proofs.Related.{Distinct, RestF, RestG, RestOf, caller}
+use Rattle.inline_body.proofs.Related.{Distinct, RestF, RestG, RestOf}
 use Rattle.inline_body.proofs.Stepping.{LinkOf, Linked, Starts, inlined, renamed}
 use Rattle.inline_body.proofs.Runs.{SameRuns, same_runs}
 use Rattle.inline_body.proofs.Places.{after_cut, append_none, append_some, f_found, find_hit, found_name, g_found, g_off, new_found, piece_rest}

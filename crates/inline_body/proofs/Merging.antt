@@ -1,6 +1,6 @@
 -- Items merged into a list: what was there stays in its place, and each new item is found at the place of the first one that
 -- is the same.
-use Rattle.std.proofs.Common.{◌≡◌, ℕ, zero, suc, ◌<◌, List, [], ◌∷◌, Option, Some, None, Bool, true, false, ◌&&◌, refl, sym, ap, ◌∙◌, subst}
+use Rattle.std.proofs.Common.{◌≡◌, ℕ, zero, suc, List, [], ◌∷◌, Option, Some, None, Bool, true, false, ◌&&◌, refl, sym, ap, ◌∙◌, subst}
 use Rattle.std.specs.Prelude.{slice_get, if◌then◌else◌}
 use Rattle.ir_core.specs.declared.declarations.Callee.{Callee}
 use Rattle.ir_core.specs.declared.signatures.Sig.{Sig}
@@ -8,7 +8,7 @@ use Rattle.ir_core.specs.Module.{Function}
 use Rattle.ir_core.specs.Signatures.{same_sig}
 use Rattle.ir_core.specs.Lookup.{same_name}
 use Rattle.ir_core.specs.Import.{same_bool, with_item, with_items, first_place, new_place, same_sigs, same_callee, sigs_after, sig_after, callee_with, callees_with, callees_after, callee_after}
-use Rattle.inline_body.proofs.Local.{some_same, SameCallee}
+use Rattle.inline_body.proofs.Local.{some_same}
 use Rattle.inline_body.proofs.Equal.{both_true, true_both, name_equal, name_same, sig_equal, sig_same}
 
 -- an item of the list that is the same as x
@@ -110,8 +110,7 @@ module _ (f g : Function) where
       let there : slice_get (callees_with f g g.callees) k ≡ Some d = with_get g.callees k c h in
       let p = first_there (same_callee (sigs_after f g)) (callees_after f g) d (items_there (same_callee (sigs_after f g)) (same_callee_self (sigs_after f g)) f.callees (callees_with f g g.callees) k d there) in
       let q = both_true (same_name p.0.name d.name && same_bool p.0.colocated d.colocated) (same_sigs (slice_get (sigs_after f g) p.0.sig) (slice_get (sigs_after f g) d.sig)) p.2 in
-      let r = both_true (same_name p.0.name d.name) (same_bool p.0.colocated d.colocated) q.0 in
-      (
+      let r = both_true (same_name p.0.name d.name) (same_bool p.0.colocated d.colocated) q.0 in (
         p.0,
         ap (λ o. slice_get (callees_after f g) (new_place (same_callee (sigs_after f g)) (callees_after f g) o)) there ∙ p.1,
         name_equal p.0.name d.name r.0,

@@ -1,13 +1,13 @@
 -- The names of a module in order depend only on which names it speaks of: the list is in strict order, and a list in strict
 -- order is determined by its members.
-use Rattle.std.proofs.Common.{◌≡◌, ◌⊎◌, inl, inr, ℕ, ◌<◌, List, [], ◌∷◌, ◌++◌, map, Bool, true, false, ◌&&◌, ◌||◌, nat_eq, refl, sym, ap, ap₂, ◌∙◌, subst, arith, eq-eqb, ne_eqb}
+use Rattle.std.proofs.Common.{◌≡◌, ◌⊎◌, inl, inr, ℕ, ◌<◌, List, [], ◌∷◌, Bool, true, false, ◌&&◌, ◌||◌, nat_eq, refl, sym, ap, ap₂, ◌∙◌, subst, arith, eq-eqb}
 use Rattle.std.specs.Prelude.{if◌then◌else◌, nat_lt}
 use Rattle.std.proofs.lemmas.Bool.{cases_eq, cases_lt, ltb-true, lt-ltb}
 use Rattle.ir_core.specs.declared.names.FuncName.{FuncName}
 use Rattle.ir_core.specs.declared.names.FuncName.TheVariants as name
 use Rattle.ir_core.specs.Lookup.{In, same_name}
 use Rattle.ir_core.specs.Names.{bytes_before, name_before, with_name, in_order}
-use Rattle.inline_body.proofs.Equal.{both_true, true_both, number_equal, name_equal, name_same, equal_name}
+use Rattle.inline_body.proofs.Equal.{both_true, true_both, number_equal, name_equal, equal_name}
 
 -- the order of words, as a relation
 

@@ -1,12 +1,11 @@
 -- Where the blocks of a splice stand.
-use Rattle.std.proofs.Common.{◌≡◌, ℕ, suc, ◌+◌, ◌≤◌, inl, inr, List, [], ◌∷◌, ◌++◌, map, Some, None, refl, sym, ap, ◌∙◌, subst, arith, eq-eqb, ne_eqb}
+use Rattle.std.proofs.Common.{◌≡◌, ℕ, suc, ◌≤◌, inl, inr, List, [], ◌∷◌, ◌++◌, map, Some, None, refl, sym, ap, ◌∙◌, subst, arith, eq-eqb, ne_eqb}
 use Rattle.std.specs.Prelude.{if◌then◌else◌}
 use Rattle.std.proofs.lemmas.Bool.{cases_eq}
 use Rattle.ir_core.specs.declared.instructions.BlockCall.{BlockCall}
 use Rattle.exn_tables.specs.declared.table.Entry.{Entry}
 use Rattle.ir_core.specs.Module.{Block, Branches, Call, Instruction, Line, Plain, Return, ReturnCall, SequencePoint, TryCall}
 use Rattle.ir_core.specs.Lookup.{find_block}
-use Rattle.ir_core.specs.Names.{names}
 use Rattle.ir_core.specs.Step.{found}
 use Rattle.ir_core.specs.Renaming.{Renaming, block_under, line_under}
 use Rattle.ir_core.specs.Splice.{Kind, Last, Piece, Splicing, Tries, Within, after_block, after_blocks, body, caller_names, cut_block, kind_of, piece, piece_by, spliced, spliced_blocks, tries_piece, within_piece}

@@ -1,5 +1,5 @@
 -- How a stack of the source and one of the result belong together.
-use Rattle.std.proofs.Common.{◌≡◌, ℕ, ◌+◌, ◌⊎◌, List, [], ◌∷◌, ◌++◌, length, map, Some}
+use Rattle.std.proofs.Common.{◌≡◌, ℕ, ◌⊎◌, List, [], ◌∷◌, ◌++◌, length, map, Some}
 use Rattle.ir_core.specs.declared.instructions.BlockCall.{BlockCall}
 use Rattle.exn_tables.specs.declared.table.Entry.{Entry}
 use Rattle.debug_tags.specs.declared.tags.Tag.{Tag}

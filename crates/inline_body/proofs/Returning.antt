@@ -9,7 +9,6 @@ use Rattle.clk_num.specs.Operations.{DataValue}
 use Rattle.ir_core.specs.declared.instructions.Arg.TheVariants as arg
 use Rattle.ir_core.specs.Module.{Block, Branches, Call, Instruction, Line, Module, Plain, Return, ReturnCall, SequencePoint, TryCall}
 use Rattle.ir_core.specs.Lookup.{find_block}
-use Rattle.ir_core.specs.Names.{names}
 use Rattle.ir_core.specs.Values.{Env, Slots, all_of, bind, cons_some, i64, put}
 use Rattle.ir_core.specs.Machine.{Caught, Frame, Moment, On, Stuck, Wait, World}
 use Rattle.ir_core.specs.Effect.{Enter, arg_value, arg_values, go_to, need}

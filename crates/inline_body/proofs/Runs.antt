@@ -4,7 +4,6 @@ use Rattle.ir_core.specs.declared.names.FuncName.{FuncName}
 use Rattle.clk_num.specs.Operations.{DataValue}
 use Rattle.ir_core.specs.Module.{Function, Module}
 use Rattle.ir_core.specs.Lookup.{find_function}
-use Rattle.ir_core.specs.Names.{names}
 use Rattle.ir_core.specs.Machine.{BadReply, End, Frame, Going, Moment, On, Over, Returned, ScriptEnded, Stuck, Threw, Trapped, Unwritten, Wait, World}
 use Rattle.ir_core.specs.Step.{begin, must, step, written}
 use Rattle.ir_core.specs.Runs.{first, outcome, run}

@@ -1,5 +1,5 @@
 -- A step of the source is one or two of the result.
-use Rattle.std.proofs.Common.{◌≡◌, ℕ, ◌+◌, ◌⊎◌, inl, inr, List, [], ◌∷◌, ◌++◌, length, map, Option, Some, None, Bool, true, false, refl, sym, ap, ◌∙◌, subst, subst₂, append_assoc, append-nil, eq-eqb}
+use Rattle.std.proofs.Common.{◌≡◌, ℕ, ◌⊎◌, inl, inr, List, [], ◌∷◌, ◌++◌, length, map, Option, Some, None, Bool, true, false, refl, sym, ap, ◌∙◌, subst, subst₂, append_assoc, append-nil, eq-eqb}
 use Rattle.std.specs.Prelude.{slice_get, if◌then◌else◌}
 use Rattle.ir_core.specs.declared.names.FuncName.{FuncName}
 use Rattle.ir_core.specs.declared.signatures.Sig.{Sig}
@@ -16,7 +16,7 @@ use Rattle.ir_core.specs.Signatures.{same_sig}
 use Rattle.ir_core.specs.Names.{name_at}
 use Rattle.ir_core.specs.Names.{names as module_names}
 use Rattle.ir_core.specs.Values.{Env, Memory, Slots, all_of, bind, cons_some, no_values, unwritten, values_for}
-use Rattle.ir_core.specs.Machine.{BadReply, Frame, Host, HostAct, HostTraps, Moment, On, Over, Point, Reply, Returns, Shown, Stuck, Throws, Unwritten, User, Wait, World}
+use Rattle.ir_core.specs.Machine.{BadReply, Frame, Host, HostAct, HostTraps, Moment, On, Over, Point, Reply, Returns, Shown, Stuck, Throws, Unwritten, Wait, World}
 use Rattle.ir_core.specs.Effect.{ByAddress, ByName, Called, Do, Effect, Enter, Give, Go, ShowTags, Stop, called, calls, effect, go_to, need}
 use Rattle.ir_core.specs.Step.{Found, Inside, Missing, Nowhere, Outside, act, answer, at_name, begin, by_address, by_name, enter, found, frame_at, give_to, invoke, must, numbers, or_missing, reply, resume, shown, step, step_at, with_event, writes_fit, written}
 use Rattle.ir_core.specs.Runs.{shows}

@@ -1,3 +1,4 @@
+pub mod Acceptance
 pub mod Loops
 pub mod Operations
 pub mod Tails

@@ -1,0 +1,2 @@
+//! Which functions of a module call which, and the pieces of functions that reach each other.
+#![tactic(auto)]

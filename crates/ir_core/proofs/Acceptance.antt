@@ -34,14 +34,14 @@ tail_tag =
       callees = declares h 0 ∷ [];
       types = [];
       blocks =
-        record {
-          number = 0;
-          params = [];
-          lines =
-            record { inst = ReturnCall (Direct 0) []; ty = None; results = []; tags = Slot 0 ∷ [] } ∷
-            [];
-        } ∷
-        [];
+          record {
+            number = 0;
+            params = [];
+            lines =
+                record { inst = ReturnCall (Direct 0) []; ty = None; results = []; tags = Slot 0 ∷ [] } ∷
+                [];
+          } ∷
+          [];
     }
 
 tail_tag_refused : KeptAt tail_tag 0 0 tag_place → ⊥
@@ -62,15 +62,15 @@ other_type =
       callees = [];
       types = (0, I64) ∷ (1, I32) ∷ [];
       blocks =
-        record {
-          number = 0;
-          params = 0 ∷ [];
-          lines =
-            record { inst = Plain (Pure Iadd (0 ∷ 0 ∷ [])); ty = Some I32; results = 1 ∷ []; tags = [] } ∷
-            record { inst = Return (0 ∷ []); ty = None; results = []; tags = [] } ∷
-            [];
-        } ∷
-        [];
+          record {
+            number = 0;
+            params = 0 ∷ [];
+            lines =
+                record { inst = Plain (Pure Iadd (0 ∷ 0 ∷ [])); ty = Some I32; results = 1 ∷ []; tags = [] } ∷
+                record { inst = Return (0 ∷ []); ty = None; results = []; tags = [] } ∷
+                [];
+          } ∷
+          [];
     }
 
 other_type_refused : KeptAt other_type 0 0 type_mismatch → ⊥
@@ -88,15 +88,15 @@ two_results =
       callees = [];
       types = (0, I64) ∷ (1, I64) ∷ (2, I8) ∷ [];
       blocks =
-        record {
-          number = 0;
-          params = 0 ∷ [];
-          lines =
-            record { inst = Plain (Pure Iadd (0 ∷ 0 ∷ [])); ty = Some I64; results = 1 ∷ 2 ∷ []; tags = [] } ∷
-            record { inst = Return (0 ∷ []); ty = None; results = []; tags = [] } ∷
-            [];
-        } ∷
-        [];
+          record {
+            number = 0;
+            params = 0 ∷ [];
+            lines =
+                record { inst = Plain (Pure Iadd (0 ∷ 0 ∷ [])); ty = Some I64; results = 1 ∷ 2 ∷ []; tags = [] } ∷
+                record { inst = Return (0 ∷ []); ty = None; results = []; tags = [] } ∷
+                [];
+          } ∷
+          [];
     }
 
 two_results_refused : KeptAt two_results 0 0 count_mismatch → ⊥
@@ -114,15 +114,15 @@ too_soon =
       callees = [];
       types = (0, I64) ∷ [];
       blocks =
-        record {
-          number = 0;
-          params = 0 ∷ [];
-          lines =
-            record { inst = Plain (Trap (code.User 1)); ty = None; results = []; tags = [] } ∷
-            record { inst = Return (0 ∷ []); ty = None; results = []; tags = [] } ∷
-            [];
-        } ∷
-        [];
+          record {
+            number = 0;
+            params = 0 ∷ [];
+            lines =
+                record { inst = Plain (Trap (code.User 1)); ty = None; results = []; tags = [] } ∷
+                record { inst = Return (0 ∷ []); ty = None; results = []; tags = [] } ∷
+                [];
+          } ∷
+          [];
     }
 
 too_soon_refused : KeptAt too_soon 0 0 no_terminator → ⊥
@@ -140,14 +140,14 @@ to_entry =
       callees = [];
       types = [];
       blocks =
-        record {
-          number = 0;
-          params = [];
-          lines =
-            record { inst = Branches (Jump (record { block = 0; args = [] })); ty = None; results = []; tags = [] } ∷
-            [];
-        } ∷
-        [];
+          record {
+            number = 0;
+            params = [];
+            lines =
+                record { inst = Branches (Jump (record { block = 0; args = [] })); ty = None; results = []; tags = [] } ∷
+                [];
+          } ∷
+          [];
     }
 
 to_entry_refused : KeptAt to_entry 0 0 entry_target → ⊥
@@ -165,15 +165,15 @@ beyond_slot =
       callees = [];
       types = (0, I64) ∷ [];
       blocks =
-        record {
-          number = 0;
-          params = [];
-          lines =
-            record { inst = Plain (StackLoad I64 0 (pos 0)); ty = None; results = 0 ∷ []; tags = [] } ∷
-            record { inst = Return []; ty = None; results = []; tags = [] } ∷
-            [];
-        } ∷
-        [];
+          record {
+            number = 0;
+            params = [];
+            lines =
+                record { inst = Plain (StackLoad I64 0 (pos 0)); ty = None; results = 0 ∷ []; tags = [] } ∷
+                record { inst = Return []; ty = None; results = []; tags = [] } ∷
+                [];
+          } ∷
+          [];
     }
 
 beyond_slot_refused : KeptAt beyond_slot 0 0 slot_range → ⊥
@@ -191,14 +191,14 @@ fast_tail =
       callees = declares h 0 ∷ [];
       types = [];
       blocks =
-        record {
-          number = 0;
-          params = [];
-          lines =
-            record { inst = ReturnCall (Direct 0) []; ty = None; results = []; tags = [] } ∷
-            [];
-        } ∷
-        [];
+          record {
+            number = 0;
+            params = [];
+            lines =
+                record { inst = ReturnCall (Direct 0) []; ty = None; results = []; tags = [] } ∷
+                [];
+          } ∷
+          [];
     }
 
 fast_tail_refused : KeptAt fast_tail 0 0 convention → ⊥
@@ -216,16 +216,16 @@ wide_division =
       callees = [];
       types = (0, I64) ∷ (1, I64) ∷ (2, I128) ∷ (3, I128) ∷ [];
       blocks =
-        record {
-          number = 0;
-          params = 0 ∷ 1 ∷ [];
-          lines =
-            record { inst = Plain (Pure Iconcat (0 ∷ 1 ∷ [])); ty = Some I64; results = 2 ∷ []; tags = [] } ∷
-            record { inst = Plain (Pure Udiv (2 ∷ 2 ∷ [])); ty = Some I128; results = 3 ∷ []; tags = [] } ∷
-            record { inst = Return (0 ∷ []); ty = None; results = []; tags = [] } ∷
-            [];
-        } ∷
-        [];
+          record {
+            number = 0;
+            params = 0 ∷ 1 ∷ [];
+            lines =
+                record { inst = Plain (Pure Iconcat (0 ∷ 1 ∷ [])); ty = Some I64; results = 2 ∷ []; tags = [] } ∷
+                record { inst = Plain (Pure Udiv (2 ∷ 2 ∷ [])); ty = Some I128; results = 3 ∷ []; tags = [] } ∷
+                record { inst = Return (0 ∷ []); ty = None; results = []; tags = [] } ∷
+                [];
+          } ∷
+          [];
     }
 
 wide_division_refused : KeptAt wide_division 0 1 type_mismatch → ⊥
@@ -243,15 +243,15 @@ wide_constant =
       callees = [];
       types = (0, I64) ∷ (1, I128) ∷ [];
       blocks =
-        record {
-          number = 0;
-          params = 0 ∷ [];
-          lines =
-            record { inst = Plain (Const (record { width = W128; value = 1 })); ty = None; results = 1 ∷ []; tags = [] } ∷
-            record { inst = Return (0 ∷ []); ty = None; results = []; tags = [] } ∷
-            [];
-        } ∷
-        [];
+          record {
+            number = 0;
+            params = 0 ∷ [];
+            lines =
+                record { inst = Plain (Const (record { width = W128; value = 1 })); ty = None; results = 1 ∷ []; tags = [] } ∷
+                record { inst = Return (0 ∷ []); ty = None; results = []; tags = [] } ∷
+                [];
+          } ∷
+          [];
     }
 
 wide_constant_refused : KeptAt wide_constant 0 0 type_mismatch → ⊥
@@ -269,16 +269,16 @@ wide_store =
       callees = [];
       types = (0, I64) ∷ (1, I128) ∷ [];
       blocks =
-        record {
-          number = 0;
-          params = 0 ∷ [];
-          lines =
-            record { inst = Plain (Pure Iconcat (0 ∷ 0 ∷ [])); ty = Some I64; results = 1 ∷ []; tags = [] } ∷
-            record { inst = Plain (StackStore 1 0 (pos 0)); ty = Some I128; results = []; tags = [] } ∷
-            record { inst = Return (0 ∷ []); ty = None; results = []; tags = [] } ∷
-            [];
-        } ∷
-        [];
+          record {
+            number = 0;
+            params = 0 ∷ [];
+            lines =
+                record { inst = Plain (Pure Iconcat (0 ∷ 0 ∷ [])); ty = Some I64; results = 1 ∷ []; tags = [] } ∷
+                record { inst = Plain (StackStore 1 0 (pos 0)); ty = Some I128; results = []; tags = [] } ∷
+                record { inst = Return (0 ∷ []); ty = None; results = []; tags = [] } ∷
+                [];
+          } ∷
+          [];
     }
 
 wide_store_refused : KeptAt wide_store 0 1 slot_range → ⊥
@@ -296,14 +296,14 @@ other_signature =
       callees = declares f 0 ∷ [];
       types = [];
       blocks =
-        record {
-          number = 0;
-          params = [];
-          lines =
-            record { inst = Return []; ty = None; results = []; tags = [] } ∷
-            [];
-        } ∷
-        [];
+          record {
+            number = 0;
+            params = [];
+            lines =
+                record { inst = Return []; ty = None; results = []; tags = [] } ∷
+                [];
+          } ∷
+          [];
     }
 
 other_signature_refused : Declared (other_signature ∷ []) other_signature (declares f 0) → ⊥
@@ -324,29 +324,29 @@ by_text =
       callees = [];
       types = (0, I8) ∷ (1, I32) ∷ [];
       blocks =
-        record {
-          number = 0;
-          params = 0 ∷ [];
-          lines =
-            record { inst = Branches (Brif 0 (record { block = 1; args = [] }) (record { block = 2; args = [] })); ty = Some I8; results = []; tags = [] } ∷
-            [];
-        } ∷
-        record {
-          number = 1;
-          params = [];
-          lines =
-            record { inst = Plain (Const (record { width = W32; value = 1 })); ty = None; results = 1 ∷ []; tags = [] } ∷
-            record { inst = Branches (Jump (record { block = 2; args = [] })); ty = None; results = []; tags = [] } ∷
-            [];
-        } ∷
-        record {
-          number = 2;
-          params = [];
-          lines =
-            record { inst = Return (1 ∷ []); ty = None; results = []; tags = [] } ∷
-            [];
-        } ∷
-        [];
+          record {
+            number = 0;
+            params = 0 ∷ [];
+            lines =
+                record { inst = Branches (Brif 0 (record { block = 1; args = [] }) (record { block = 2; args = [] })); ty = Some I8; results = []; tags = [] } ∷
+                [];
+          } ∷
+          record {
+            number = 1;
+            params = [];
+            lines =
+                record { inst = Plain (Const (record { width = W32; value = 1 })); ty = None; results = 1 ∷ []; tags = [] } ∷
+                record { inst = Branches (Jump (record { block = 2; args = [] })); ty = None; results = []; tags = [] } ∷
+                [];
+          } ∷
+          record {
+            number = 2;
+            params = [];
+            lines =
+                record { inst = Return (1 ∷ []); ty = None; results = []; tags = [] } ∷
+                [];
+          } ∷
+          [];
     }
 
 by_text_path : Reach by_text 2 0 (0 ∷ [])
@@ -366,37 +366,37 @@ no_path =
       callees = [];
       types = (0, I8) ∷ (1, I32) ∷ (2, I32) ∷ [];
       blocks =
-        record {
-          number = 0;
-          params = 0 ∷ [];
-          lines =
-            record { inst = Branches (Brif 0 (record { block = 1; args = [] }) (record { block = 2; args = [] })); ty = Some I8; results = []; tags = [] } ∷
-            [];
-        } ∷
-        record {
-          number = 1;
-          params = [];
-          lines =
-            record { inst = Plain (Const (record { width = W32; value = 1 })); ty = None; results = 1 ∷ []; tags = [] } ∷
-            record { inst = Branches (Jump (record { block = 2; args = [] })); ty = None; results = []; tags = [] } ∷
-            [];
-        } ∷
-        record {
-          number = 2;
-          params = [];
-          lines =
-            record { inst = Plain (Const (record { width = W32; value = 2 })); ty = None; results = 2 ∷ []; tags = [] } ∷
-            record { inst = Return (2 ∷ []); ty = None; results = []; tags = [] } ∷
-            [];
-        } ∷
-        record {
-          number = 3;
-          params = [];
-          lines =
-            record { inst = Return (1 ∷ []); ty = None; results = []; tags = [] } ∷
-            [];
-        } ∷
-        [];
+          record {
+            number = 0;
+            params = 0 ∷ [];
+            lines =
+                record { inst = Branches (Brif 0 (record { block = 1; args = [] }) (record { block = 2; args = [] })); ty = Some I8; results = []; tags = [] } ∷
+                [];
+          } ∷
+          record {
+            number = 1;
+            params = [];
+            lines =
+                record { inst = Plain (Const (record { width = W32; value = 1 })); ty = None; results = 1 ∷ []; tags = [] } ∷
+                record { inst = Branches (Jump (record { block = 2; args = [] })); ty = None; results = []; tags = [] } ∷
+                [];
+          } ∷
+          record {
+            number = 2;
+            params = [];
+            lines =
+                record { inst = Plain (Const (record { width = W32; value = 2 })); ty = None; results = 2 ∷ []; tags = [] } ∷
+                record { inst = Return (2 ∷ []); ty = None; results = []; tags = [] } ∷
+                [];
+          } ∷
+          record {
+            number = 3;
+            params = [];
+            lines =
+                record { inst = Return (1 ∷ []); ty = None; results = []; tags = [] } ∷
+                [];
+          } ∷
+          [];
     }
 
 abbrev NotThird : List BlockCall → Type 0

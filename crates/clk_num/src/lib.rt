@@ -1,12 +1,21 @@
 //! The operations of CLIF on bits: types of 8 to 128 bits, their values, and what each opcode gives.
 #![tactic(auto)]
 
+mod arithmetic;
 mod bits;
-mod eval;
+mod bitwise;
+mod conversions;
+mod division;
+mod law;
 mod op;
+mod operations;
+mod rows;
+mod shifts;
 mod width;
 
 pub use bits::Bits;
-pub use eval::Evaled;
+pub use law::{result_types, worked_examples};
 pub use op::{Cc, Op, TrapCode};
+pub use operations::{Evaled, eval};
+pub use rows::fits;
 pub use width::Width;

@@ -4,3 +4,6 @@ pub mod Operations
 pub mod Tails
 pub mod Throws
 pub mod Written
+pub mod SafetyTypes
+pub mod Equal
+pub mod SafetyPlaces

@@ -7,3 +7,4 @@ pub mod Written
 pub mod SafetyTypes
 pub mod Equal
 pub mod SafetyPlaces
+pub mod SafetyStands

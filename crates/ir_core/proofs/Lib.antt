@@ -5,6 +5,7 @@ pub mod Tails
 pub mod Throws
 pub mod Written
 pub mod SafetyTypes
-pub mod Equal
 pub mod SafetyPlaces
 pub mod SafetyStands
+pub mod SafetySteps
+pub mod SafetyRuns

@@ -149,7 +149,7 @@ no_values_fit f [] h = tt
 no_values_fit f (v ∷ vs) h = absurd (omega arith)
 
 -- a row's results
-width_ty : (w : Width) → width_of (ty_of w) ≡ w
+pub width_ty : (w : Width) → width_of (ty_of w) ≡ w
 width_ty W8 = refl
 width_ty W16 = refl
 width_ty W32 = refl

@@ -8,6 +8,8 @@ pub mod Lookup
 pub mod Machine
 pub mod Module
 pub mod Names
+pub mod Numbering
+pub mod Pieces
 pub mod Renaming
 pub mod Runs
 pub mod Same
@@ -16,8 +18,10 @@ pub mod Site
 pub mod Size
 pub mod Splice
 pub mod Step
+pub mod Text
 pub mod Uses
 pub mod Values
 pub mod Viewed
 pub mod Whole
+pub mod Words
 pub mod Writable

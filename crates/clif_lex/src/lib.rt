@@ -3,13 +3,16 @@
 
 mod bytes;
 mod faults;
+pub mod laws;
 mod lexing;
 mod numbers;
 mod places;
 mod spans;
+#[cfg(test)]
+mod tests;
 
 pub use faults::{LexErr, Place, TextErr, TextKind};
 pub use lexing::tokens;
 pub use numbers::number;
 pub use places::place;
-pub use spans::{Token, TokenKind, Tokens, spelling};
+pub use spans::{Token, TokenIter, TokenKind, Tokens, spelling};

@@ -10,7 +10,7 @@ use Rattle.ir_core.specs.Names.{mentioned, names}
 use Rattle.ir_core.specs.Import.{with_item, with_items, callees_with, callees_after, same_callee, sigs_after}
 use Rattle.ir_core.specs.Splice.{replace}
 use Rattle.inline_body.proofs.Local.{some_same}
-use Rattle.inline_body.proofs.Equal.{name_equal, equal_name}
+use Rattle.ir_core.proofs.Equal.{name_equal, equal_name}
 use Rattle.inline_body.proofs.Ordering.{Within, in_order_same}
 
 pub function_hit : (x : FuncName) (h : Function) (hs : Module) → h.name ≡ x → find_function x (h ∷ hs) ≡ Some h

@@ -7,10 +7,9 @@ pub mod Effects
 pub mod Stepping
 pub mod Runs
 pub mod Places
-pub mod Equal
 pub mod Merging
 pub mod Ordering
 pub mod Functions
 pub mod Linking
-pub mod Laws
 pub mod Numbering
+pub mod Laws

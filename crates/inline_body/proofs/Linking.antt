@@ -21,7 +21,7 @@ use Rattle.inline_body.proofs.Related.{Distinct, RestF, RestG, RestOf}
 use Rattle.inline_body.proofs.Stepping.{LinkOf, Linked, Starts, inlined, renamed}
 use Rattle.inline_body.proofs.Runs.{SameRuns, same_runs}
 use Rattle.inline_body.proofs.Places.{after_cut, append_none, append_some, f_found, find_hit, found_name, g_found, g_off, new_found, piece_rest}
-use Rattle.inline_body.proofs.Equal.{equal_name}
+use Rattle.ir_core.proofs.Equal.{equal_name}
 use Rattle.inline_body.proofs.Merging.{other_callee, other_sig, own_callee, own_sig}
 use Rattle.inline_body.proofs.Functions.{cases_named, names_stay, others_stay, replaced}
 

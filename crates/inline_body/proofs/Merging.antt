@@ -9,7 +9,7 @@ use Rattle.ir_core.specs.Signatures.{same_sig}
 use Rattle.ir_core.specs.Lookup.{same_name}
 use Rattle.ir_core.specs.Import.{same_bool, with_item, with_items, first_place, new_place, same_sigs, same_callee, sigs_after, sig_after, callee_with, callees_with, callees_after, callee_after}
 use Rattle.inline_body.proofs.Local.{some_same}
-use Rattle.inline_body.proofs.Equal.{both_true, true_both, name_equal, name_same, sig_equal, sig_same}
+use Rattle.ir_core.proofs.Equal.{both_true, true_both, name_equal, name_same, sig_equal, sig_same}
 
 -- an item of the list that is the same as x
 pub record Has {A : Type 0} (same : A → A → Bool) (ys : List A) (x : A) : Type 0 where

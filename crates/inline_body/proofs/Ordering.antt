@@ -7,7 +7,7 @@ use Rattle.ir_core.specs.declared.names.FuncName.{FuncName}
 use Rattle.ir_core.specs.declared.names.FuncName.TheVariants as name
 use Rattle.ir_core.specs.Lookup.{In, same_name}
 use Rattle.ir_core.specs.Names.{bytes_before, name_before, with_name, in_order}
-use Rattle.inline_body.proofs.Equal.{both_true, true_both, number_equal, name_equal, equal_name}
+use Rattle.ir_core.proofs.Equal.{both_true, true_both, number_equal, name_equal, equal_name}
 
 -- the order of words, as a relation
 

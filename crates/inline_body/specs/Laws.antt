@@ -7,7 +7,9 @@ use Rattle.ir_core.specs.Module.{Module}
 use Rattle.ir_core.specs.Machine.{World}
 use Rattle.ir_core.specs.Splice.{Splicing, sides, spliced, replace}
 use Rattle.ir_core.specs.Site.{Site}
-use Rattle.ir_core.specs.Same.{Safe, Written, Forth, ForthWithinDouble, Back}
+use Rattle.ir_core.specs.Same.{Safe, Written, Forth, ForthWithinDouble, Back, Same, SameWithinDouble}
+use Rattle.ir_core.specs.Whole.{IsModule}
+use Rattle.ir_core.specs.Accepted.{Accepted}
 use Rattle.ir_core.specs.Canon.{SameUpToNumbering}
 
 -- every run of m that lacks nothing and reads no unwritten byte is one of r, and the other way round
@@ -26,3 +28,11 @@ SpliceKeepsRuns = (m : Module) (p : Splicing) → p.naming ≡ sides → Site m 
 -- modules that are the same up to numbering
 abbrev pub NumberingKeepsRuns : Type 0
 NumberingKeepsRuns = (m r : Module) → SameUpToNumbering m r → RunsKept m r
+
+-- ---- the same of accepted modules and entry calls
+
+abbrev pub SpliceKeeps : Type 0
+SpliceKeeps = (m : Module) → IsModule m → Accepted m → (p : Splicing) → p.naming ≡ sides → Site m p → SameWithinDouble m (replace (spliced p) m)
+
+abbrev pub NumberingKeeps : Type 0
+NumberingKeeps = (m r : Module) → IsModule m → Accepted m → SameUpToNumbering m r → Same m r

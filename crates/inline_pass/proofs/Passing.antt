@@ -7,18 +7,20 @@ use Rattle.ir_core.specs.Module.{Line, Block, Function, Module}
 use Rattle.ir_core.specs.Lookup.{and_then, same_name, find_block, find_function}
 use Rattle.ir_core.specs.Splice.{Splicing, spliced, sides, splice_with, replace}
 use Rattle.ir_core.specs.Site.{callee_of, Site}
+use Rattle.ir_core.specs.Kept.{NeverStuck}
 use Rattle.call_graph.specs.Reach.{reaches, one_piece, apart}
 use Rattle.inline_body.specs.Laws.{RunsKept}
 use Rattle.inline_body.proofs.Local.{some_same}
-use Rattle.inline_body.proofs.Equal.{equal_name}
+use Rattle.ir_core.proofs.Equal.{equal_name}
 use Rattle.inline_body.proofs.Functions.{function_hit, function_skip, function_name, cases_named, replaced, others_stay}
 use Rattle.inline_body.proofs.Linking.{distinct_sides, splice_runs}
 use Rattle.inline_body.proofs.Numbering.{runs_kept, kept_on}
+use Rattle.inline_body.proofs.Laws.{same_of}
 use Rattle.inline_pass.specs.Policy.{Policy, takes}
 use Rattle.inline_pass.specs.Sites.{Place, own_sites, moved, called}
 use Rattle.inline_pass.specs.Finished.{inline_by, body_of}
-use Rattle.inline_pass.specs.Pass.{finish, pass_by}
-use Rattle.inline_pass.specs.Laws.{PassKeepsRuns}
+use Rattle.inline_pass.specs.Pass.{finish, pass_by, pass}
+use Rattle.inline_pass.specs.Laws.{PassKeepsRuns, PassKeeps}
 
 -- what an optional step found
 then_some : {A B : Type 0} (o : Option A) (go : A → Option B) (b : B) → and_then o go ≡ Some b → (a : A) × (o ≡ Some a) × (go a ≡ Some b)
@@ -161,3 +163,6 @@ pass_kept p pieces m0 (x ∷ xs) m ch = by (find_function x m) refl (λ c. pass_
 
 pub pass_keeps_runs : PassKeepsRuns
 pass_keeps_runs p order m = pass_kept p m m order m (λ entry args w safe written. ((λ n. (n, omega arith, refl)), (λ k. (k, omega arith, refl))))
+
+pub pass_keeps : NeverStuck → PassKeeps
+pass_keeps never p order m whole accepted = same_of never m (pass p order m) whole accepted (pass_keeps_runs p order m)

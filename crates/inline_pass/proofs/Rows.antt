@@ -1,5 +1,5 @@
 -- Worked examples of sizes, policies and the pass.
-use Rattle.std.specs.Prelude.{◌≡◌, List, [], ◌∷◌, map, Option, Some, None}
+use Rattle.std.specs.Prelude.{◌≡◌, [], ◌∷◌, map, None}
 use Rattle.std.proofs.Common.{refl}
 use Rattle.clk_num.specs.declared.width.Width.TheVariants.{W32}
 use Rattle.ir_core.specs.declared.names.FuncName.{FuncName}
@@ -13,7 +13,7 @@ use Rattle.ir_core.specs.Splice.{sides, splice_with}
 use Rattle.ir_core.specs.Canon.{canonical}
 use Rattle.ir_core.specs.Size.{size_of}
 use Rattle.ir_core.proofs.Written.{signature, declares, f, g}
-use Rattle.inline_pass.specs.Finished.{finished, passed}
+use Rattle.inline_pass.specs.Finished.{passed}
 use Rattle.inline_pass.specs.Pass.{pass}
 
 abbrev a : FuncName

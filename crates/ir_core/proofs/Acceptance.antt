@@ -1,22 +1,21 @@
 -- Worked examples: which rule of acceptance refuses a line, and which values are available.
-use Rattle.std.specs.Prelude.{◌≡◌, ◌≢◌, ◌⊎◌, ⊤, ℕ, zero, suc, pos, Bool, nat_eq, length, if◌then◌else◌, List, [], ◌∷◌, Option, Some, None, false, true, IsSomeAnd, slice_get}
+use Rattle.std.specs.Prelude.{◌≡◌, ◌≢◌, ℕ, zero, suc, pos, Bool, nat_eq, length, if◌then◌else◌, List, [], ◌∷◌, Option, Some, None, false, true, IsSomeAnd, slice_get}
 use Rattle.std.proofs.Common.{refl, inl, inr, sym, ap, ◌∙◌, subst}
-use Rattle.clk_num.specs.declared.width.Width.TheVariants.{W8, W32, W64, W128}
-use Rattle.clk_num.specs.declared.op.Op.TheVariants.{Iadd, Udiv, Iconcat, Isplit}
+use Rattle.clk_num.specs.declared.width.Width.TheVariants.{W32, W128}
+use Rattle.clk_num.specs.declared.op.Op.TheVariants.{Iadd, Udiv, Iconcat}
 use Rattle.clk_num.specs.declared.op.TrapCode.TheVariants as code
 use Rattle.clk_num.specs.Rows.{row}
-use Rattle.debug_tags.specs.declared.tags.Tag.TheVariants.{Slot, User}
+use Rattle.debug_tags.specs.declared.tags.Tag.TheVariants.{Slot}
 use Rattle.ir_core.specs.declared.signatures.Ty.TheVariants.{I8, I32, I64, I128}
 use Rattle.ir_core.specs.declared.signatures.Conv.TheVariants.{Fast, Tail}
-use Rattle.ir_core.specs.declared.instructions.Arg.TheVariants.{Value}
-use Rattle.ir_core.specs.Module.{Const, Pure, StackLoad, StackStore, Trap, Jump, Brif, Direct, Plain, Branches, Return, ReturnCall, Line, Block, Function, Module}
+use Rattle.ir_core.specs.Module.{Const, Pure, StackLoad, StackStore, Trap, Jump, Brif, Direct, Plain, Branches, Return, ReturnCall, Line, Block, Function}
 use Rattle.ir_core.specs.declared.signatures.Sig.{Sig}
 use Rattle.ir_core.specs.declared.instructions.BlockCall.{BlockCall}
 use Rattle.ir_core.specs.Splice.{first_number}
 use Rattle.ir_core.specs.Uses.{targets}
-use Rattle.ir_core.specs.Lookup.{In, Each, find_block, find_function}
+use Rattle.ir_core.specs.Lookup.{In, Each, find_block}
 use Rattle.ir_core.specs.Available.{Reach, begin, next, branch, Available}
-use Rattle.ir_core.specs.Accepted.{Rule, no_terminator, entry_target, count_mismatch, type_mismatch, convention, signature_mismatch, slot_range, tag_place, not_available, KeptAtLine, Declared}
+use Rattle.ir_core.specs.Accepted.{Rule, no_terminator, entry_target, count_mismatch, type_mismatch, convention, signature_mismatch, slot_range, tag_place, KeptAtLine, Declared}
 use Rattle.ir_core.proofs.Written.{signature, slot, declares, f, h}
 
 -- a rule holds at a line of a block

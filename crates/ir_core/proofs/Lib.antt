@@ -1,4 +1,5 @@
 pub mod Acceptance
+pub mod Equal
 pub mod Loops
 pub mod Operations
 pub mod Tails

@@ -1,6 +1,6 @@
 -- What a whole function has, where it is used: its lines, declared types, declarations, and addresses of names.
-use Rattle.std.proofs.Common.{◌≡◌, ℕ, zero, suc, ◌+◌, ◌<◌, ◌⊎◌, inl, inr, List, [], ◌∷◌, ◌++◌, length, map, Option, Some, None, Bool, true, false, ◌||◌, refl, sym, ap, ◌∙◌, subst, arith, eq-eqb, ne_eqb}
-use Rattle.std.specs.Prelude.{⊤, IsSome, IsSomeAnd, slice_get, if◌then◌else◌}
+use Rattle.std.proofs.Common.{◌≡◌, ℕ, zero, suc, ◌<◌, inl, inr, List, [], ◌∷◌, ◌++◌, length, map, Option, Some, None, Bool, true, false, refl, sym, ap, ◌∙◌, subst, arith, eq-eqb, ne_eqb}
+use Rattle.std.specs.Prelude.{IsSome, IsSomeAnd, slice_get, if◌then◌else◌}
 use Rattle.std.specs.List.{list_any}
 use Rattle.std.proofs.lemmas.Bool.{cases_eq}
 use Rattle.debug_tags.specs.declared.tags.Tag.{Tag}
@@ -16,7 +16,7 @@ use Rattle.ir_core.specs.Names.{name_before, with_name, in_order, mentioned, nam
 use Rattle.ir_core.specs.Values.{cons_some}
 use Rattle.ir_core.specs.Step.{numbers}
 use Rattle.ir_core.specs.Uses.{arg_values_used, targets_used}
-use Rattle.ir_core.specs.Whole.{declared, LineWhole, BlockWhole, Whole, IsModule}
+use Rattle.ir_core.specs.Whole.{declared, LineWhole, BlockWhole, Whole}
 use Rattle.ir_core.specs.Accepted.{types_of}
 use Rattle.ir_core.proofs.Equal.{cases_name, equal_name, name_equal}
 use Rattle.ir_core.proofs.SafetyTypes.{some_same, EachSome}

@@ -1,16 +1,13 @@
 -- An accepted module never gets stuck.
-use Rattle.std.proofs.Common.{◌≡◌, ◌≢◌, ℕ, zero, suc, List, [], ◌∷◌, Option, Some, refl, sym, ap, subst}
-use Rattle.ir_core.specs.declared.names.FuncName.{FuncName}
-use Rattle.clk_num.specs.Operations.{DataValue}
-use Rattle.ir_core.specs.Module.{Line, Function, Module}
+use Rattle.std.proofs.Common.{◌≢◌, ℕ, zero, suc, List, [], sym, subst}
+use Rattle.ir_core.specs.Module.{Function, Module}
 use Rattle.ir_core.specs.Lookup.{In, find_function, param_types}
-use Rattle.ir_core.specs.Machine.{Frame, Wait, World, End, Stuck, Moment, On, Over}
+use Rattle.ir_core.specs.Machine.{Frame, Wait, World, Stuck, Moment, On, Over}
 use Rattle.ir_core.specs.Step.{step, step_at}
-use Rattle.ir_core.specs.Runs.{run, first, IsEntry}
+use Rattle.ir_core.specs.Runs.{run, first}
 use Rattle.ir_core.specs.Whole.{Whole, IsModule}
 use Rattle.ir_core.specs.Accepted.{Accepted}
-use Rattle.ir_core.specs.Same.{Safe}
-use Rattle.ir_core.specs.Laws.{AcceptedNeverSticks}
+use Rattle.ir_core.specs.Kept.{NeverStuck}
 use Rattle.ir_core.proofs.SafetyTypes.{entry_values_fit}
 use Rattle.ir_core.proofs.SafetyPlaces.{each_in, function_in, from_get}
 use Rattle.ir_core.proofs.SafetyStands.{NotStuck, Good, Stands, SafeMoment, begin_safe}
@@ -31,7 +28,7 @@ module _ (m : Module) (good : (f : Function) → In f m → Good m f) where
   run_safe zero (On x s w) safe = λ q. cc
   run_safe (suc n) (On x s w) safe = run_safe n (step m x s w) (step_safe x s w safe)
 
-pub accepted_never_sticks : AcceptedNeverSticks
+pub accepted_never_sticks : NeverStuck
 accepted_never_sticks m is accepted entry args w e n =
     let f : Function = e.0 in
     let s0 = begin_safe m f (goods m is accepted f (function_in entry m f e.1)) args [] (entry_values_fit (param_types f.sig.params) args e.2) [] tt w in

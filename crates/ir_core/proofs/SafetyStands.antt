@@ -1,7 +1,7 @@
 -- Where the frames of a run of an accepted module stand: each at a line to which a path leads, with a value of its type for
 -- every definition that the path passed; those below wait for values of the types that the frame above returns.
-use Rattle.std.proofs.Common.{◌≡◌, ◌≢◌, ℕ, zero, suc, inl, inr, List, [], ◌∷◌, ◌++◌, length, map, Option, Some, None, Bool, true, false, refl, sym, ap, ◌∙◌, subst}
-use Rattle.std.specs.Prelude.{⊤, IsSomeAnd, slice_get, if◌then◌else◌}
+use Rattle.std.proofs.Common.{◌≡◌, ◌≢◌, ℕ, suc, inl, inr, List, [], ◌∷◌, ◌++◌, map, Option, Some, None, Bool, true, false, refl, sym, ap, ◌∙◌, subst}
+use Rattle.std.specs.Prelude.{⊤, slice_get, if◌then◌else◌}
 use Rattle.clk_num.specs.Operations.{DataValue}
 use Rattle.exn_tables.specs.declared.table.Entry.{Entry}
 use Rattle.exn_tables.specs.Table.{takes}
@@ -20,8 +20,8 @@ use Rattle.ir_core.specs.Effect.{arg_values}
 use Rattle.ir_core.specs.Step.{must, with_event, enter, enter_target, give_to, resume, table_of, Search, Missed, Hit, search_in, throw, frame_at, begin as begun}
 use Rattle.ir_core.specs.Splice.{first_number}
 use Rattle.ir_core.specs.Whole.{Whole}
-use Rattle.ir_core.specs.Accepted.{EndsRightly, types_of, each_some, arg_type, HaveTypes, TargetTypes, InstructionTypes, Rule, no_terminator, count_mismatch, type_mismatch, not_available, KeptAtLine, FunctionAccepted}
-use Rattle.ir_core.proofs.SafetyTypes.{some_same, Is, Has, FitAll, Typed, Bound, bind_ok, There, EachSome, args_there}
+use Rattle.ir_core.specs.Accepted.{EndsRightly, types_of, each_some, arg_type, HaveTypes, TargetTypes, InstructionTypes, Rule, no_terminator, type_mismatch, not_available, KeptAtLine, FunctionAccepted}
+use Rattle.ir_core.proofs.SafetyTypes.{some_same, Has, FitAll, Typed, bind_ok, There, args_there}
 use Rattle.ir_core.proofs.SafetyPlaces.{each_in, in_left, in_right, in_targets, some_and, find_first, params_known, From}
 
 abbrev pub NotStuck : End → Type 0

@@ -1,6 +1,6 @@
 -- A step of an accepted module goes on or ends rightly: what each instruction does, what calls find, what hosts reply.
 use Rattle.std.proofs.Common.{◌≡◌, ℕ, zero, suc, ◌<◌, inl, inr, List, [], ◌∷◌, ◌++◌, length, map, Option, Some, None, Bool, true, false, refl, sym, ap, ◌∙◌, subst, arith}
-use Rattle.std.specs.Prelude.{⊤, ℤ, IsSome, IsSomeAnd, slice_get, if◌then◌else◌}
+use Rattle.std.specs.Prelude.{⊤, IsSome, IsSomeAnd, slice_get, if◌then◌else◌}
 use Rattle.clk_num.specs.declared.op.Op.{Op}
 use Rattle.clk_num.specs.declared.width.Width.{Width}
 use Rattle.clk_num.specs.declared.op.TrapCode.TheVariants.{HeapOob}
@@ -18,19 +18,18 @@ use Rattle.ir_core.specs.declared.instructions.BlockCall.{BlockCall}
 use Rattle.ir_core.specs.declared.instructions.Access.{Access}
 use Rattle.ir_core.specs.declared.instructions.Access.TheVariants.{Full, Uload, Sload}
 use Rattle.ir_core.specs.Module.{Simple, Nop, Const, Pure, PureImm, Load, Store, StackLoad, StackStore, FuncAddr, Trap, Trapz, Trapnz, Branch, Jump, Brif, BrTable, CallTarget, Direct, Indirect, Instruction, Plain, Branches, SequencePoint, Return, Call, ReturnCall, TryCall, Line, Block, Function, Module}
-use Rattle.ir_core.specs.Lookup.{and_then, In, Each, find_function, find_block, type_of, signature_number, signature_of, param_types, width_of, ty_of}
+use Rattle.ir_core.specs.Lookup.{and_then, In, Each, find_function, type_of, signature_number, signature_of, param_types, width_of, ty_of}
 use Rattle.ir_core.specs.Names.{names, name_at, address_of}
 use Rattle.ir_core.specs.Signatures.{same_sig}
 use Rattle.ir_core.specs.Uses.{targets, table_targets, operands, simple_used, called_used, callees_used, simple_callees}
 use Rattle.ir_core.specs.Values.{Slots, Memory, all_of, i64, bytes_in, number_of, bytes_of, bytes_from, put_bytes, slot_place, memory_read, memory_write, address_at, by_endian, bytes_read, loaded, bytes_stored, values_for}
 use Rattle.ir_core.specs.Available.{terminates, next}
-use Rattle.ir_core.specs.Machine.{Frame, Wait, Shown, Host, Point, HostAct, Returns, HostTraps, Throws, Reply, World, End, Trapped, Unwritten, BadReply, Stuck, Moment, On, Over}
-use Rattle.ir_core.specs.Effect.{Called, ByName, ByAddress, Effect, Go, Enter, Give, ShowTags, Do, Stop, need, arg_values, evaluated, choose, simple, go_to, target_at, branch, called, calls, effect}
+use Rattle.ir_core.specs.Machine.{Frame, Wait, Shown, Host, Point, HostAct, Returns, HostTraps, Throws, Reply, World, End, Trapped, Unwritten, BadReply, Stuck, On, Over}
+use Rattle.ir_core.specs.Effect.{Called, ByName, ByAddress, Effect, Go, Enter, Give, Do, Stop, need, arg_values, evaluated, choose, simple, go_to, target_at, branch, called, calls, effect}
 use Rattle.ir_core.specs.Step.{with_event, resume, shown, writes_fit, written, answer, reply, Found, Inside, Outside, Nowhere, Missing, by_name, by_address, or_missing, at_name, found, invoke, numbers, act}
-use Rattle.ir_core.specs.Whole.{LineWhole}
-use Rattle.ir_core.specs.Accepted.{each_some, types_of, HaveTypes, TargetTypes, access_type, widths_of_values, OpTypes, SimpleTypes, BranchTypes, CallTypes, InstructionTypes, simple_results, InstructionCounts, SimpleSlot, InstructionSlot, InstructionTags, Declared, count_mismatch, type_mismatch, signature_mismatch, slot_range, tag_place}
+use Rattle.ir_core.specs.Accepted.{each_some, types_of, HaveTypes, TargetTypes, access_type, widths_of_values, OpTypes, SimpleTypes, InstructionTypes, simple_results, InstructionCounts, SimpleSlot, InstructionSlot, InstructionTags, Declared, count_mismatch, signature_mismatch, slot_range, tag_place}
 use Rattle.ir_core.proofs.Equal.{sig_equal}
-use Rattle.ir_core.proofs.SafetyTypes.{some_same, then_some, Is, Has, FitsOne, FitAll, There, all_there, width_ty, no_values_fit, widths_fit, operand_widths, host_values_fit}
+use Rattle.ir_core.proofs.SafetyTypes.{some_same, then_some, Has, FitsOne, FitAll, There, all_there, width_ty, no_values_fit, widths_fit, operand_widths, host_values_fit}
 use Rattle.ir_core.proofs.SafetyPlaces.{each_in, in_left, in_right, get_below, some_and, is_some_is, function_in, line_whole, callee_address, numbers_there, From}
 use Rattle.ir_core.proofs.SafetyStands.{NotStuck, Good, rule_at, Stands, Awaits, SafeBelow, SafeMoment, must_safe, maybe_safe, operands_there, enter_safe, target_values, next_line, next_safe, inst_types, resume_safe, throw_safe, begin_safe}
 

@@ -3,7 +3,7 @@ pub mod Available
 pub mod Canon
 pub mod Effect
 pub mod Import
-pub mod Laws
+pub mod Kept
 pub mod Lookup
 pub mod Machine
 pub mod Module

@@ -93,8 +93,8 @@ module _ (m : Module) (goods : (f : Function) → In f m → Good m f) where
       let c = then_some (slice_get f.callees k) (λ (c : Callee). Some c.sig) n.0 n.1 in
       let get_sig : slice_get f.sigs c.0.sig ≡ Some sig = ap (slice_get f.sigs) (some_same c.2) ∙ n.2 in
       subst (λ o. FoundOk (param_types sig.params) (param_types sig.results) (or_missing o (λ c. or_missing (slice_get f.sigs c.sig) (λ sig. by_name (find_function c.name m) c.name sig)))) (sym c.1)
-        (subst (λ o. FoundOk (param_types sig.params) (param_types sig.results) (or_missing o (λ sig. by_name (find_function c.0.name m) c.0.name sig))) (sym get_sig)
-          (by_name_ok f good k c.0 sig c.1 get_sig (find_function c.0.name m) refl))
+      (subst (λ o. FoundOk (param_types sig.params) (param_types sig.results) (or_missing o (λ sig. by_name (find_function c.0.name m) c.0.name sig))) (sym get_sig)
+      (by_name_ok f good k c.0 sig c.1 get_sig (find_function c.0.name m) refl))
 
   at_name_ok : (sig : Sig) (o : Option FuncName) → FoundOk (param_types sig.params) (param_types sig.results) (at_name m o sig)
   at_name_ok sig None = tt
@@ -161,31 +161,31 @@ module _ (m : Module) (goods : (f : Function) → In f m → Good m f) where
     simple_safe (Load access flags a offset) q types count slot has callees =
         let r = has.at a (inl refl) in
         need_fine (x.env a) Stuck (λ y. need (memory_read w.memory (address_at y.value offset) (bytes_read access)) (Trapped HeapOob) (λ bs. Go (loaded access (number_of (by_endian flags.big bs)) ∷ []) x.slots w.memory)) r.0 r.1
-          (maybe_fine (memory_read w.memory (address_at r.0.value offset) (bytes_read access)) (Trapped HeapOob) (λ bs. Go (loaded access (number_of (by_endian flags.big bs)) ∷ []) x.slots w.memory) tt
-            (λ bs. go_fine (sym q) (loaded access (number_of (by_endian flags.big bs)) ∷ []) x.slots w.memory (one_fits (access_type access) types.4 (loaded access (number_of (by_endian flags.big bs))) (loaded_width access (number_of (by_endian flags.big bs))))))
+        (maybe_fine (memory_read w.memory (address_at r.0.value offset) (bytes_read access)) (Trapped HeapOob) (λ bs. Go (loaded access (number_of (by_endian flags.big bs)) ∷ []) x.slots w.memory) tt
+        (λ bs. go_fine (sym q) (loaded access (number_of (by_endian flags.big bs)) ∷ []) x.slots w.memory (one_fits (access_type access) types.4 (loaded access (number_of (by_endian flags.big bs))) (loaded_width access (number_of (by_endian flags.big bs))))))
     simple_safe (Store narrow flags v a offset) q types count slot has callees =
         let r = has.at v (inl refl) in
         let u = has.at a (inr (inl refl)) in
         need_fine (x.env v) Stuck (λ y. need (x.env a) Stuck (λ z. need (memory_write w.memory (address_at z.value offset) (by_endian flags.big (bytes_of (bytes_stored narrow y.width) y.value))) (Trapped HeapOob) (λ m'. Go [] x.slots m'))) r.0 r.1
-          (need_fine (x.env a) Stuck (λ z. need (memory_write w.memory (address_at z.value offset) (by_endian flags.big (bytes_of (bytes_stored narrow r.0.width) r.0.value))) (Trapped HeapOob) (λ m'. Go [] x.slots m')) u.0 u.1
-            (maybe_fine (memory_write w.memory (address_at u.0.value offset) (by_endian flags.big (bytes_of (bytes_stored narrow r.0.width) r.0.value))) (Trapped HeapOob) (λ m'. Go [] x.slots m') tt (λ m'. go_fine (sym q) [] x.slots m' (no_values_fit x.func l.results count))))
+        (need_fine (x.env a) Stuck (λ z. need (memory_write w.memory (address_at z.value offset) (by_endian flags.big (bytes_of (bytes_stored narrow r.0.width) r.0.value))) (Trapped HeapOob) (λ m'. Go [] x.slots m')) u.0 u.1
+        (maybe_fine (memory_write w.memory (address_at u.0.value offset) (by_endian flags.big (bytes_of (bytes_stored narrow r.0.width) r.0.value))) (Trapped HeapOob) (λ m'. Go [] x.slots m') tt (λ m'. go_fine (sym q) [] x.slots m' (no_values_fit x.func l.results count))))
     simple_safe (StackLoad t j offset) q types count slot has callees =
         let r = is_some_is (slot_place x.func j offset (bytes_in (width_of t))) slot in
         need_fine (slot_place x.func j offset (bytes_in (width_of t))) Stuck (λ o. need (bytes_from (x.slots j) o (bytes_in (width_of t))) Unwritten (λ bs. Go (record { width = width_of t; value = number_of bs } ∷ []) x.slots w.memory)) r.0 r.1
-          (maybe_fine (bytes_from (x.slots j) r.0 (bytes_in (width_of t))) Unwritten (λ bs. Go (record { width = width_of t; value = number_of bs } ∷ []) x.slots w.memory) tt
-            (λ bs. go_fine (sym q) (record { width = width_of t; value = number_of bs } ∷ []) x.slots w.memory (one_fits t types.1 (record { width = width_of t; value = number_of bs }) refl)))
+        (maybe_fine (bytes_from (x.slots j) r.0 (bytes_in (width_of t))) Unwritten (λ bs. Go (record { width = width_of t; value = number_of bs } ∷ []) x.slots w.memory) tt
+        (λ bs. go_fine (sym q) (record { width = width_of t; value = number_of bs } ∷ []) x.slots w.memory (one_fits t types.1 (record { width = width_of t; value = number_of bs }) refl)))
     simple_safe (StackStore v j offset) q types count slot has callees =
         let r = has.at v (inl refl) in
         let t = some_and (type_of x.func v) (λ t. IsSome (slot_place x.func j offset (bytes_in (width_of t)))) slot in
         let o = is_some_is (slot_place x.func j offset (bytes_in (width_of t.0))) t.2 in
         need_fine (x.env v) Stuck (λ y. need (slot_place x.func j offset (bytes_in y.width)) Stuck (λ o. Go [] (put_bytes x.slots j o (bytes_of (bytes_in y.width) y.value)) w.memory)) r.0 r.1
-          (need_fine (slot_place x.func j offset (bytes_in r.0.width)) Stuck (λ o. Go [] (put_bytes x.slots j o (bytes_of (bytes_in r.0.width) r.0.value)) w.memory) o.0 (ap (λ z. slot_place x.func j offset (bytes_in z)) (width_is v t.0 t.1 r.0 r.1) ∙ o.1)
-            (go_fine (sym q) [] (put_bytes x.slots j o.0 (bytes_of (bytes_in r.0.width) r.0.value)) w.memory (no_values_fit x.func l.results count)))
+        (need_fine (slot_place x.func j offset (bytes_in r.0.width)) Stuck (λ o. Go [] (put_bytes x.slots j o (bytes_of (bytes_in r.0.width) r.0.value)) w.memory) o.0 (ap (λ z. slot_place x.func j offset (bytes_in z)) (width_is v t.0 t.1 r.0 r.1) ∙ o.1)
+        (go_fine (sym q) [] (put_bytes x.slots j o.0 (bytes_of (bytes_in r.0.width) r.0.value)) w.memory (no_values_fit x.func l.results count)))
     simple_safe (FuncAddr j) q types count slot has callees =
         let c = get_below x.func.callees j callees.0 in
         let a = callee_address m x.func st.good.there j c.0 c.1 in
         need_fine (slice_get x.func.callees j) Stuck (λ c. need (address_of (names m) c.name) Stuck (λ a. Go (i64 a ∷ []) x.slots w.memory)) c.0 c.1
-          (need_fine (address_of (names m) c.0.name) Stuck (λ a. Go (i64 a ∷ []) x.slots w.memory) a.0 a.1 (go_fine (sym q) (i64 a.0 ∷ []) x.slots w.memory (one_fits I64 types.1 (i64 a.0) refl)))
+        (need_fine (address_of (names m) c.0.name) Stuck (λ a. Go (i64 a ∷ []) x.slots w.memory) a.0 a.1 (go_fine (sym q) (i64 a.0 ∷ []) x.slots w.memory (one_fits I64 types.1 (i64 a.0) refl)))
     simple_safe (Trap code) q types count slot has callees = tt
     simple_safe (Trapz v code) q types count slot has callees =
         let r = has.at v (inl refl) in
@@ -234,15 +234,15 @@ module _ (m : Module) (goods : (f : Function) → In f m → Good m f) where
     call_fine : (t : CallTarget) (args : List ℕ) (sig : Sig) → Calling t args sig → Awaits x.func l.inst (param_types sig.results) → Fine (calls x.env t args false)
     call_fine t args sig r awaits =
         need_fine (called x.env t) Stuck (λ c. need (all_of x.env args) Stuck (λ xs. Do c xs false)) r.c r.is
-          (need_fine (all_of x.env args) Stuck (λ xs. Do r.c xs false) r.there.values r.there.is
-            (invoke_safe (found m x.func r.c) (param_types sig.params) (param_types sig.results) r.ok r.there.values [] r.there.fit (shown (record { line = l; frame = x } ∷ s)) (record { line = l; frame = x } ∷ s) (record { b = b; i = i; k = k; defs = defs; stands = st; from = from; awaits = awaits }, below) w))
+        (need_fine (all_of x.env args) Stuck (λ xs. Do r.c xs false) r.there.values r.there.is
+        (invoke_safe (found m x.func r.c) (param_types sig.params) (param_types sig.results) r.ok r.there.values [] r.there.fit (shown (record { line = l; frame = x } ∷ s)) (record { line = l; frame = x } ∷ s) (record { b = b; i = i; k = k; defs = defs; stands = st; from = from; awaits = awaits }, below) w))
 
     tail_fine : (t : CallTarget) (args : List ℕ) (sig : Sig) → Calling t args sig → param_types sig.results ≡ param_types x.func.sig.results → (ns : List ℕ) → numbers l.tags ≡ Some ns → Fine (calls x.env t args true)
     tail_fine t args sig r same ns tags =
         need_fine (called x.env t) Stuck (λ c. need (all_of x.env args) Stuck (λ xs. Do c xs true)) r.c r.is
-          (need_fine (all_of x.env args) Stuck (λ xs. Do r.c xs true) r.there.values r.there.is
-            (must_safe m w (numbers l.tags) Stuck (λ ns. invoke (found m x.func r.c) r.there.values (x.extra ++ ns) (shown (record { line = l; frame = x } ∷ s)) s w) ns tags
-              (invoke_safe (found m x.func r.c) (param_types sig.params) (param_types sig.results) r.ok r.there.values (x.extra ++ ns) r.there.fit (shown (record { line = l; frame = x } ∷ s)) s (subst (λ z. SafeBelow m z s) (sym same) below) w)))
+        (need_fine (all_of x.env args) Stuck (λ xs. Do r.c xs true) r.there.values r.there.is
+        (must_safe m w (numbers l.tags) Stuck (λ ns. invoke (found m x.func r.c) r.there.values (x.extra ++ ns) (shown (record { line = l; frame = x } ∷ s)) s w) ns tags
+        (invoke_safe (found m x.func r.c) (param_types sig.params) (param_types sig.results) r.ok r.there.values (x.extra ++ ns) r.there.fit (shown (record { line = l; frame = x } ∷ s)) s (subst (λ z. SafeBelow m z s) (sym same) below) w)))
 
     -- ---- each instruction
 
@@ -253,7 +253,7 @@ module _ (m : Module) (goods : (f : Function) → In f m → Good m f) where
         let goes : terminates l.inst ≡ false = ap terminates q in
         let after = next_line m x b i k l defs st goes in
         maybe_safe m w (shown (record { line = l; frame = x } ∷ s)) Unwritten (λ sh. On x s (with_event w (Point sh))) tt
-          (λ sh e. (record { b = b; i = suc i; k = k; l = after.0; defs = l.results ++ defs; stands = record { good = st.good; found = st.found; line = after.1; reach = next st.reach k st.found l st.line goes; typed = st.typed; has = subst (λ z. Has x.env (z ++ defs)) (sym (no_results l.results counts)) st.has }; from = from }, below))
+        (λ sh e. (record { b = b; i = suc i; k = k; l = after.0; defs = l.results ++ defs; stands = record { good = st.good; found = st.found; line = after.1; reach = next st.reach k st.found l st.line goes; typed = st.typed; has = subst (λ z. Has x.env (z ++ defs)) (sym (no_results l.results counts)) st.has }; from = from }, below))
     act_safe (Return vs) q types counts slot tags has callees =
         let r = all_there x.func x.env st.typed vs has in
         need_fine (all_of x.env vs) Stuck (λ xs. Give xs) r.values r.is (resume_safe m (param_types x.func.sig.results) s below w r.values (subst (λ os. FitAll os r.values) types.1 r.fit))

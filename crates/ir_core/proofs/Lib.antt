@@ -10,3 +10,4 @@ pub mod SafetyPlaces
 pub mod SafetyStands
 pub mod SafetySteps
 pub mod SafetyRuns
+pub mod SafetyExample

@@ -1,5 +1,5 @@
 -- A piece that is written in several calls.
-use Rattle.std.proofs.Common.{◌≡◌, ℕ, ◌-◌, ◌≤◌, ◌++◌, List, length, take, drop, length-drop, append_assoc, take-append-drop, sym, ap, ◌∙◌, refl}
+use Rattle.std.proofs.Common.{◌≡◌, ℕ, ◌-◌, ◌++◌, List, length, take, drop, length-drop, append_assoc, take-append-drop, sym, ap, ◌∙◌}
 use Rattle.std.proofs.Math.Seq.{take-length}
 
 -- the front of a piece grows by what a call took, and the rest is what the call left

@@ -1,4 +1,4 @@
-use Rattle.std.proofs.Common.{◌≡◌, ◌+◌, ◌<◌, ◌≤◌, ◌++◌, ◌-◌, ℕ, List, length, take, drop, sym, ap, ◌∙◌, subst, refl, arith, vec_len, IfSome, [], Bool, cond}
+use Rattle.std.proofs.Common.{◌≡◌, ◌+◌, ◌++◌, ◌-◌, ℕ, List, length, take, drop, sym, ap, ◌∙◌, subst, refl, arith, vec_len, [], Bool, cond}
 use Rattle.std.specs.Io.KnownBytes.{Consumes}
 use lib.Seq.{take-append-le}
 use Rattle.std.proofs.KnownBytes.{Consumes-nil, Consumes-trans, Consumes-kept, Consumes-all}

@@ -1,3 +1,10 @@
+pub mod Edits
+pub mod Layout
+pub mod Lists
 pub mod Lookup
 pub mod Module
+pub mod Named
+pub mod Operands
+pub mod Shift
+pub mod Sound
 pub mod Viewed

@@ -1,6 +1,6 @@
 -- What the adding calls make of the fields.
 use Rattle.std.proofs.Common.{◌≡◌, ℕ, ◌+◌, ◌-◌, ◌<◌, ◌≤◌, ◌^◌, List, [], ◌∷◌, ◌++◌, map, length, get_or, Option, Some, None, refl, sym, ap, ap₂, ◌∙◌, subst, arith}
-use Rattle.std.specs.Prelude.{slice_get}
+use Rattle.std.specs.Prelude.{slice_get, Result, Ok, Err, OnErr}
 use Rattle.std.proofs.Math.ListN.{set}
 use Rattle.ir_core.specs.Module.{Block, Function}
 use Rattle.ir_core.specs.Lookup.{definitions, block_numbers}
@@ -14,9 +14,9 @@ use Rattle.ir_core.specs.Layout.{order, blocks_in, Laid, IsLaidOut, body_of, fun
 use Rattle.ir_core.proofs.Keeping.{with_blocks, sound_param, length_param}
 use Rattle.ir_core.proofs.Changing.{found, param_laid, param_blocks, held_laid, held_blocks}
 
--- the function with its blocks changed in the fields and in the value
-pub function_changed : (f : Function) (bs : List Block) (v : Body) (g : List Block → List Block) → (s : Inside) → body_of s ≡ v → f ≡ function_of s → bs ≡ g (function_of s).blocks → with_blocks f bs ≡ with_blocks v.function (g v.function.blocks)
-function_changed f bs v g s is e h = ap₂ (λ x y. with_blocks x y) e h ∙ ap (λ z. with_blocks z.function (g z.function.blocks)) is
+pub on_err : {T E : Type 0} (r : Result T E) (P : Type 0) → P → OnErr r P
+on_err (Ok x) P p = tt
+on_err (Err e) P p = p
 
 module _ (s : Inside) (w : Body) (laid : IsLaidOut s) (is : body_of s ≡ w) (a v : ℕ) (k k' : BlockData) (there : In a (block_numbers w.function.blocks)) (at : k ≡ get_or s.blocks.items a k) (start : k'.start ≡ k.start) (len : k'.len ≡ k.len) (cap : k'.cap ≡ k.cap) (next : k'.next ≡ k.next) where
   old : slice_get s.blocks.items a ≡ Some k

@@ -253,6 +253,13 @@ found s v a k laid is i e = slice_get_read s.blocks.items (length s.blocks.items
 pub lines_seen : (s : Inside) (v : Body) (a : ℕ) (k : BlockData) → IsLaidOut s → body_of s ≡ v → In a (block_numbers v.function.blocks) → slice_get s.blocks.items a ≡ Some k → lines_of a v.function.blocks ≡ range s.insts.items k
 lines_seen s v a k laid is i g = ap (λ z. lines_of a z.function.blocks) (sym is) ∙ lines_found s.insts.items s.blocks.items (order s.blocks.items s.first) a k (present s v a laid is i) g
 
+-- the block of a number that a call of `number` answered
+pub named : (v : Body) (n a : ℕ) → n ≡ a → In a (block_numbers v.function.blocks) → In n (block_numbers v.function.blocks)
+named v n a e i = subst (λ z. In z (block_numbers v.function.blocks)) (sym e) i
+
+pub inside_arena : (s : Inside) (v : Body) (a : ℕ) (k : BlockData) → IsLaidOut s → body_of s ≡ v → In a (block_numbers v.function.blocks) → k ≡ get_or s.blocks.items a k → k.start + k.len ≤ length s.insts.items
+inside_arena s v a k laid is i e = let g : slice_get s.blocks.items a ≡ Some k = found s v a k laid is i e in omega (arith, laid.laid.within a k g, laid.laid.short a k g)
+
 pub length_range : (xs : List InstData) (k : BlockData) → k.start + k.len ≤ length xs → length (range xs k) ≡ k.len
 length_range xs k h = length_map line_of (take k.len (drop k.start xs)) ∙ length_sub xs k.start k.len h
   where

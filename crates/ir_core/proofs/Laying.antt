@@ -152,3 +152,6 @@ module _ (xs xs' : List InstData) (ks : List BlockData) (o last last' : Option �
           let lt : a < length ks = slice_get_within ks a k old in
           ap (block_by xs' (length ks)) (get_set_other (ks ++ (new ∷ [])) a (length ks) (record k' { next = Some (length ks) }) (λ e. omega (arith, e, lt)) ∙ get_push_new ks new)
 
+pub length_seen : (xs : List InstData) (ks : List BlockData) (bs : List ℕ) → length (map (block_at xs ks) bs) ≡ length bs
+length_seen xs ks [] = refl
+length_seen xs ks (b ∷ bs) = ap suc (length_seen xs ks bs)

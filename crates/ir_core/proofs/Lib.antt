@@ -6,3 +6,6 @@ pub mod Members
 pub mod Splitting
 pub mod Keeping
 pub mod Adding
+pub mod Counting
+pub mod Walking
+pub mod Inserting

@@ -34,7 +34,8 @@ impl Func {
         let start = self.insts.len();
         let params = params.into_vec();
         self.defined += params.len();
-        let next = self.blocks[after.number() as usize].next;
+        let place = after.number() as usize;
+        let next = self.blocks[place].next;
         self.blocks.push_reserved(BlockData {
             params,
             start,
@@ -42,7 +43,7 @@ impl Func {
             cap: 0,
             next,
         });
-        self.blocks[after.number() as usize].next = Some(number);
+        self.blocks[place].next = Some(number);
         if next.is_none() {
             self.last = Some(number);
         }

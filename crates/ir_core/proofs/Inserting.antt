@@ -1,6 +1,6 @@
 -- A block put into a function.
 use Rattle.std.proofs.Common.{◌≡◌, ℕ, zero, suc, ◌+◌, ◌-◌, ◌<◌, ◌≤◌, ◌^◌, ◌⊎◌, inl, inr, List, [], ◌∷◌, ◌++◌, map, length, take, drop, get_or, Option, Some, None, refl, sym, ap, ap₂, ◌∙◌, subst, arith, append_assoc, length-append}
-use Rattle.std.specs.Prelude.{slice_get, is_none, true, false}
+use Rattle.std.specs.Prelude.{slice_get, is_some, true, false}
 use Rattle.std.proofs.lemmas.Option.{slice_get_read}
 use Rattle.std.proofs.Math.ListN.{set}
 use Rattle.ir_core.specs.declared.instructions.InstData.{InstData}
@@ -120,7 +120,7 @@ module _ (s : Inside) (w : Body) (laid : IsLaidOut s) (is : body_of s ≡ w) (a 
   pub last_linked : k.next ≡ None → Some n ≡ last_of (put_after a (length s.blocks.items) (order s.blocks.items s.first))
   last_linked e = ap (λ z. Some z) number ∙ sym (last_put_end (nexts s.blocks.items) s.first a (length s.blocks.items) (order s.blocks.items s.first) laid.laid.linked laid.laid.different present_here (nexts_get s.blocks.items a k old_here ∙ ap (λ z. Some z) e))
 
-  pub last_kept : (o : Option ℕ) → k.next ≡ o → is_none o ≡ false → s.last ≡ last_of (put_after a (length s.blocks.items) (order s.blocks.items s.first))
+  pub last_kept : (o : Option ℕ) → k.next ≡ o → is_some o ≡ true → s.last ≡ last_of (put_after a (length s.blocks.items) (order s.blocks.items s.first))
   last_kept None e f = cc
   last_kept (Some m) e f = laid.laid.ends ∙ sym (last_put_within (nexts s.blocks.items) s.first a (length s.blocks.items) m (order s.blocks.items s.first) laid.laid.linked laid.laid.different present_here (nexts_get s.blocks.items a k old_here ∙ ap (λ z. Some z) e))
 
@@ -142,7 +142,7 @@ module _ (s : Inside) (w : Body) (laid : IsLaidOut s) (is : body_of s ≡ w) (a 
 pub insert_fits : (s : Inside) (w : Body) (laid : IsLaidOut s) (is : body_of s ≡ w) (a : ℕ) (ps : List ℕ) (there : In a (block_numbers w.function.blocks)) (few : CanAdd (length w.function.blocks)) (declared : Below (length w.function.types) ps) (different : Different ps) (undefined : (v : ℕ) → In v ps → In v (definitions w.function.blocks) → ⊥) → s.defined + length ps < 2 ^ 32 - 1
 insert_fits s w laid is a ps there few declared different undefined = omega (arith, laid.defined, laid.sound.small.values, defined_room (function_of s) a ps laid.sound (subst (λ z. In a (block_numbers z.function.blocks)) (sym is) there) (subst (λ z. CanAdd (length z.function.blocks)) (sym is) few) (subst (λ z. Below (length z.function.types) ps) (sym is) declared) different (λ v i j. undefined v i (subst (λ z. In v (definitions z.function.blocks)) is j)))
 
-pub if_none : {A : Type 0} (o : Option A) → is_none o ≡ true → o ≡ None
+pub if_none : {A : Type 0} (o : Option A) → is_some o ≡ false → o ≡ None
 if_none None h = refl
 if_none (Some x) h = cc
 

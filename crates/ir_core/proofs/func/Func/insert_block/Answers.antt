@@ -1,5 +1,5 @@
 use Rattle.std.proofs.Common.{arith, ◌≡◌, ℕ, ◌+◌, ◌-◌, ◌<◌, ◌≤◌, ◌++◌, List, [], ◌∷◌, length, take, drop, map, get_or, Option, Some, None, refl, sym, ap, ap₂, subst, ◌∙◌}
-use Rattle.std.specs.Prelude.{slice_get}
+use Rattle.std.specs.Prelude.{slice_get, not}
 use Rattle.std.proofs.Math.ListN.{set}
 use Rattle.std.proofs.lemmas.Option.{slice_get_read}
 use Rattle.ir_core.specs.declared.func.BlockData.{BlockData}
@@ -27,7 +27,7 @@ index_mut-requires c = omega (arith, below c.self.inside c.args.self.now c.numbe
 pub invariant_of-self : goal.invariant_of-self
 invariant_of-self c =
     record {
-      laid = linked_laid c.self.inside c.args.self.now c.self.invariant c.self.view_is c.number-place.result c.new-number.result c.index.result.now c.index_mut.result.now (record { params = c.into_vec-params.result; start = c.len-start.result; len = 0; cap = 0; next = c.index.result.now.next }) c.push_reserved.new.self.items c.args.params (named c.args.self.now c.number-place.result c.args.after c.number-place.ensures c.requires.there) c.index.ensures c.index_mut.ensures.value c.push_reserved.ensures.items refl (c.len-start.ensures ∙ c.self.inside.insts.ok.0) refl refl (c.new-number.ensures ∙ (c.len.ensures ∙ c.self.inside.blocks.ok.0)) c.into_vec-params.ensures (Some c.new-number.result) (last_linked c.self.inside c.args.self.now c.self.invariant c.self.view_is c.number-place.result c.new-number.result c.index.result.now c.index_mut.result.now (record { params = c.into_vec-params.result; start = c.len-start.result; len = 0; cap = 0; next = c.index.result.now.next }) c.push_reserved.new.self.items c.args.params (named c.args.self.now c.number-place.result c.args.after c.number-place.ensures c.requires.there) c.index.ensures c.index_mut.ensures.value c.push_reserved.ensures.items refl (c.len-start.ensures ∙ c.self.inside.insts.ok.0) refl refl (c.new-number.ensures ∙ (c.len.ensures ∙ c.self.inside.blocks.ok.0)) c.into_vec-params.ensures (if_none c.index.result.now.next (sym c.is_none.ensures ∙ c.if-is_none.true)));
+      laid = linked_laid c.self.inside c.args.self.now c.self.invariant c.self.view_is c.number-place.result c.new-number.result c.index.result.now c.index_mut.result.now (record { params = c.into_vec-params.result; start = c.len-start.result; len = 0; cap = 0; next = c.index.result.now.next }) c.push_reserved.new.self.items c.args.params (named c.args.self.now c.number-place.result c.args.after c.number-place.ensures c.requires.there) c.index.ensures c.index_mut.ensures.value c.push_reserved.ensures.items refl (c.len-start.ensures ∙ c.self.inside.insts.ok.0) refl refl (c.new-number.ensures ∙ (c.len.ensures ∙ c.self.inside.blocks.ok.0)) c.into_vec-params.ensures (Some c.new-number.result) (last_linked c.self.inside c.args.self.now c.self.invariant c.self.view_is c.number-place.result c.new-number.result c.index.result.now c.index_mut.result.now (record { params = c.into_vec-params.result; start = c.len-start.result; len = 0; cap = 0; next = c.index.result.now.next }) c.push_reserved.new.self.items c.args.params (named c.args.self.now c.number-place.result c.args.after c.number-place.ensures c.requires.there) c.index.ensures c.index_mut.ensures.value c.push_reserved.ensures.items refl (c.len-start.ensures ∙ c.self.inside.insts.ok.0) refl refl (c.new-number.ensures ∙ (c.len.ensures ∙ c.self.inside.blocks.ok.0)) c.into_vec-params.ensures (if_none c.index.result.now.next (c.is_none.ensures ∙ ap not c.if-is_none.true)));
       defined = ap (λ z. c.self.inside.defined + z) (c.len-2.ensures ∙ (c.into_vec-params.result.ok.0 ∙ ap length c.into_vec-params.ensures)) ∙ linked_defined c.self.inside c.args.self.now c.self.invariant c.self.view_is c.number-place.result c.new-number.result c.index.result.now c.index_mut.result.now (record { params = c.into_vec-params.result; start = c.len-start.result; len = 0; cap = 0; next = c.index.result.now.next }) c.push_reserved.new.self.items c.args.params (named c.args.self.now c.number-place.result c.args.after c.number-place.ensures c.requires.there) c.index.ensures c.index_mut.ensures.value c.push_reserved.ensures.items refl (c.len-start.ensures ∙ c.self.inside.insts.ok.0) refl refl (c.new-number.ensures ∙ (c.len.ensures ∙ c.self.inside.blocks.ok.0)) c.into_vec-params.ensures c.requires.few c.requires.declared c.requires.different c.requires.undefined;
       sound = linked_sound c.self.inside c.args.self.now c.self.invariant c.self.view_is c.number-place.result c.new-number.result c.index.result.now c.index_mut.result.now (record { params = c.into_vec-params.result; start = c.len-start.result; len = 0; cap = 0; next = c.index.result.now.next }) c.push_reserved.new.self.items c.args.params (named c.args.self.now c.number-place.result c.args.after c.number-place.ensures c.requires.there) c.index.ensures c.index_mut.ensures.value c.push_reserved.ensures.items refl (c.len-start.ensures ∙ c.self.inside.insts.ok.0) refl refl (c.new-number.ensures ∙ (c.len.ensures ∙ c.self.inside.blocks.ok.0)) c.into_vec-params.ensures c.requires.few c.requires.declared c.requires.different c.requires.undefined;
     }
@@ -35,7 +35,7 @@ invariant_of-self c =
 pub invariant_of-self-else-is_none : goal.invariant_of-self-else-is_none
 invariant_of-self-else-is_none c =
     record {
-      laid = linked_laid c.self.inside c.args.self.now c.self.invariant c.self.view_is c.number-place.result c.new-number.result c.index.result.now c.index_mut.result.now (record { params = c.into_vec-params.result; start = c.len-start.result; len = 0; cap = 0; next = c.index.result.now.next }) c.push_reserved.new.self.items c.args.params (named c.args.self.now c.number-place.result c.args.after c.number-place.ensures c.requires.there) c.index.ensures c.index_mut.ensures.value c.push_reserved.ensures.items refl (c.len-start.ensures ∙ c.self.inside.insts.ok.0) refl refl (c.new-number.ensures ∙ (c.len.ensures ∙ c.self.inside.blocks.ok.0)) c.into_vec-params.ensures c.self.inside.last (last_kept c.self.inside c.args.self.now c.self.invariant c.self.view_is c.number-place.result c.new-number.result c.index.result.now c.index_mut.result.now (record { params = c.into_vec-params.result; start = c.len-start.result; len = 0; cap = 0; next = c.index.result.now.next }) c.push_reserved.new.self.items c.args.params (named c.args.self.now c.number-place.result c.args.after c.number-place.ensures c.requires.there) c.index.ensures c.index_mut.ensures.value c.push_reserved.ensures.items refl (c.len-start.ensures ∙ c.self.inside.insts.ok.0) refl refl (c.new-number.ensures ∙ (c.len.ensures ∙ c.self.inside.blocks.ok.0)) c.into_vec-params.ensures c.index.result.now.next refl (sym c.is_none.ensures ∙ c.if-is_none.false));
+      laid = linked_laid c.self.inside c.args.self.now c.self.invariant c.self.view_is c.number-place.result c.new-number.result c.index.result.now c.index_mut.result.now (record { params = c.into_vec-params.result; start = c.len-start.result; len = 0; cap = 0; next = c.index.result.now.next }) c.push_reserved.new.self.items c.args.params (named c.args.self.now c.number-place.result c.args.after c.number-place.ensures c.requires.there) c.index.ensures c.index_mut.ensures.value c.push_reserved.ensures.items refl (c.len-start.ensures ∙ c.self.inside.insts.ok.0) refl refl (c.new-number.ensures ∙ (c.len.ensures ∙ c.self.inside.blocks.ok.0)) c.into_vec-params.ensures c.self.inside.last (last_kept c.self.inside c.args.self.now c.self.invariant c.self.view_is c.number-place.result c.new-number.result c.index.result.now c.index_mut.result.now (record { params = c.into_vec-params.result; start = c.len-start.result; len = 0; cap = 0; next = c.index.result.now.next }) c.push_reserved.new.self.items c.args.params (named c.args.self.now c.number-place.result c.args.after c.number-place.ensures c.requires.there) c.index.ensures c.index_mut.ensures.value c.push_reserved.ensures.items refl (c.len-start.ensures ∙ c.self.inside.insts.ok.0) refl refl (c.new-number.ensures ∙ (c.len.ensures ∙ c.self.inside.blocks.ok.0)) c.into_vec-params.ensures c.index.result.now.next refl (c.is_none.ensures ∙ ap not c.if-is_none.false));
       defined = ap (λ z. c.self.inside.defined + z) (c.len-2.ensures ∙ (c.into_vec-params.result.ok.0 ∙ ap length c.into_vec-params.ensures)) ∙ linked_defined c.self.inside c.args.self.now c.self.invariant c.self.view_is c.number-place.result c.new-number.result c.index.result.now c.index_mut.result.now (record { params = c.into_vec-params.result; start = c.len-start.result; len = 0; cap = 0; next = c.index.result.now.next }) c.push_reserved.new.self.items c.args.params (named c.args.self.now c.number-place.result c.args.after c.number-place.ensures c.requires.there) c.index.ensures c.index_mut.ensures.value c.push_reserved.ensures.items refl (c.len-start.ensures ∙ c.self.inside.insts.ok.0) refl refl (c.new-number.ensures ∙ (c.len.ensures ∙ c.self.inside.blocks.ok.0)) c.into_vec-params.ensures c.requires.few c.requires.declared c.requires.different c.requires.undefined;
       sound = linked_sound c.self.inside c.args.self.now c.self.invariant c.self.view_is c.number-place.result c.new-number.result c.index.result.now c.index_mut.result.now (record { params = c.into_vec-params.result; start = c.len-start.result; len = 0; cap = 0; next = c.index.result.now.next }) c.push_reserved.new.self.items c.args.params (named c.args.self.now c.number-place.result c.args.after c.number-place.ensures c.requires.there) c.index.ensures c.index_mut.ensures.value c.push_reserved.ensures.items refl (c.len-start.ensures ∙ c.self.inside.insts.ok.0) refl refl (c.new-number.ensures ∙ (c.len.ensures ∙ c.self.inside.blocks.ok.0)) c.into_vec-params.ensures c.requires.few c.requires.declared c.requires.different c.requires.undefined;
     }

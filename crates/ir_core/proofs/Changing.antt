@@ -149,24 +149,23 @@ module _ (xs : List InstData) (ks : List BlockData) (o last : Option ℕ) (a : �
         (ap (lines_put xs a k) (ap (λ n. map line_of (take n (drop k.start (xs ++ (x ∷ []))))) (one k.len) ∙ (ap (map line_of) (sub_end xs x k.start k.len (omega (arith, full, at_end))) ∙ map_append line_of (take k.len (drop k.start xs)) (x ∷ []))))
 
   -- the first of a block
-  module _ (empty : k.cap ≡ 0) where
-    abbrev first_k : BlockData
-    first_k = record k { start = length xs; len = 1; cap = 1 }
-
+  module _ (empty : k.cap ≡ 0) (k' : BlockData) (next : k'.next ≡ k.next) (params : k'.params.items ≡ k.params.items) (start : k'.start ≡ length xs) (len : k'.len ≡ 1) (cap : k'.cap ≡ 1) where
     first_long : length (xs ++ (x ∷ [])) ≡ length xs + 1
     first_long = length-append xs (x ∷ [])
 
-    first_apart : (b : ℕ) (j : BlockData) → slice_get ks b ≡ Some j → (b ≡ a → ⊥) → Apart first_k j
-    first_apart b j g n p e1 e2 e3 e4 = omega (arith, laid.within b j g, e1, e4)
+    first_apart : (b : ℕ) (j : BlockData) → slice_get ks b ≡ Some j → (b ≡ a → ⊥) → Apart k' j
+    first_apart b j g n p e1 e2 e3 e4 = omega (arith, laid.within b j g, e1, e4, start)
 
-    pub first_laid : Laid (xs ++ (x ∷ [])) (set ks a first_k) o last
-    first_laid = changed_laid xs (xs ++ (x ∷ [])) ks o last a k first_k laid old refl (omega (arith, first_long)) (omega arith) (omega (arith, first_long)) first_apart
+    pub first_laid : Laid (xs ++ (x ∷ [])) (set ks a k') o last
+    first_laid = changed_laid xs (xs ++ (x ∷ [])) ks o last a k k' laid old next (omega (arith, first_long)) (omega (arith, len, cap)) (omega (arith, first_long, start, cap)) first_apart
 
-    pub first_blocks : map (block_at (xs ++ (x ∷ [])) (set ks a first_k)) (order (set ks a first_k) o) ≡ at_block a (put_line (line_of x)) (map (block_at xs ks) (order ks o))
+    pub first_blocks : map (block_at (xs ++ (x ∷ [])) (set ks a k')) (order (set ks a k') o) ≡ at_block a (put_line (line_of x)) (map (block_at xs ks) (order ks o))
     first_blocks =
         let none : k.len ≡ 0 = omega (arith, empty, laid.short a k old) in
-        changed_blocks xs (xs ++ (x ∷ [])) ks o last a k first_k laid old refl (omega (arith, first_long)) (omega arith) (omega (arith, first_long)) first_apart (put_line (line_of x)) others_push
-        (ap (lines_put xs a k) (ap (map line_of) (sub_end xs x (length xs) 0 (omega arith)) ∙ ap (λ n. map line_of (take n (drop k.start xs)) ++ (line_of x ∷ [])) (sym none)))
+        changed_blocks xs (xs ++ (x ∷ [])) ks o last a k k' laid old next (omega (arith, first_long)) (omega (arith, len, cap)) (omega (arith, first_long, start, cap)) first_apart (put_line (line_of x)) others_push
+        (ap₂ (λ p r. record { number = a; params = p; lines = r }) params
+        (ap₂ (λ n s. map line_of (take n (drop s (xs ++ (x ∷ []))))) len start
+        ∙ (ap (map line_of) (sub_end xs x (length xs) 0 (omega arith)) ∙ ap (λ n. map line_of (take n (drop k.start xs)) ++ (line_of x ∷ [])) (sym none))))
 
   -- the last taken away, and another put in its place
   module _ (dead : InstData) (some : 0 < k.len) (at : slice_get xs (k.start + (k.len - 1)) ≡ Some x) where

@@ -9,3 +9,6 @@ pub mod Adding
 pub mod Counting
 pub mod Walking
 pub mod Inserting
+pub mod Shifting
+pub mod Writing
+pub mod Putting

@@ -3,7 +3,7 @@ ghost use Rattle.std.specs.Prelude.{All, ◌≡◌, ◌≢◌, ℕ, ◌+◌, ◌
 ghost use Rattle.ir_core.specs.Lookup.{block_numbers, definitions};
 ghost use Rattle.ir_core.specs.Lists.{In, Different, Below, Each};
 ghost use Rattle.ir_core.specs.Sound.{CanAdd, LineInRange, counts_of, instruction_count};
-ghost use Rattle.ir_core.specs.Edits.{at_block, insert_after, put_param, put_line, lines_of, with_lines, change_last};
+ghost use Rattle.ir_core.specs.Edits.{HasRoom, at_block, insert_after, put_param, put_line, lines_of, with_lines, change_last};
 ghost use Rattle.ir_core.specs.Viewed.{line_of};
 ghost use Rattle.ir_core.specs.Shift.{shifted};
 
@@ -11,11 +11,27 @@ use super::{BlockData, Func};
 use crate::instructions::{Inst, InstData};
 use crate::lists::List;
 use crate::numbers::{Block, Value};
+use crate::room::Room;
 use debug_tags::Tags;
-use std::alloc::Global;
+use std::alloc::{AllocError, Global};
 use std::mem;
 
 impl Func {
+    /// Makes room for so many more of each kind. All lists are as before, and no room shrinks. Only `AllocError` refuses.
+    pub fn reserve(&mut self, room: Room) -> Result<(), AllocError>
+        ensures same { self.new.function ≡ self.old.function }
+        ensures ok { OnOk result (HasRoom room self.new.room) }
+        ensures grows { HasRoom self.old.room self.new.room }
+    {
+        self.slots.reserve(room.slots)?;
+        self.sigs.reserve(room.sigs)?;
+        self.callees.reserve(room.callees)?;
+        self.types.reserve(room.values)?;
+        self.blocks.reserve(room.blocks)?;
+        self.insts.reserve(room.insts)?;
+        Ok(())
+    }
+
     /// Puts an empty block directly after `after` and answers its number.
     pub fn insert_block(&mut self, after: Block, params: List<Value>) -> Block
         requires there { In after (block_numbers self.old.function.blocks) }

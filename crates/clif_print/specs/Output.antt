@@ -1,10 +1,11 @@
 -- What an output takes, and what a sink has of it.
-use Rattle.std.specs.Prelude.{◌≡◌, ℕ, ◌≤◌, List, ◌++◌, Bool}
+use Rattle.std.specs.Prelude.{◌≡◌, ℕ, ◌≤◌, List, ◌++◌, Bool, OnOk, OnErr}
 use Rattle.std.specs.Bool.{MatchBool}
 use Rattle.std.specs.Borrow.{GName}
+use Rattle.std.specs.declared.result.Result.{Result}
 use Rattle.std.specs.declared.option.Option.{Option}
 use Rattle.std.specs.Io.KnownBytes.{Appends}
-use Rattle.clk_flow.specs.Faults.{Rose}
+use Rattle.clk_flow.specs.Faults.{Rose, HasCause}
 use Rattle.clk_flow.specs.Whole.{AppendsPrefix}
 
 -- where an output began: which sink it writes to, what this had been given, where it tells, and its count of faults
@@ -45,3 +46,9 @@ pub record HasText (start : Start) (s : SinkState) (text : List ℕ) : Type 0 wh
 -- the output took these bytes too
 pub record Takes (old new : SinkState) (bytes : List ℕ) : Type 0 where
   pub takes : (start : Start) (text : List ℕ) → HasText start old text → HasText start new (text ++ bytes)
+
+-- what the sink has at the end
+pub record Ends {T E : Type 0} (start : Start) (written : Option (List ℕ)) (faults : ℕ) (result : Result T E) (text : List ℕ) : Type 0 where
+  pub whole : OnOk result (Appends start.written written text)
+  pub part : OnErr result (AppendsPrefix start.written written text)
+  pub cause : HasCause start.faults faults result

@@ -1,59 +1,50 @@
 //! Canonical numbers: values in order of definition in the text, blocks by their place.
-ghost use Rattle.std.specs.Prelude.{◌≡◌, ℕ, ◌+◌, ◌<◌, ◌^◌, ◌++◌, List, [], IfOk, OnOk, Some, length, slice_get, slice_index_or, vec_len};
-ghost use Rattle.ir_core.specs.Lists.{Below, Different, In};
+ghost use Rattle.std.specs.Prelude.{◌≡◌, ◌<◌, ◌++◌, List, IfOk, OnOk, Some, length, map, slice_get};
 ghost use Rattle.ir_core.specs.Lookup.{block_numbers, definitions, line_definitions};
 ghost use Rattle.ir_core.specs.Numbering.{Numbering, numbering_of, numberings_of, place};
 ghost use Rattle.ir_core.specs.Sound.{IsWhole};
 ghost use Rattle.ir_core.specs.Viewed.{line_of};
 
-use ir_core::{Block, Func, Module, Value};
+use crate::places::Places;
+use ir_core::{Block, Func, InstData, Module, Value};
 use std::alloc::{AllocError, Global};
 use std::marker::Model;
 
-/// The canonical numbers of one function. Contracts see them as functions of the function's own numbers.
+/// The canonical numbers of one function. Contracts see the values and the blocks in their canonical order.
 #[derive(Drop)]
 pub(crate) struct FuncNumbers {
-    /// By a value's own number.
-    values: Vec<u32>,
-    /// How many values have a canonical number.
-    defined: u32,
-    /// By a block's own number.
-    blocks: Vec<u32>,
-    /// How many blocks there are.
-    placed: u32,
+    values: Places,
+    blocks: Places,
 }
 
 impl Model for FuncNumbers {
-    ghost use Rattle.std.specs.Prelude.{slice_index_or};
     ghost use Rattle.ir_core.specs.Numbering.{Numbering};
 
     ghost Value = { Numbering };
 
-    ghost view = { λ n. record { value = λ v. slice_index_or n.values.items v n.defined; block = λ b. slice_index_or n.blocks.items b n.placed; values = n.defined } };
+    ghost view = { λ n. record { values = n.values; blocks = n.blocks } };
 }
 
 impl FuncNumbers {
     /// The number of a value.
     pub(crate) fn value(&self, value: Value) -> u32
-        ensures { result ≡ self.now.value value }
+        ensures { result ≡ place self.now.values value }
     {
-        let found = self.values.get(value.number() as usize);
-        found.copied().unwrap_or(self.defined)
+        self.values.place(value.number())
     }
 
     /// The number of a block.
     pub(crate) fn block(&self, block: Block) -> u32
-        ensures { result ≡ self.now.block block }
+        ensures { result ≡ place self.now.blocks block }
     {
-        let found = self.blocks.get(block.number() as usize);
-        found.copied().unwrap_or(self.placed)
+        self.blocks.place(block.number())
     }
 
     /// How many values have a number.
     pub(crate) fn values(&self) -> u32
-        ensures { result ≡ self.now.values }
+        ensures { result ≡ length self.now.values }
     {
-        self.defined
+        self.values.len()
     }
 }
 
@@ -99,14 +90,12 @@ fn func_numbers(alloc: Global, func: &Func) -> Result<FuncNumbers, AllocError>
     requires { IsWhole func.now.function }
     ensures { IfOk result (λ numbers. numbers ≡ numbering_of func.now.function) }
 {
-    let defined = definitions(alloc, func)?;
+    let values = definitions(alloc, func)?;
     let blocks = block_order(alloc, func)?;
     let count = blocks.len();
     Ok(FuncNumbers {
-        values: places(alloc, func.values(), defined.as_slice())?,
-        defined: defined.len() as u32,
-        blocks: places(alloc, count, blocks.as_slice())?,
-        placed: count as u32,
+        values: Places::new(alloc, func.values(), values)?,
+        blocks: Places::new(alloc, count, blocks)?,
     })
 }
 
@@ -117,11 +106,21 @@ fn definitions(alloc: Global, func: &Func) -> Result<Vec<u32>, AllocError>
     let mut order = Vec::new(alloc);
     for block in func.blocks() {
         append_values(&mut order, func.params(block))?;
-        for line in func.inst_slice(block) {
-            append_values(&mut order, line.results.as_slice())?;
-        }
+        append_results(&mut order, func.inst_slice(block))?;
     }
     Ok(order)
+}
+
+/// Appends the numbers of the values that these instructions define.
+fn append_results(order: &mut Vec<u32>, lines: &[InstData]) -> Result<(), AllocError>
+    ensures { OnOk result (order.new.items ≡ order.old.items ++ line_definitions (map line_of lines.now)) }
+{
+    let mut rest = lines;
+    'lines: while let Some((line, after)) = rest.split_first() {
+        append_values(order, line.results.as_slice())?;
+        rest = after;
+    }
+    Ok(())
 }
 
 /// Appends the numbers of these values.
@@ -145,16 +144,3 @@ fn block_order(alloc: Global, func: &Func) -> Result<Vec<u32>, AllocError>
     Ok(order)
 }
 
-/// For each number below `count` its place in the order.
-fn places(alloc: Global, count: usize, order: &[u32]) -> Result<Vec<u32>, AllocError>
-    requires range { Below count order.now }
-    requires different { Different order.now }
-    requires small { count < 2 ^ 32 }
-    ensures { IfOk result (λ found. (vec_len found ≡ count) × ((n : ℕ) → In n order.now → slice_get found.items n ≡ Some (place order.now n))) }
-{
-    let mut found = vec![in alloc; 0u32; count]?;
-    for (i, number) in order.iter().enumerate() {
-        found[*number as usize] = i as u32;
-    }
-    Ok(found)
-}

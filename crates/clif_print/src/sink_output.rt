@@ -1,9 +1,6 @@
 //! Text into a sink, in large pieces.
-ghost use Rattle.std.specs.Prelude.{◌≡◌, ◌≤◌, ◌+◌, ℕ, length, List, [], OnOk, OnErr};
-ghost use Rattle.std.specs.Io.KnownBytes.{Appends};
-ghost use Rattle.clk_flow.specs.Faults.{HasCause};
-ghost use Rattle.clk_flow.specs.Whole.{AppendsPrefix};
-ghost use Rattle.clif_print.specs.Output.{Start, HasText, Takes};
+ghost use Rattle.std.specs.Prelude.{◌≡◌, ◌≤◌, ◌+◌, ℕ, length, List, []};
+ghost use Rattle.clif_print.specs.Output.{Start, HasText, Takes, Ends};
 
 use crate::output::Output;
 use crate::waiting::Waiting;
@@ -38,9 +35,10 @@ impl<'a, K: Sink> SinkOutput<'a, K> {
         ensures takes { Takes (record { name = self.old.sink.ghost_name; written = K.written self.old.sink.now; faults = K.faults self.old.sink.now; waiting = self.old.waiting; failed = self.old.failed })
             (record { name = self.new.sink.ghost_name; written = K.written self.new.sink.now; faults = K.faults self.new.sink.now; waiting = self.new.waiting; failed = self.new.failed }) bytes.now }
     {
-        if !self.failed && clk_flow::put(self.sink, bytes).is_err() {
-            self.failed = true;
+        if self.failed {
+            return;
         }
+        self.failed = clk_flow::put(self.sink, bytes).is_err();
     }
 
     /// Gives what waits to the sink.
@@ -50,9 +48,11 @@ impl<'a, K: Sink> SinkOutput<'a, K> {
         ensures takes { Takes (record { name = self.old.sink.ghost_name; written = K.written self.old.sink.now; faults = K.faults self.old.sink.now; waiting = self.old.waiting; failed = self.old.failed })
             (record { name = self.new.sink.ghost_name; written = K.written self.new.sink.now; faults = K.faults self.new.sink.now; waiting = self.new.waiting; failed = self.new.failed }) [] }
     {
-        if !self.failed && clk_flow::put(self.sink, self.waiting.text()).is_err() {
-            self.failed = true;
+        if self.failed {
+            self.waiting.clear();
+            return;
         }
+        self.failed = clk_flow::put(self.sink, self.waiting.text()).is_err();
         self.waiting.clear();
     }
 
@@ -69,8 +69,10 @@ impl<'a, K: Sink> SinkOutput<'a, K> {
     }
 
     /// Gives what waits to the sink, and says whether all was given.
-    pub(crate) fn finish(mut self) -> Result<(), Failed>
-        ensures whole { (start : Start) (text : List ℕ) → HasText start (record { name = self.entry.sink.ghost_name; written = K.written self.entry.sink.now; faults = K.faults self.entry.sink.now; waiting = self.entry.waiting; failed = self.entry.failed }) text → OnOk result (Appends start.written (K.written self.exit.0.now) text) }
+    pub(crate) fn finish(&mut self) -> Result<(), Failed>
+        ensures same { self.new.sink.ghost_name ≡ self.old.sink.ghost_name }
+        ensures ends { (start : Start) (text : List ℕ) → HasText start (record { name = self.old.sink.ghost_name; written = K.written self.old.sink.now; faults = K.faults self.old.sink.now; waiting = self.old.waiting; failed = self.old.failed }) text
+            → Ends start (K.written self.new.sink.now) (K.faults self.new.sink.now) result text }
     {
         self.flush();
         if self.failed { Err(Failed) } else { Ok(()) }

@@ -1,8 +1,8 @@
 //! The words.
 ghost use Rattle.std.specs.Prelude.{◌≡◌};
-ghost use Rattle.ir_core.specs.Words.{op_word, condition_word, type_word, convention_word};
+ghost use Rattle.ir_core.specs.Words.{op_word, condition_word, type_word, type_of_width, convention_word};
 
-use clk_num::{Cc, Op};
+use clk_num::{Cc, Op, Width};
 use ir_core::{Conv, Ty};
 
 /// The opcode of an operation.
@@ -81,6 +81,19 @@ pub(crate) fn type_word(ty: Ty) -> &'static [u8]
         Ty::I32 => b"i32",
         Ty::I64 => b"i64",
         Ty::I128 => b"i128",
+    }
+}
+
+/// The type of a width.
+pub(crate) fn type_of_width(width: Width) -> Ty
+    ensures { result ≡ type_of_width width }
+{
+    match width {
+        Width::W8 => Ty::I8,
+        Width::W16 => Ty::I16,
+        Width::W32 => Ty::I32,
+        Width::W64 => Ty::I64,
+        Width::W128 => Ty::I128,
     }
 }
 

@@ -1,0 +1,7 @@
+pub mod Bytes
+pub mod Numbers
+pub mod Spans
+pub mod Lexing
+pub mod Places
+pub mod Spelling
+pub mod Faults

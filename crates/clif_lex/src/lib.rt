@@ -1,0 +1,18 @@
+//! The tokens of a CLIF text, and the places of its bytes.
+#![tactic(auto)]
+
+mod bytes;
+mod faults;
+pub mod laws;
+mod lexing;
+mod numbers;
+mod places;
+mod spans;
+#[cfg(test)]
+mod tests;
+
+pub use faults::{LexErr, Place, TextErr, TextKind};
+pub use lexing::tokens;
+pub use numbers::number;
+pub use places::place;
+pub use spans::{Token, TokenIter, TokenKind, Tokens, spelling};

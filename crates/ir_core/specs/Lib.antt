@@ -6,5 +6,6 @@ pub mod Module
 pub mod Named
 pub mod Operands
 pub mod Shift
+pub mod Size
 pub mod Sound
 pub mod Viewed

@@ -143,4 +143,3 @@ fn block_order(alloc: Global, func: &Func) -> Result<Vec<u32>, AllocError>
     }
     Ok(order)
 }
-

@@ -1,0 +1,15 @@
+pub mod Local
+pub mod Frames
+pub mod Related
+pub mod Showing
+pub mod Returning
+pub mod Effects
+pub mod Stepping
+pub mod Runs
+pub mod Places
+pub mod Merging
+pub mod Ordering
+pub mod Functions
+pub mod Linking
+pub mod Numbering
+pub mod Laws

@@ -1,0 +1,5 @@
+pub mod Finished
+pub mod Laws
+pub mod Pass
+pub mod Policy
+pub mod Sites

@@ -20,10 +20,10 @@ pub mod SafetyStands
 pub mod SafetySteps
 pub mod SafetyTypes
 pub mod Shifting
+pub mod Sizing
 pub mod Splitting
 pub mod Tails
 pub mod Throws
 pub mod Walking
 pub mod Writing
 pub mod Written
-pub mod Sizing

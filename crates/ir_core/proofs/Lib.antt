@@ -20,6 +20,7 @@ pub mod SafetyStands
 pub mod SafetySteps
 pub mod SafetyTypes
 pub mod Shifting
+pub mod Sizing
 pub mod Splitting
 pub mod Tails
 pub mod Throws

@@ -2,5 +2,14 @@ pub mod Buckets
 pub mod Decimals
 pub mod Loops
 pub mod Tags
+pub mod Seen
+pub mod PartLaws
+pub mod FlagLaws
+pub mod FormLaws
+pub mod CallLaws
+pub mod InstLaws
+pub mod Places
+pub mod Alone
+pub mod One
 pub mod Takes
 pub mod Views

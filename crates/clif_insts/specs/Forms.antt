@@ -1,13 +1,14 @@
 -- Instructions, read from left to right, one definition a form.
-use Rattle.std.specs.Prelude.{if◌then◌else◌, List, [], Some, None, Ok, Err}
+use Rattle.std.specs.Prelude.{if◌then◌else◌, List, [], ◌∷◌, Some, None, Ok, Err}
 use Rattle.grammar.specs.Rules.{Lexeme, UnknownOpcode, Unsupported, Out, ◌>>=◌}
 use Rattle.clif_insts.specs.declared.class.Class.TheVariants as classes
 use Rattle.clif_insts.specs.declared.parts.Place.TheVariants as places
+use Rattle.clif_insts.specs.declared.raw.RawName.{RawName}
 use Rattle.clif_insts.specs.declared.raw.RawInst.{RawInst}
 use Rattle.clif_insts.specs.declared.raw.RawOperands.TheVariants as operands
 use Rattle.clif_insts.specs.Terminals.{words}
 use Rattle.clif_insts.specs.Reading.{next_is, name_at}
-use Rattle.clif_insts.specs.Parts.{refuse, suffix_at, opt_suffix_at, suffix_i64_at, opt_suffix_i64_at, condition_at, trap_at, number_at, offset_at, flags_at, args_at, target_at, target_list_at, table_at}
+use Rattle.clif_insts.specs.Parts.{refuse, suffix_at, opt_suffix_at, suffix_i64_at, opt_suffix_i64_at, condition_at, trap_at, number_at, offset_at, flags_at, more_values_at, values_at, args_at, target_at, target_list_at, table_at}
 
 unfoldable pub iconst_at : List Lexeme → Out RawInst
 iconst_at ts = do
@@ -229,9 +230,9 @@ try_call_indirect_at ts = do
   table ← table_at s7.1
   Ok (record { opcode = opcode.0; suffix = None; operands = operands.TryCallIndirect address.0 args.0 sig.0 normal.0 table.0 }, table.1)
 
--- An instruction, where no word of these classes may begin one. The values of a `return` stand behind it.
-unfoldable pub inst_at : List Lexeme → Out RawInst
-inst_at ts =
+-- an instruction, where a `return` is read in this way
+abbrev pub inst_by : (List Lexeme → Out RawInst) → List Lexeme → Out RawInst
+inst_by returned_at ts =
     if next_is classes.Iconst ts then iconst_at ts
     else if next_is classes.Binary ts then binary_at ts
     else if next_is classes.Unary ts then unary_at ts
@@ -250,7 +251,7 @@ inst_at ts =
     else if next_is classes.Jump ts then jump_at ts
     else if next_is classes.Brif ts then brif_at ts
     else if next_is classes.BrTable ts then br_table_at ts
-    else if next_is classes.Return ts then return_inst_at ts
+    else if next_is classes.Return ts then returned_at ts
     else if next_is classes.Trap ts then trap_inst_at ts
     else if next_is classes.TrapIf ts then trap_if_at ts
     else if next_is classes.Call ts then call_at ts
@@ -259,3 +260,40 @@ inst_at ts =
     else if next_is classes.TryCallIndirect ts then try_call_indirect_at ts
     else if next_is classes.RefusedOpcode ts then Err (Unsupported, ts)
     else refuse words UnknownOpcode ts
+
+-- An instruction. The values of a `return` stand behind it.
+unfoldable pub inst_at : List Lexeme → Out RawInst
+inst_at ts = inst_by return_inst_at ts
+
+-- the values of a `return`, if there are any
+unfoldable pub opt_values_at : List Lexeme → Out (List RawName)
+opt_values_at ts = if next_is classes.Value ts then values_at ts else Ok ([], ts)
+
+-- `return v, ..`
+unfoldable pub return_values_at : List Lexeme → Out RawInst
+return_values_at ts = do
+  opcode ← name_at classes.Return ts
+  values ← opt_values_at opcode.1
+  Ok (record { opcode = opcode.0; suffix = None; operands = operands.Return values.0 }, values.1)
+
+-- an instruction, with the values of a `return`
+unfoldable pub whole_at : List Lexeme → Out RawInst
+whole_at ts = inst_by return_values_at ts
+
+-- The values of a `return`, but none where they would be the results of the next line, or its alias.
+unfoldable pub own_values_at : List Lexeme → Out (List RawName)
+own_values_at ts =
+    if next_is classes.Value ts then (name_at classes.Value ts >>= λ v.
+    if next_is classes.Arrow v.1 then Ok ([], ts)
+    else (more_values_at (v.0 ∷ []) v.1 >>= λ vs. if next_is classes.Equals vs.1 then Ok ([], ts) else Ok vs))
+    else Ok ([], ts)
+
+unfoldable pub return_line_at : List Lexeme → Out RawInst
+return_line_at ts = do
+  opcode ← name_at classes.Return ts
+  values ← own_values_at opcode.1
+  Ok (record { opcode = opcode.0; suffix = None; operands = operands.Return values.0 }, values.1)
+
+-- one instruction of a block, with the values of a `return` that are its own
+unfoldable pub one_at : List Lexeme → Out RawInst
+one_at ts = if next_is classes.Return ts then return_line_at ts else inst_at ts

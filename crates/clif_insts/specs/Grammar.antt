@@ -5,7 +5,7 @@ use Rattle.std.specs.List.{filter}
 use Rattle.grammar.specs.Rules.{Rule, Opt, Many, Refuse, UnknownOpcode, Unsupported, member, good}
 use Rattle.clif_insts.specs.declared.class.Class.{Class}
 use Rattle.clif_insts.specs.declared.class.Class.TheVariants as classes
-use Rattle.clif_insts.specs.Terminals.{◌then◌, ◌or◌, codes_of, refused, words, unsigned, signed, left_paren, right_paren, left_bracket, right_bracket, comma, colon, dot, ty, ty_i64, vmctx, flag, little, big, trap_code, user_trap, condition, value, block, slot, sig, callee, tag, ret, exn, default_word, iconst, binary, unary, icmp, select, convert, binary_imm, icmp_imm, load, load_wide, store, stack_load, stack_store, func_addr, nullary, jump, brif, br_table, return_word, trap, trap_if, call, try_call, call_indirect, try_call_indirect}
+use Rattle.clif_insts.specs.Terminals.{◌then◌, ◌or◌, codes_of, refused, words, unsigned, signed, left_paren, right_paren, left_bracket, right_bracket, comma, colon, dot, arrow, equals, ty, ty_i64, vmctx, flag, little, big, trap_code, user_trap, condition, value, block, slot, sig, callee, tag, ret, exn, default_word, iconst, binary, unary, icmp, select, convert, binary_imm, icmp_imm, load, load_wide, store, stack_load, stack_store, func_addr, nullary, jump, brif, br_table, return_word, trap, trap_if, call, try_call, call_indirect, try_call_indirect}
 
 abbrev pub commas : Rule → Rule
 commas a = a then Many (comma then a)
@@ -58,12 +58,20 @@ target = call_to value
 abbrev pub normal_target : Rule
 normal_target = call_to (value or ret)
 
+-- the list of a `br_table`
+abbrev pub target_list : Rule
+target_list = left_bracket then Opt (commas target) then right_bracket
+
 -- a target of an exception table, whose payloads are `exn0` and `exn1`
 abbrev pub handler : Rule
 handler = call_to (value or exn)
 
+-- what an entry is for
+abbrev pub entry_name : Rule
+entry_name = tag or default_word or refused (classes.Context ∷ []) Unsupported
+
 abbrev pub entry : Rule
-entry = (tag or default_word or refused (classes.Context ∷ []) Unsupported) then colon then handler
+entry = entry_name then colon then handler
 
 abbrev pub table : Rule
 table = left_bracket then Opt (commas entry) then right_bracket
@@ -75,10 +83,9 @@ args = left_paren then Opt (commas value) then right_paren
 abbrev pub words_but : List Class → List ℕ
 words_but excepted = filter (λ c. not (member c (codes_of excepted))) (codes_of words)
 
--- An instruction. In its place opcodes that are left out are Unsupported, and other words UnknownOpcode, but for those that may begin something else there.
--- The values of a `return` are not part of it: they stand behind it, as far as they are not the results of the next line.
-abbrev pub inst : List Class → Rule
-inst excepted =
+-- An instruction, with this rule for a `return`. In its place opcodes that are left out are Unsupported, and other words UnknownOpcode, but for those that may begin something else there.
+abbrev pub instruction : Rule → List Class → Rule
+instruction returned excepted =
     (iconst then suffix then number)
     or (binary then Opt suffix then value then comma then value)
     or (unary then Opt suffix then value)
@@ -96,8 +103,8 @@ inst excepted =
     or nullary
     or (jump then target)
     or (brif then Opt suffix then value then comma then target then comma then target)
-    or (br_table then value then comma then target then comma then left_bracket then Opt (commas target) then right_bracket)
-    or return_word
+    or (br_table then value then comma then target then comma then target_list)
+    or returned
     or (trap then any_trap)
     or (trap_if then Opt suffix then value then comma then any_trap)
     or (call then callee then args)
@@ -107,6 +114,25 @@ inst excepted =
     or refused (classes.RefusedOpcode ∷ []) Unsupported
     or Refuse (words_but excepted) UnknownOpcode
 
+-- An instruction, where the values of a `return` stand behind it, as far as they are not the results of the next line.
+abbrev pub inst : List Class → Rule
+inst excepted = instruction return_word excepted
+
+-- `return` and its values
+abbrev pub return_values : Rule
+return_values = return_word then Opt (commas value)
+
+-- an instruction, with the values of a `return`
+abbrev pub whole_inst : Rule
+whole_inst = instruction return_values []
+
+-- A `return` whose next words begin the next line: value words joined by commas and followed by `=`, or a single one followed by `->`.
+abbrev pub return_alone : Rule
+return_alone = return_word then value then (arrow or (Many (comma then value) then equals))
+
 -- the next token always says which way to go
 pub inst_is_good : (good (inst []) ≡ true) × (good (inst (classes.Value ∷ [])) ≡ true) × (good (inst (classes.Value ∷ classes.Block ∷ [])) ≡ true)
 inst_is_good = (refl, refl, refl)
+
+pub whole_inst_is_good : (good whole_inst ≡ true) × (good return_alone ≡ true)
+whole_inst_is_good = (refl, refl)

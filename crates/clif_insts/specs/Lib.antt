@@ -6,4 +6,7 @@ pub mod Terminals
 pub mod Grammar
 pub mod Reading
 pub mod Parts
+pub mod Values
 pub mod Forms
+pub mod InstValues
+pub mod Insts

@@ -3,6 +3,7 @@
 
 mod class;
 mod forms;
+mod insts;
 mod items;
 mod laws;
 mod opcodes;
@@ -14,6 +15,7 @@ mod words;
 
 pub use class::Class;
 pub use forms::any_inst;
+pub use insts::{SyntaxErr, inst};
 pub use items::{Meaning, token_meaning};
 pub use opcodes::{OPCODES, Opcode, OpcodeRow};
 pub use parts::Place;

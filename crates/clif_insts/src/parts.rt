@@ -200,7 +200,7 @@ pub(crate) fn comma_value(reader: &mut Reader<'_>) -> Result<RawName, Stop>
     reader.take(Class::Value)
 }
 
-fn one_value(alloc: Global, item: RawName) -> Result<Vec<RawName>, Stop>
+pub(crate) fn one_value(alloc: Global, item: RawName) -> Result<Vec<RawName>, Stop>
     ensures some { IfOk result (λ list. list.items ≡ item ∷ []) }
     ensures none { IfErr result (λ e. e ≡ NoMemory) }
 {

@@ -7,6 +7,7 @@ ghost use Rattle.clif_lex.specs.Lexing.{tokens_of};
 ghost use Rattle.clif_insts.specs.Classes.{code};
 ghost use Rattle.clif_insts.specs.Lexemes.{lexemes};
 ghost use Rattle.clif_insts.specs.Lexemes as lexeme_specs;
+ghost use Rattle.clif_insts.specs.Insts.{place_or};
 ghost use Rattle.clif_insts.specs.Reading as spec;
 ghost use Rattle.clif_insts.specs.Reading.{Gives, same};
 
@@ -113,6 +114,30 @@ impl<'a> Reader<'a> {
             tokens,
             at,
             next,
+        }
+    }
+
+    /// A second reader of the tokens that are still to be read.
+    #[inline]
+    pub fn fork(&self) -> Reader<'a>
+        ensures { result ≡ self.now }
+    {
+        Reader {
+            text: self.text,
+            tokens: self.tokens,
+            at: self.at,
+            next: self.next,
+        }
+    }
+
+    /// The next token's place in the list of tokens, or this end where there is none.
+    #[inline]
+    pub fn place_or(&self, end: usize) -> usize
+        ensures { result ≡ place_or end self.now }
+    {
+        match self.next {
+            Some(_) => self.at,
+            None => end,
         }
     }
 

@@ -1,0 +1,124 @@
+-- One instruction, in the words of the grammar: what reading finds, or where it stops.
+use Rattle.std.proofs.Common.{◌≡◌, ℕ, ◌≤◌, true, cond, List, [], ◌∷◌, ◌++◌, length, take, drop, None, Result, Ok, Err, refl, sym, ap, subst, ◌∙◌, inl, inr, arith, append_assoc}
+use Rattle.std.proofs.lemmas.List.{append-nil}
+use Rattle.grammar.specs.Rules.{Lexeme, Rule, Value, Kind, Cut, Derives, Begins, StopsAt, Answers, Out, good, read, read_all, heads_any, ◌>>=◌}
+use Rattle.grammar.specs.Rules as rules
+use Rattle.grammar.proofs.Laws.{sound, complete, ok_is}
+use Rattle.grammar.proofs.Past.{Left, past}
+use Rattle.grammar.proofs.Exact.{exact}
+use Rattle.clif_insts.specs.declared.class.Class.TheVariants as classes
+use Rattle.clif_insts.specs.declared.raw.RawInst.{RawInst}
+use Rattle.clif_insts.specs.declared.raw.RawOperands.TheVariants as operands
+use Rattle.clif_insts.specs.Classes.{code}
+use Rattle.clif_insts.specs.Grammar.{whole_inst}
+use Rattle.clif_insts.specs.declared.stop.Stop.{Stop}
+use Rattle.clif_insts.specs.declared.stop.Stop.TheVariants as stops
+use Rattle.clif_insts.specs.Reading.{name, name_at, Stops}
+use Rattle.clif_insts.specs.Values.{seen}
+use Rattle.clif_insts.specs.InstValues.{raw, whole_value}
+use Rattle.clif_insts.specs.Forms.{opt_values_at, return_values_at, whole_at, one_at}
+use Rattle.clif_insts.specs.Insts.{Own, IsInst, NoMore, place_or, place_behind, Found, Missing, Stopped, error_at}
+use Rattle.clif_insts.proofs.InstLaws.{whole_is}
+use Rattle.clif_insts.proofs.Alone.{Alone, Whole, alone_or_whole}
+
+-- ---- reading by the grammar's value
+
+split_at_next : (us more : List Lexeme) (x : Lexeme) → us ++ x ∷ more ≡ (us ++ x ∷ []) ++ more
+split_at_next us more x = simp append_assoc
+
+longer : (x : Lexeme) (more : List Lexeme) → length (x ∷ more) ≤ length more → ⊥
+longer x more h = omega arith
+
+-- with the next token the text begins no instruction, if reading stopped before it
+no_more : (ts us rest : List Lexeme) (v : Value whole_inst) → ts ≡ us ++ rest → read whole_inst ts ≡ Ok (v, rest) → NoMore us rest
+no_more ts us [] v e h = tt
+no_more ts us (x ∷ more) v e h = λ b.
+    let p = past whole_inst refl (us ++ x ∷ []) more b in
+    longer x more (subst (Left (length more)) h (subst (λ (l : List Lexeme). Left (length more) (read whole_inst l)) (sym (e ∙ split_at_next us more x)) p))
+
+abbrev Read : List Lexeme → Value whole_inst → List Lexeme → Type 0
+Read ts v rest = Cut ts (λ us vs. (vs ≡ rest) × Derives whole_inst us v × ((w : Value whole_inst) → Derives whole_inst us w → w ≡ v) × NoMore us vs)
+
+found : (ts : List Lexeme) (v : Value whole_inst) (rest : List Lexeme) → read whole_inst ts ≡ Ok (v, rest) → Read ts v rest
+found ts v rest h =
+    let s = sound whole_inst ts (v, rest) h in
+    let c : read whole_inst (s.0 ++ []) ≡ Ok (v, []) = complete whole_inst refl s.0 v [] s.2 refl in
+    (s.0, rest, s.1, (refl, s.2, λ w d. same_value w v (sym (complete whole_inst refl s.0 w [] d refl) ∙ c), no_more ts s.0 rest v s.1 h))
+  where
+    same_value : (w v : Value whole_inst) → (let o : Out (Value whole_inst) = Ok (w, []) in o) ≡ Ok (v, []) → w ≡ v
+    same_value w v e = ap (λ (p : Value whole_inst × List Lexeme). p.0) (ok_is (w, []) (v, []) e)
+
+missed : (ts : List Lexeme) (e : Kind × List Lexeme) → read whole_inst ts ≡ Err e → Answers whole_inst ts (Err e)
+missed ts e h =
+    let given : read_all whole_inst ts ≡ Err e = ap (λ (o : Out (Value whole_inst)). o >>= λ x. cond (heads_any x.1) (Err (rules.Syntax, x.1)) (Ok x.0)) h in
+    subst (Answers whole_inst ts) given (exact whole_inst refl ts)
+
+-- ---- one instruction
+
+behind : (us rest : List Lexeme) → drop (length us) (us ++ rest) ≡ rest
+behind [] rest = refl
+behind (u ∷ us) rest = behind us rest
+
+abbrev Says : List Lexeme → ℕ → Out RawInst → Type 0
+Says ts end (Ok x) = Found ts end x.0 (place_or end x.1)
+Says ts end (Err e) = Missing ts end e.0 (place_or end e.1)
+
+place_same : (ts us rest : List Lexeme) (end : ℕ) → ts ≡ us ++ rest → place_or end rest ≡ place_behind us ts end
+place_same ts us rest end e = ap (place_or end) (sym (ap (drop (length us)) e ∙ behind us rest))
+
+says_whole : (ts : List Lexeme) (end : ℕ) → Own ts ts → (o : Out (Value whole_inst)) → read whole_inst ts ≡ o → Says ts end (seen whole_value o)
+says_whole ts end own (Ok (v, rest)) h =
+    let f = found ts v rest h in
+    (ts, own, (f.0, f.1, f.2, ((v, f.3.1, refl, f.3.2), f.3.3, place_same ts f.0 rest end (f.2 ∙ ap (λ (l : List Lexeme). f.0 ++ l) f.3.0))))
+says_whole ts end own (Err e) h =
+    let m = missed ts e h in
+    (ts, own, (m.0, m.1, m.2, (m.3.1, m.3.2, place_same ts m.0 e.1 end (m.2 ∙ ap (λ (l : List Lexeme). m.0 ++ l) m.3.0))))
+
+-- a `return` and nothing else
+return_only : (x : Lexeme) → x.class ≡ code classes.Return → whole_at (x ∷ []) ≡ Ok (raw (name x) None (operands.Return []), [])
+unfolding whole_at return_values_at opt_values_at name_at
+return_only x h = rw h refl
+
+says_alone : (ts : List Lexeme) (end : ℕ) → Alone ts → (o : Out (Value whole_inst)) (x : Lexeme) (rest : List Lexeme) → ts ≡ x ∷ rest → Own ts (x ∷ [])
+    → read whole_inst (x ∷ []) ≡ o → seen whole_value o ≡ Ok (raw (name x) None (operands.Return []), []) → Found ts end (raw (name x) None (operands.Return [])) (place_or end rest)
+says_alone ts end a (Err e) x rest all own h s = absurd cc
+says_alone ts end a (Ok (v, left)) x rest all own h s =
+    let none_left : left ≡ [] = (let p = same_pair (whole_value v, left) (raw (name x) None (operands.Return []), []) s in ap (λ (p : RawInst × List Lexeme). p.1) p) in
+    let value : raw (name x) None (operands.Return []) ≡ whole_value v = (let p = same_pair (whole_value v, left) (raw (name x) None (operands.Return []), []) s in sym (ap (λ (p : RawInst × List Lexeme). p.0) p)) in
+    let f = found (x ∷ []) v left h in
+    let us : x ∷ [] ≡ f.0 = f.2 ∙ ap (λ (l : List Lexeme). f.0 ++ l) (f.3.0 ∙ none_left) ∙ append-nil f.0 in
+    let place : place_or end rest ≡ place_behind f.0 ts end = ap (λ (l : List Lexeme). place_or end (drop (length l) (x ∷ rest))) us ∙ ap (λ (l : List Lexeme). place_behind f.0 l end) (sym all) in
+    (x ∷ [], own, (f.0, f.1, f.2, ((v, f.3.1, value, f.3.2), f.3.3, place)))
+  where
+    same_pair : (p q : RawInst × List Lexeme) → (let o : Out RawInst = Ok p in o) ≡ Ok q → p ≡ q
+    same_pair p q e = cc
+
+pub says : (ts : List Lexeme) (end : ℕ) → Says ts end (one_at ts)
+says ts end =
+    elim (alone_or_whole ts) [
+      | inl a ↦ subst (Says ts end) (sym a.read) (
+          let own : Own ts (a.first ∷ []) = inl (a.starts, sym (ap (take 1) a.all)) in
+          let s : seen whole_value (read whole_inst (a.first ∷ [])) ≡ Ok (raw (name a.first) None (operands.Return []), []) = sym (whole_is.same (a.first ∷ [])) ∙ return_only a.first a.is_return in
+          says_alone ts end a (read whole_inst (a.first ∷ [])) a.first a.rest a.all own refl s)
+      | inr w ↦ subst (Says ts end) (sym (w.read ∙ whole_is.same ts)) (says_whole ts end (inr (w.starts_not, refl)) (read whole_inst ts) refl)
+    ]
+
+pub says_found : (ts : List Lexeme) (end : ℕ) (x : RawInst) (rest : List Lexeme) → one_at ts ≡ Ok (x, rest) → Found ts end x (place_or end rest)
+says_found ts end x rest e = subst (Says ts end) e (says ts end)
+
+pub says_missing : (ts : List Lexeme) (end : ℕ) (kind : Kind) (rest : List Lexeme) → one_at ts ≡ Err (kind, rest) → Missing ts end kind (place_or end rest)
+says_missing ts end kind rest e = subst (Says ts end) e (says ts end)
+
+-- ---- what the call answers
+
+pub found_at : (ts given rest : List Lexeme) (end size k : ℕ) (x : RawInst) → given ≡ ts → size ≡ end → k ≡ place_or size rest → one_at given ≡ Ok (x, rest) → Found ts end x k
+found_at ts given rest end size k x e f g h = subst (Found ts end x) (sym (g ∙ ap (λ n. place_or n rest) f)) (says_found ts end x rest (sym (ap one_at e) ∙ h))
+
+missing_at : (ts given rest : List Lexeme) (end size k : ℕ) (kind : Kind) → given ≡ ts → size ≡ end → k ≡ place_or size rest → one_at given ≡ Err (kind, rest) → Missing ts end kind k
+missing_at ts given rest end size k kind e f g h = subst (Missing ts end kind) (sym (g ∙ ap (λ n. place_or n rest) f)) (says_missing ts end kind rest (sym (ap one_at e) ∙ h))
+
+pub stopped_at : (ts given rest : List Lexeme) (end size k : ℕ) (stop : Stop) → given ≡ ts → size ≡ end → k ≡ place_or size rest → Stops rest stop (one_at given) → Stopped ts end (error_at stop k)
+stopped_at ts given rest end size k stops.Syntax e f g h = missing_at ts given rest end size k rules.Syntax e f g h
+stopped_at ts given rest end size k stops.UnknownOpcode e f g h = missing_at ts given rest end size k rules.UnknownOpcode e f g h
+stopped_at ts given rest end size k stops.Unsupported e f g h = missing_at ts given rest end size k rules.Unsupported e f g h
+stopped_at ts given rest end size k stops.NoMemory e f g h = tt

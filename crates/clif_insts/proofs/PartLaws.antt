@@ -1,0 +1,190 @@
+-- Each part of an instruction is read as its rule of the grammar says.
+use Rattle.std.proofs.Common.{◌≡◌, ℕ, true, false, cond, List, [], ◌∷◌, ◌++◌, length, map, Option, Some, None, Ok, refl}
+use Rattle.grammar.specs.Rules.{Lexeme, Rule, Opt, Many, Value, Unsupported, Out, heads, firsts, ◌>>=◌}
+use Rattle.ir_core.specs.declared.signatures.Ty.TheVariants as ty_words
+use Rattle.clif_insts.specs.declared.class.Class.{Class}
+use Rattle.clif_insts.specs.declared.class.Class.TheVariants as classes
+use Rattle.clif_insts.specs.declared.parts.Place.{Place}
+use Rattle.clif_insts.specs.declared.parts.Place.TheVariants as places
+use Rattle.clif_insts.specs.declared.raw.RawName.{RawName}
+use Rattle.clif_insts.specs.declared.raw.RawArg.{RawArg}
+use Rattle.clif_insts.specs.declared.raw.RawArg.TheVariants as raw_args
+use Rattle.clif_insts.specs.declared.raw.RawTarget.{RawTarget}
+use Rattle.clif_insts.specs.declared.raw.RawEntry.{RawEntry}
+use Rattle.clif_insts.specs.declared.raw.RawTrap.TheVariants as traps
+use Rattle.clif_insts.specs.Classes.{code}
+use Rattle.clif_insts.specs.Terminals.{◌then◌, ◌or◌, one, value, comma, colon, ret, exn, ty_i64, left_paren, right_paren, condition, signed}
+use Rattle.clif_insts.specs.Grammar.{commas, number, refused_type, any_type, suffix, suffix_i64, any_trap, call_to, target, normal_target, handler, entry_name, entry, table, args, target_list}
+use Rattle.clif_insts.specs.Reading.{next_is, name, name_at, each, with_front}
+use Rattle.clif_insts.specs.Parts.{type_of, type_at, suffix_at, opt_suffix_at, i64_at, suffix_i64_at, opt_suffix_i64_at, condition_of, condition_at, trap_of, trap_at, comma_name_at, more_values_at, values_at, args_at, arg_at, comma_arg_at, more_args_at, some_args_at, target_args_at, opt_target_args_at, target_at, comma_target_at, more_targets_at, targets_at, target_list_at, entry_tag_at, entry_at, comma_entry_at, more_entries_at, entries_at, table_at, number_at, offset_at}
+use Rattle.clif_insts.specs.Values.{either, ◌otherwise◌, perhaps, never, commas_value, any_type_value, suffix_value, opt_suffix_value, number_value, offset_value, condition_value, trap_value, args_value, value_arg, target_value, branch_value, normal_value, handler_value, target_list_value, entry_name_value, entry_value, table_value}
+use Rattle.clif_insts.proofs.Seen.{Is, then_is, map_is, opt_is, alt_is, many_is, refuse_is, name_is, amount_is}
+
+-- a { "," a }
+commas_is : {A : Type 0} {a : Rule} {f : Value a → A} {p : List Lexeme → Out A} → Is a f p
+    → Is (commas a) (commas_value a f) (λ ts. p ts >>= λ x. with_front (x.0 ∷ []) (each (λ us. name_at classes.Comma us >>= λ c. p c.1) (code classes.Comma ∷ []) (length x.1) x.1))
+commas_is {A} {a} {f} {p} e =
+    then_is e (Many (comma then a)) (λ x vs. x ∷ map (λ v. f v.1) vs) (λ x ts. with_front (x ∷ []) (each (λ us. name_at classes.Comma us >>= λ c. p c.1) (code classes.Comma ∷ []) (length ts) ts))
+    (λ x. map_is (many_is (then_is (name_is classes.Comma) a (λ c v. f v) (λ c. p) (λ c. e))) (λ xs. (x ∷ []) ++ xs))
+
+-- a list between two tokens, which may be empty
+within_is : {A : Type 0} {r : Rule} {f : Value r → List A} {p : List Lexeme → Out (List A)} (left right : Class) → Is r f p
+    → Is (one left then Opt r then one right) (λ v. perhaps [] f v.1.0)
+    (λ ts. name_at left ts >>= λ l. cond (heads (firsts r) l.1) (p l.1) (Ok ([], l.1)) >>= λ vs. name_at right vs.1 >>= λ e. Ok (vs.0, e.1))
+within_is {A} {r} {f} {p} left right e =
+    then_is (name_is left) (Opt r then one right) (λ l v. perhaps [] f v.0)
+    (λ l ts. cond (heads (firsts r) ts) (p ts) (Ok ([], ts)) >>= λ vs. name_at right vs.1 >>= λ e. Ok (vs.0, e.1))
+    (λ l. then_is (opt_is e []) (one right) (λ vs v. vs) (λ vs ts. name_at right ts >>= λ e. Ok (vs, e.1)) (λ vs. map_is (name_is right) (λ e. vs)))
+
+-- ---- types, conditions, trap codes and numbers
+
+type_is : Is any_type any_type_value type_at
+unfolding type_at
+type_is = alt_is (map_is (name_is classes.Ty) (λ x. type_of x.number)) (alt_is (map_is (name_is classes.TyI64) (λ x. ty_words.I64)) (refuse_is (classes.RefusedType ∷ []) Unsupported never))
+
+pub suffix_is : Is suffix suffix_value suffix_at
+unfolding suffix_at
+suffix_is = then_is (name_is classes.Dot) any_type (λ d v. any_type_value v) (λ d. type_at) (λ d. type_is)
+
+pub opt_suffix_is : Is (Opt suffix) opt_suffix_value opt_suffix_at
+unfolding opt_suffix_at
+opt_suffix_is = opt_is (map_is suffix_is Some) None
+
+abbrev i64_word : Value (ty_i64 or refused_type) → RawName
+i64_word = name otherwise never
+
+abbrev pub i64_value : Value suffix_i64 → RawName
+i64_value v = i64_word v.1
+
+abbrev pub opt_i64_value : Value (Opt suffix_i64) → Option RawName
+opt_i64_value = perhaps None (λ v. Some (i64_value v))
+
+i64_is : Is (ty_i64 or refused_type) i64_word i64_at
+unfolding i64_at
+i64_is = alt_is (name_is classes.TyI64) (refuse_is (classes.RefusedType ∷ []) Unsupported never)
+
+pub suffix_i64_is : Is suffix_i64 i64_value suffix_i64_at
+unfolding suffix_i64_at
+suffix_i64_is = then_is (name_is classes.Dot) (ty_i64 or refused_type) (λ d v. i64_word v) (λ d. i64_at) (λ d. i64_is)
+
+pub opt_suffix_i64_is : Is (Opt suffix_i64) opt_i64_value opt_suffix_i64_at
+unfolding opt_suffix_i64_at
+opt_suffix_i64_is = opt_is (map_is suffix_i64_is Some) None
+
+pub condition_is : Is condition condition_value condition_at
+unfolding condition_at
+condition_is = map_is (name_is classes.Condition) (λ x. condition_of x.number)
+
+pub trap_is : Is any_trap trap_value trap_at
+unfolding trap_at
+trap_is = alt_is (map_is (name_is classes.TrapCode) (λ x. trap_of x.number)) (map_is (name_is classes.UserTrap) traps.User)
+
+pub number_is : Is number number_value number_at
+unfolding number_at
+number_is = alt_is (amount_is classes.Unsigned) (amount_is classes.Signed)
+
+pub offset_is : Is (Opt signed) offset_value offset_at
+unfolding offset_at
+offset_is = opt_is (map_is (amount_is classes.Signed) Some) None
+
+-- ---- values
+
+pub values_is : Is (commas value) (commas_value value name) values_at
+unfolding values_at more_values_at comma_name_at
+values_is = commas_is (name_is classes.Value)
+
+pub more_values_is : (front : List RawName) → Is (Many (comma then value)) (λ vs. front ++ map (λ v. name v.1) vs) (more_values_at front)
+unfolding more_values_at comma_name_at
+more_values_is front = map_is (many_is (then_is (name_is classes.Comma) value (λ c v. name v) (λ c. name_at classes.Value) (λ c. name_is classes.Value))) (λ vs. front ++ vs)
+
+pub args_is : Is args args_value args_at
+unfolding args_at
+args_is = within_is classes.LeftParen classes.RightParen values_is
+
+-- ---- targets
+
+branch_arg_is : Is value value_arg (arg_at places.Branch)
+unfolding arg_at
+branch_arg_is = map_is (name_is classes.Value) raw_args.Value
+
+normal_arg_is : Is (value or ret) (value_arg otherwise (λ x. raw_args.Ret (name x))) (arg_at places.Normal)
+unfolding arg_at
+normal_arg_is = alt_is (map_is (name_is classes.Value) raw_args.Value) (map_is (name_is classes.Ret) raw_args.Ret)
+
+handler_arg_is : Is (value or exn) (value_arg otherwise (λ x. raw_args.Exn (name x))) (arg_at places.Handler)
+unfolding arg_at
+handler_arg_is = alt_is (map_is (name_is classes.Value) raw_args.Value) (map_is (name_is classes.Exn) raw_args.Exn)
+
+some_args_is : {arg : Rule} {f : Value arg → RawArg} (place : Place) → Is arg f (arg_at place) → Is (commas arg) (commas_value arg f) (some_args_at place)
+unfolding some_args_at more_args_at comma_arg_at
+some_args_is place e = commas_is e
+
+abbrev Arguments : Rule → Rule
+Arguments arg = left_paren then Opt (commas arg) then right_paren
+
+abbrev arguments_value : (arg : Rule) → (Value arg → RawArg) → Value (Arguments arg) → List RawArg
+arguments_value arg f v = perhaps [] (commas_value arg f) v.1.0
+
+abbrev raw_target : RawName → List RawArg → RawTarget
+raw_target b vs = record { block = b; args = vs }
+
+target_is : (arg : Rule) (f : Value arg → RawArg) (place : Place) → Is (Arguments arg) (arguments_value arg f) (target_args_at place) → Is (call_to arg) (target_value arg f) (target_at place)
+unfolding target_at opt_target_args_at
+target_is arg f place e =
+    then_is (name_is classes.Block) (Opt (Arguments arg)) (λ b v. raw_target b (perhaps [] (arguments_value arg f) v))
+    (λ b ts. opt_target_args_at place ts >>= λ vs. Ok (raw_target b vs.0, vs.1))
+    (λ b. map_is (opt_is e []) (λ vs. raw_target b vs))
+
+branch_args_is : Is (Arguments value) (arguments_value value value_arg) (target_args_at places.Branch)
+unfolding target_args_at
+branch_args_is = within_is classes.LeftParen classes.RightParen (some_args_is places.Branch branch_arg_is)
+
+normal_args_is : Is (Arguments (value or ret)) (arguments_value (value or ret) (value_arg otherwise (λ x. raw_args.Ret (name x)))) (target_args_at places.Normal)
+unfolding target_args_at
+normal_args_is = within_is classes.LeftParen classes.RightParen (some_args_is places.Normal normal_arg_is)
+
+handler_args_is : Is (Arguments (value or exn)) (arguments_value (value or exn) (value_arg otherwise (λ x. raw_args.Exn (name x)))) (target_args_at places.Handler)
+unfolding target_args_at
+handler_args_is = within_is classes.LeftParen classes.RightParen (some_args_is places.Handler handler_arg_is)
+
+pub branch_is : Is target branch_value (target_at places.Branch)
+branch_is = target_is value value_arg places.Branch branch_args_is
+
+pub normal_is : Is normal_target normal_value (target_at places.Normal)
+normal_is = target_is (value or ret) (value_arg otherwise (λ x. raw_args.Ret (name x))) places.Normal normal_args_is
+
+handler_is : Is handler handler_value (target_at places.Handler)
+handler_is = target_is (value or exn) (value_arg otherwise (λ x. raw_args.Exn (name x))) places.Handler handler_args_is
+
+targets_is : Is (commas target) (commas_value target branch_value) targets_at
+unfolding targets_at more_targets_at comma_target_at
+targets_is = commas_is branch_is
+
+pub target_list_is : Is target_list target_list_value target_list_at
+unfolding target_list_at
+target_list_is = within_is classes.LeftBracket classes.RightBracket targets_is
+
+-- ---- exception tables
+
+entry_name_is : Is entry_name entry_name_value entry_tag_at
+unfolding entry_tag_at
+entry_name_is = alt_is (map_is (name_is classes.Tag) Some) (alt_is (map_is (name_is classes.Default) (λ x. None)) (refuse_is (classes.Context ∷ []) Unsupported never))
+
+abbrev raw_entry : Option RawName → RawTarget → RawEntry
+raw_entry t b = record { tag = t; target = b }
+
+entry_is : Is entry entry_value entry_at
+unfolding entry_at
+entry_is =
+    then_is entry_name_is (colon then handler) (λ t v. raw_entry t (handler_value v.1))
+    (λ t ts. name_at classes.Colon ts >>= λ c. target_at places.Handler c.1 >>= λ b. Ok (raw_entry t b.0, b.1))
+    (λ t. then_is (name_is classes.Colon) handler (λ c v. raw_entry t (handler_value v)) (λ c ts. target_at places.Handler ts >>= λ b. Ok (raw_entry t b.0, b.1))
+    (λ c. map_is handler_is (λ b. raw_entry t b)))
+
+entries_is : Is (commas entry) (commas_value entry entry_value) entries_at
+unfolding entries_at more_entries_at comma_entry_at
+entries_is = commas_is entry_is
+
+pub table_is : Is table table_value table_at
+unfolding table_at
+table_is = within_is classes.LeftBracket classes.RightBracket entries_is

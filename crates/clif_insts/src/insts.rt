@@ -1,0 +1,119 @@
+//! One instruction of a text.
+
+ghost use Rattle.std.specs.Prelude.{◌≡◌, ◌<◌, ◌≤◌, length, drop, Ok, IfOk, IfErr};
+ghost use Rattle.clif_lex.specs.Lexing.{tokens_of};
+ghost use Rattle.clif_insts.specs.Lexemes.{lexemes};
+ghost use Rattle.clif_insts.specs.Reading.{Gives, same};
+ghost use Rattle.clif_insts.specs.Forms as forms;
+ghost use Rattle.clif_insts.specs.Insts.{Found, Stopped};
+ghost use Rattle.clif_insts.specs.Insts as insts;
+
+use crate::class::Class;
+use crate::forms::any_inst;
+use crate::parts::{more_values, one_value};
+use crate::raw::{RawInst, RawName, RawOperands};
+use crate::reader::Reader;
+use crate::stop::Stop;
+use clif_lex::Tokens;
+use ir_core::List;
+use std::alloc::Global;
+
+/// Why the tokens are no instruction, and at which token of the list. At the end it is the list's length.
+#[derive(Clone, Copy, Debug, PartialEq, Eq)]
+pub enum SyntaxErr {
+    /// No instruction goes on with this token.
+    Syntax(usize),
+    /// The token is a word in the place of an opcode, and no opcode.
+    UnknownOpcode(usize),
+    /// The token is a word of CLIF that is left out here.
+    Unsupported(usize),
+    /// Memory ran out.
+    NoMemory,
+}
+
+/// The error of a stop at a token.
+fn error_at(stop: Stop, place: usize) -> SyntaxErr
+    ensures { result ≡ insts.error_at stop place }
+{
+    match stop {
+        Stop::Syntax => SyntaxErr::Syntax(place),
+        Stop::UnknownOpcode => SyntaxErr::UnknownOpcode(place),
+        Stop::Unsupported => SyntaxErr::Unsupported(place),
+        Stop::NoMemory => SyntaxErr::NoMemory,
+    }
+}
+
+/// The values of a `return`, but none where they would be the results of the next line, or its alias.
+#[tactic(auto, unfolding(crate::specs::Forms::own_values_at))]
+fn own_values(alloc: Global, reader: &mut Reader<'_>) -> Result<Vec<RawName>, Stop>
+    ensures { Gives (λ x. x.items) reader.new result (forms.own_values_at reader.old) }
+{
+    if !reader.next_is(Class::Value) {
+        return Ok(Vec::new(alloc));
+    }
+    let behind = reader.fork();
+    let value = reader.take(Class::Value)?;
+    if reader.next_is(Class::Arrow) {
+        *reader = behind;
+        return Ok(Vec::new(alloc));
+    }
+    let front = one_value(alloc, value)?;
+    let values = more_values(reader, front)?;
+    if reader.next_is(Class::Equals) {
+        *reader = behind;
+        return Ok(Vec::new(alloc));
+    }
+    Ok(values)
+}
+
+/// `return` and its own values.
+#[tactic(auto, unfolding(crate::specs::Forms::return_line_at))]
+fn return_line(alloc: Global, reader: &mut Reader<'_>) -> Result<RawInst, Stop>
+    ensures { Gives same reader.new result (forms.return_line_at reader.old) }
+{
+    let opcode = reader.take(Class::Return)?;
+    let values = own_values(alloc, reader)?;
+    Ok(RawInst {
+        opcode,
+        suffix: None,
+        operands: RawOperands::Return(List::from_vec(values)),
+    })
+}
+
+/// An instruction of a block, with the values of a `return` that are its own.
+#[tactic(auto, unfolding(crate::specs::Forms::one_at))]
+fn one_inst(alloc: Global, reader: &mut Reader<'_>) -> Result<RawInst, Stop>
+    ensures { Gives same reader.new result (forms.one_at reader.old) }
+{
+    if reader.next_is(Class::Return) {
+        return_line(alloc, reader)
+    } else {
+        any_inst(alloc, reader)
+    }
+}
+
+/// The instruction that the tokens from `i` on begin with, and the token behind it.
+/// The tokens of the next line are not read: value words behind a `return` that are its results, or its alias.
+///
+/// # Errors
+///
+/// At the first token with which no instruction goes on, or at the end, by the kind of the words that the place refuses.
+pub fn inst(
+    alloc: Global,
+    text: &[u8],
+    tokens: &Tokens,
+    i: usize,
+) -> Result<(RawInst, usize), SyntaxErr>
+    requires whole { tokens_of text.now ≡ Ok tokens.now }
+    requires within { i ≤ length tokens.now }
+    ensures found { IfOk result (λ x. Found (lexemes text.now i (drop i tokens.now)) (length tokens.now) x.0 x.1) }
+    ensures stop { IfErr result (λ e. Stopped (lexemes text.now i (drop i tokens.now)) (length tokens.now) e) }
+{
+    let mut reader = Reader::new(text, tokens, i);
+    let read = one_inst(alloc, &mut reader);
+    let place = reader.place_or(tokens.len());
+    match read {
+        Ok(found) => Ok((found, place)),
+        Err(stop) => Err(error_at(stop, place)),
+    }
+}

@@ -10,6 +10,7 @@ pub mod CallLaws
 pub mod InstLaws
 pub mod Places
 pub mod Alone
+pub mod Firm
 pub mod One
 pub mod Takes
 pub mod Views

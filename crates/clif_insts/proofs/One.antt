@@ -18,6 +18,7 @@ use Rattle.clif_insts.specs.Values.{seen}
 use Rattle.clif_insts.specs.InstValues.{raw, whole_value}
 use Rattle.clif_insts.specs.Forms.{opt_values_at, return_values_at, whole_at, one_at}
 use Rattle.clif_insts.specs.Insts.{Own, IsInst, NoMore, place_or, place_behind, Found, Missing, Stopped, error_at}
+use Rattle.clif_insts.proofs.Firm.{no_text}
 use Rattle.clif_insts.proofs.InstLaws.{whole_is}
 use Rattle.clif_insts.proofs.Alone.{Alone, Whole, alone_or_whole}
 
@@ -72,7 +73,8 @@ says_whole ts end own (Ok (v, rest)) h =
     (ts, own, (f.0, f.1, f.2, ((v, f.3.1, refl, f.3.2), f.3.3, place_same ts f.0 rest end (f.2 ∙ ap (λ (l : List Lexeme). f.0 ++ l) f.3.0))))
 says_whole ts end own (Err e) h =
     let m = missed ts e h in
-    (ts, own, (m.0, m.1, m.2, (m.3.1, m.3.2, place_same ts m.0 e.1 end (m.2 ∙ ap (λ (l : List Lexeme). m.0 ++ l) m.3.0))))
+    let cut : ts ≡ m.0 ++ e.1 = m.2 ∙ ap (λ (l : List Lexeme). m.0 ++ l) m.3.0 in
+    (ts, own, (m.0, m.1, m.2, (m.3.1, no_text whole_inst refl refl ts m.0 e.1 e.0 cut h, m.3.2, place_same ts m.0 e.1 end (m.2 ∙ ap (λ (l : List Lexeme). m.0 ++ l) m.3.0))))
 
 -- a `return` and nothing else
 return_only : (x : Lexeme) → x.class ≡ code classes.Return → whole_at (x ∷ []) ≡ Ok (raw (name x) None (operands.Return []), [])

@@ -40,9 +40,9 @@ place_behind us ts end = place_or end (drop (length us) ts)
 abbrev pub Found : List Lexeme → ℕ → RawInst → ℕ → Type 0
 Found ts end x k = (own : List Lexeme) × Own ts own × Cut own (λ us rest. IsInst us x × NoMore us rest × (k ≡ place_behind us ts end))
 
--- The tokens up to k begin an instruction, and with the next they begin none, or there is no next and they are none. The kind is that of the words that the place refuses, and Syntax elsewhere.
+-- The tokens up to k are no instruction. They begin one, and with the next they begin none, or there is no next. The kind is that of the words that the place refuses, and Syntax elsewhere.
 abbrev pub Missing : List Lexeme → ℕ → Kind → ℕ → Type 0
-Missing ts end kind k = (own : List Lexeme) × Own ts own × Cut own (λ us rest. Begins whole_inst us × StopsAt whole_inst us kind rest × (k ≡ place_behind us ts end))
+Missing ts end kind k = (own : List Lexeme) × Own ts own × Cut own (λ us rest. Begins whole_inst us × ((v : Value whole_inst) → Derives whole_inst us v → ⊥) × StopsAt whole_inst us kind rest × (k ≡ place_behind us ts end))
 
 abbrev pub Stopped : List Lexeme → ℕ → SyntaxErr → Type 0
 Stopped ts end (errors.Syntax k) = Missing ts end rules.Syntax k

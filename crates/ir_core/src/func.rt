@@ -9,14 +9,13 @@ ghost use Rattle.ir_core.specs.Viewed.{line_of};
 mod reading;
 mod splicing;
 
-pub use reading::{Blocks, Insts};
-
 use crate::declarations::{Callee, SlotDecl};
 use crate::instructions::InstData;
 use crate::lists::List;
 use crate::names::FuncName;
 use crate::numbers::{Block, FuncRef, SigRef, Slot, Value};
 use crate::signatures::{Sig, Ty};
+pub use reading::{Blocks, Insts};
 use std::alloc::{AllocError, Global};
 use std::marker::Model;
 

@@ -3,6 +3,7 @@
 //! Contracts see a function as lists over natural numbers (`specs/Module.antt`).
 #![tactic(auto)]
 
+mod copies;
 mod declarations;
 mod func;
 mod instructions;

@@ -178,8 +178,7 @@ fn append_reserved<T: Drop>(items: &mut Vec<T>, more: List<T>)
 }
 
 /// An instruction that does nothing.
-fn nop(alloc: Global) -> InstData
-{
+fn nop(alloc: Global) -> InstData {
     InstData {
         inst: Inst::Nop,
         ty: None,

@@ -16,10 +16,10 @@ pub loop-block-init : goal.loop-block-init
 loop-block-init c =
     let numbers : c.into_iter-block-iterator.result ≡ block_numbers c.args.self.now.function.blocks = c.into_iter-block-iterator.ensures.into_iter_gives ∙ c.blocks-block-items.ensures.numbers in
     let sigs : total sig_size (take c.loop-sig.sig-index c.deref-sig-items.result.now) ≡ total sig_size c.args.self.now.function.sigs =
-      ap (total sig_size) (take_all c.loop-sig.sig-index c.deref-sig-items.result.now c.loop-sig-test.false ∙ (c.deref-sig-items.ensures.value ∙ ap (λ z. z.function.sigs) c.self.view_is))
+    ap (total sig_size) (take_all c.loop-sig.sig-index c.deref-sig-items.result.now c.loop-sig-test.false ∙ (c.deref-sig-items.ensures.value ∙ ap (λ z. z.function.sigs) c.self.view_is))
     in
     let blocks : total (size_at c.args.self.now.function.blocks) c.into_iter-block-iterator.result ≡ total block_size c.args.self.now.function.blocks =
-      ap (total (size_at c.args.self.now.function.blocks)) numbers ∙ total_numbers c.args.self.now.function.blocks c.blocks-block-items.ensures.sound.blocks_differ
+    ap (total (size_at c.args.self.now.function.blocks)) numbers ∙ total_numbers c.args.self.now.function.blocks c.blocks-block-items.ensures.sound.blocks_differ
     in
     record {
       sum = omega (arith, sigs, blocks, c.loop-sig.invariant);

@@ -1,0 +1,5 @@
+pub mod Bytes
+pub mod Numbers
+pub mod Spans
+pub mod Lexing
+pub mod Places

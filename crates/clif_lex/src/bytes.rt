@@ -1,0 +1,1 @@
+//! The sets of bytes that tokens are made of.

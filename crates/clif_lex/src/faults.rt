@@ -1,0 +1,101 @@
+//! What may be wrong with a text, and where.
+
+ghost use Rattle.std.specs.Prelude.{◌≡◌};
+ghost use Rattle.clif_lex.specs.declared.faults.LexErr.TheVariants.{NoMemory};
+
+use std::alloc::{AllocError, AllocFailed};
+
+/// Why a text has no tokens: the first fault, with the byte at which it stands.
+#[derive(Clone, Copy, Debug, PartialEq, Eq)]
+pub enum LexErr {
+    /// No token begins at this byte.
+    BadChar(usize),
+    /// A number or a source location begins at this byte, and is none.
+    BadNumber(usize),
+    /// Memory ran out.
+    NoMemory,
+}
+
+impl From<AllocError> for LexErr {
+    ghost from_gives = { λ _ e. e ≡ NoMemory };
+
+    fn from(_: AllocError) -> Self {
+        LexErr::NoMemory
+    }
+}
+
+impl<T: Drop> From<AllocFailed<T>> for LexErr {
+    ghost from_gives = { λ _ e. e ≡ NoMemory };
+
+    fn from(_: AllocFailed<T>) -> Self {
+        LexErr::NoMemory
+    }
+}
+
+/// The kinds of fault that a text may have, in the order in which they are looked for:
+/// two of the tokens, three of the grammar, five of names, eight of types, and one of availability.
+#[derive(Clone, Copy, Debug, PartialEq, Eq)]
+pub enum TextKind {
+    BadChar,
+    BadNumber,
+    Syntax,
+    UnknownOpcode,
+    Unsupported,
+    Duplicate,
+    Undefined,
+    NumberRange,
+    Untyped,
+    TooLarge,
+    NoTerminator,
+    EntryTarget,
+    CountMismatch,
+    TypeMismatch,
+    Convention,
+    SignatureMismatch,
+    SlotRange,
+    TagPlace,
+    NotAvailable,
+}
+
+impl TextKind {
+    /// The kind as users see it.
+    pub fn name(&self) -> &'static str {
+        match self {
+            TextKind::BadChar => "BadChar",
+            TextKind::BadNumber => "BadNumber",
+            TextKind::Syntax => "Syntax",
+            TextKind::UnknownOpcode => "UnknownOpcode",
+            TextKind::Unsupported => "Unsupported",
+            TextKind::Duplicate => "Duplicate",
+            TextKind::Undefined => "Undefined",
+            TextKind::NumberRange => "NumberRange",
+            TextKind::Untyped => "Untyped",
+            TextKind::TooLarge => "TooLarge",
+            TextKind::NoTerminator => "NoTerminator",
+            TextKind::EntryTarget => "EntryTarget",
+            TextKind::CountMismatch => "CountMismatch",
+            TextKind::TypeMismatch => "TypeMismatch",
+            TextKind::Convention => "Convention",
+            TextKind::SignatureMismatch => "SignatureMismatch",
+            TextKind::SlotRange => "SlotRange",
+            TextKind::TagPlace => "TagPlace",
+            TextKind::NotAvailable => "NotAvailable",
+        }
+    }
+}
+
+/// Why a text is not read.
+#[derive(Clone, Copy, Debug, PartialEq, Eq)]
+pub enum TextErr {
+    /// The first fault, with the byte at which it stands.
+    Fault { kind: TextKind, spot: usize },
+    /// Memory ran out.
+    NoMemory,
+}
+
+/// Where a byte of a text stands: its line, and its column in bytes, both counted from 1.
+#[derive(Clone, Copy, Debug, PartialEq, Eq)]
+pub struct Place {
+    pub line: u32,
+    pub column: u32,
+}

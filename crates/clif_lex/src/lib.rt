@@ -1,0 +1,15 @@
+//! The tokens of a CLIF text, and the places of its bytes.
+#![tactic(auto)]
+
+mod bytes;
+mod faults;
+mod lexing;
+mod numbers;
+mod places;
+mod spans;
+
+pub use faults::{LexErr, Place, TextErr, TextKind};
+pub use lexing::tokens;
+pub use numbers::number;
+pub use places::place;
+pub use spans::{Token, TokenKind, Tokens, spelling};

@@ -1,0 +1,102 @@
+//! Tokens, and the list of a text's tokens.
+
+ghost use Rattle.std.specs.Prelude.{◌≡◌, ◌<◌, ◌≤◌, ◌↔◌, IsTrue, [], length, slice_get};
+ghost use Rattle.clif_lex.specs.Spans as spec;
+
+use std::marker::Model;
+
+/// What a token is.
+#[derive(Clone, Copy, Debug, PartialEq, Eq)]
+pub enum TokenKind {
+    /// A line before the first function that begins with `test`, `set` or `target`.
+    Header,
+    /// `;` and what follows on the line.
+    Comment,
+    /// `%` and a name.
+    Name,
+    /// An opcode, a type, an entity such as `v7`, or any other word.
+    Word,
+    /// A number, with its sign.
+    Number,
+    /// A source location: `@` and hexadecimal digits.
+    Srcloc,
+    /// `->`
+    Arrow,
+    /// One of the bytes `( ) { } [ ] , : = . < >`.
+    Mark(u8),
+}
+
+/// A token, and the bytes that it takes: from `start` up to `end`.
+#[derive(Clone, Copy, Debug, PartialEq, Eq)]
+pub struct Token {
+    pub kind: TokenKind,
+    pub start: usize,
+    pub end: usize,
+}
+
+/// A token as it is kept, in 12 bytes.
+#[derive(Clone, Copy, Debug)]
+pub(crate) struct Span {
+    pub kind: TokenKind,
+    pub start: u32,
+    pub end: u32,
+}
+
+/// The tokens of a text.
+#[derive(Debug, Drop)]
+pub struct Tokens {
+    spans: Vec<Span>,
+}
+
+impl Model for Tokens {
+    ghost use Rattle.std.specs.Prelude.{List, map};
+    ghost use Rattle.clif_lex.specs.declared.spans.Token.{Token};
+
+    ghost Value = { List Token };
+
+    ghost use Rattle.clif_lex.specs.Spans.{token_of};
+
+    ghost view = { λ tokens. map token_of tokens.spans.items };
+}
+
+impl Tokens {
+    /// How many tokens there are.
+    #[inline]
+    pub fn len(&self) -> usize
+        ensures { result ≡ length self.now }
+    {
+        self.spans.len()
+    }
+
+    /// Whether there is none.
+    #[inline]
+    pub fn is_empty(&self) -> bool
+        ensures { IsTrue result ↔ (self.now ≡ []) }
+    {
+        self.spans.is_empty()
+    }
+
+    /// The token at a place of the list.
+    #[inline]
+    pub fn get(&self, i: usize) -> Token
+        requires { i < length self.now }
+        ensures { slice_get self.now i ≡ Some result }
+    {
+        let span = self.spans[i];
+        Token {
+            kind: span.kind,
+            start: span.start as usize,
+            end: span.end as usize,
+        }
+    }
+}
+
+/// The bytes that a token takes.
+#[inline]
+pub fn spelling(text: &[u8], token: Token) -> &[u8]
+    requires ordered { token.start ≤ token.end }
+    requires within { token.end ≤ length text.now }
+    ensures { result.now ≡ spec.spelling text.now token }
+{
+    &text[token.start..token.end]
+}

@@ -1,6 +1,7 @@
 -- The tokens of a text: bytes are read from the left, and the longest token is taken.
-use Rattle.std.specs.Prelude.{◌≡◌, ℕ, ◌+◌, Bool, true, false, not, ◌&&◌, ◌||◌, ◌==◌, nat_lt, nat_eq, if◌then◌else◌, List, [], ◌∷◌, take, drop, codes, Result, Ok, Err}
-use Rattle.std.specs.List.{prefix_len, list_any, pointwise}
+use Rattle.std.specs.Prelude.{◌≡◌, ℕ, ◌+◌, Bool, true, false, not, ◌&&◌, ◌||◌, ◌==◌, nat_lt, if◌then◌else◌, List, [], ◌∷◌, take, drop, codes, Result, Ok, Err}
+use Rattle.std.specs.List.{prefix_len}
+use Rattle.std.specs.Str.{bytes_eq}
 use Rattle.std.specs.Char.{is_ascii_digit, is_ascii_hexdigit}
 use Rattle.clif_lex.specs.declared.spans.TokenKind.{TokenKind}
 use Rattle.clif_lex.specs.declared.spans.TokenKind.TheVariants.{Header, Comment, Name, Word, Number, Srcloc, Arrow, Mark}
@@ -17,13 +18,17 @@ abbrev pub ◌>>=◌ : {A B E : Type 0} → Result A E → (A → Result B E) �
 
 -- the words that begin a Header
 abbrev pub is_header_word : List ℕ → Bool
-is_header_word word = list_any (pointwise nat_eq word) (codes "test" ∷ codes "set" ∷ codes "target" ∷ [])
+is_header_word word = bytes_eq word (codes "test") || bytes_eq word (codes "set") || bytes_eq word (codes "target")
 
 -- whether a Header may still stand behind a token of this kind
 abbrev pub is_preamble : TokenKind → Bool
 is_preamble Header = true
 is_preamble Comment = true
 is_preamble kind = false
+
+-- whether a number begins a text: a digit, or a sign before one
+abbrev pub begins_number : List ℕ → Bool
+begins_number text = is_ascii_digit (first text) || (is_sign (first text) && is_ascii_digit (second text))
 
 abbrev pub token : TokenKind → ℕ → ℕ → Token
 token kind at len = record { kind = kind; start = at; end = at + len }
@@ -49,7 +54,7 @@ token_at preamble at text =
     let c = first text in
     let next = second text in
     if is_letter c then Ok (word_at preamble at text)
-    else if is_ascii_digit c || (is_sign c && is_ascii_digit next) then number_at at text
+    else if begins_number text then number_at at text
     else if is_mark c then Ok (token (Mark c) at 1)
     else if c == percent && is_word_byte next then Ok (token Name at (1 + prefix_len is_word_byte (drop 1 text)))
     else if c == semicolon then Ok (token Comment at (prefix_len is_no_line_feed text))

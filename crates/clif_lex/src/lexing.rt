@@ -1,22 +1,189 @@
 //! The tokens of a text.
 
-ghost use Rattle.std.specs.Prelude.{◌≡◌, ◌<◌, length, slice_get, IfSome};
+ghost use Rattle.std.specs.Prelude.{◌≡◌, ◌&&◌, ◌+◌, ◌<◌, ◌≤◌, ◌^◌, length, slice_get, IfSome, IfOk};
+ghost use Rattle.std.specs.List.{prefix_len};
+ghost use Rattle.std.specs.Char.{is_ascii_hexdigit};
+ghost use Rattle.clif_lex.specs.Bytes as bytes;
 ghost use Rattle.clif_lex.specs.declared.spans.TokenKind.TheVariants.{Number};
 ghost use Rattle.clif_lex.specs.Numbers as numbers;
 ghost use Rattle.clif_lex.specs.Spans.{spelling};
 ghost use Rattle.clif_lex.specs.Lexing as spec;
 ghost use Rattle.clif_lex.specs.Lexing.{Gives};
 
+use crate::bytes::{first, is_blank, is_letter, is_mark, is_sign, is_word_byte, second};
 use crate::faults::LexErr;
-use crate::spans::Tokens;
+use crate::numbers::{is_in_range, lacks_digits, number_len};
+use crate::spans::{Span, Token, TokenKind, Tokens};
 use std::alloc::Global;
 
+/// How many word bytes stand at the front.
+#[inline]
+fn word_run(text: &[u8]) -> usize
+    ensures len { result ≡ prefix_len bytes.is_word_byte text.now }
+    ensures within { result ≤ length text.now }
+{
+    text.iter().take_while(|c| is_word_byte(**c)).count()
+}
+
+/// How many hexadecimal digits stand at the front.
+#[inline]
+fn hex_run(text: &[u8]) -> usize
+    ensures len { result ≡ prefix_len is_ascii_hexdigit text.now }
+    ensures within { result ≤ length text.now }
+{
+    text.iter().take_while(|c| c.is_ascii_hexdigit()).count()
+}
+
+/// How many bytes stand before the line's end.
+#[inline]
+fn line_run(text: &[u8]) -> usize
+    ensures len { result ≡ prefix_len bytes.is_no_line_feed text.now }
+    ensures within { result ≤ length text.now }
+{
+    text.iter().take_while(|c| **c != b'\n').count()
+}
+
+/// Whether a word begins a Header.
+#[inline]
+fn is_header_word(word: &[u8]) -> bool
+    ensures { result ≡ spec.is_header_word word.now }
+{
+    word == b"test".as_slice() || word == b"set".as_slice() || word == b"target".as_slice()
+}
+
+/// Whether a Header may still stand behind a token, if one might stand at its place.
+#[inline]
+fn stays_preamble(preamble: bool, kind: TokenKind) -> bool
+    ensures { result ≡ (preamble && spec.is_preamble kind) }
+{
+    preamble && matches!(kind, TokenKind::Header | TokenKind::Comment)
+}
+
+/// Whether a number begins the text: a digit, or a sign before one.
+#[inline]
+fn begins_number(text: &[u8]) -> bool
+    ensures { result ≡ spec.begins_number text.now }
+{
+    first(text).is_ascii_digit() || (is_sign(first(text)) && second(text).is_ascii_digit())
+}
+
+/// The Number that begins the text, before which `at` bytes stand.
+#[inline]
+#[tactic(auto, unfolding(crate::specs::Lexing::number_at))]
+fn number_at(at: usize, text: &[u8]) -> Result<Token, LexErr>
+    requires short { at + length text.now < 2 ^ 32 }
+    ensures is { result ≡ spec.number_at at text.now }
+    ensures start { IfOk result (λ t. t.start ≡ at) }
+    ensures within { IfOk result (λ t. t.end ≤ at + length text.now) }
+{
+    if lacks_digits(text) {
+        return Err(LexErr::BadNumber(at));
+    }
+    let len = number_len(text);
+    let (number, rest) = text.split_at(len);
+    if is_letter(first(rest)) || !is_in_range(number) {
+        return Err(LexErr::BadNumber(at));
+    }
+    Ok(Token {
+        kind: TokenKind::Number,
+        start: at,
+        end: at + len,
+    })
+}
+
+/// The word that begins the text, or the Header where one may stand.
+#[inline]
+#[tactic(auto, unfolding(crate::specs::Lexing::word_at))]
+fn word_at(preamble: bool, at: usize, text: &[u8]) -> Token
+    requires short { at + length text.now < 2 ^ 32 }
+    ensures is { result ≡ spec.word_at preamble at text.now }
+    ensures start { result.start ≡ at }
+    ensures within { result.end ≤ at + length text.now }
+{
+    let len = word_run(text);
+    if preamble && is_header_word(&text[..len]) {
+        return Token {
+            kind: TokenKind::Header,
+            start: at,
+            end: at + line_run(text),
+        };
+    }
+    Token {
+        kind: TokenKind::Word,
+        start: at,
+        end: at + len,
+    }
+}
+
+/// The token that begins the text, before which `at` bytes stand.
+#[inline(always)]
+#[tactic(auto, unfolding(crate::specs::Lexing::token_at))]
+fn token_at(preamble: bool, at: usize, text: &[u8]) -> Result<Token, LexErr>
+    requires short { at + length text.now < 2 ^ 32 }
+    ensures is { result ≡ spec.token_at preamble at text.now }
+    ensures start { IfOk result (λ t. t.start ≡ at) }
+    ensures some { IfOk result (λ t. at < t.end) }
+    ensures within { IfOk result (λ t. t.end ≤ at + length text.now) }
+{
+    let Some((c, rest)) = text.split_first() else {
+        return Err(LexErr::BadChar(at));
+    };
+    let c = *c;
+    let next = first(rest);
+    if is_letter(c) {
+        return Ok(word_at(preamble, at, text));
+    }
+    if begins_number(text) {
+        return number_at(at, text);
+    }
+    let (kind, len) = if is_mark(c) {
+        (TokenKind::Mark(c), 1)
+    } else if c == b'%' && is_word_byte(next) {
+        (TokenKind::Name, 1 + word_run(rest))
+    } else if c == b';' {
+        (TokenKind::Comment, line_run(text))
+    } else if c == b'-' && next == b'>' {
+        (TokenKind::Arrow, 2)
+    } else if c == b'@' {
+        if !next.is_ascii_hexdigit() {
+            return Err(LexErr::BadNumber(at));
+        }
+        (TokenKind::Srcloc, 1 + hex_run(rest))
+    } else {
+        return Err(LexErr::BadChar(at));
+    };
+    Ok(Token {
+        kind,
+        start: at,
+        end: at + len,
+    })
+}
+
 /// The tokens of the text, or its first fault.
-/// A text of 2^32 bytes or more has no place in memory here: it is refused with NoMemory.
+/// A text of 2^32 bytes or more is refused with NoMemory, since spans are kept in 32 bits.
 pub fn tokens(alloc: Global, text: &[u8]) -> Result<Tokens, LexErr>
     ensures { Gives result (spec.tokens_of text.now) }
 {
-    Err(LexErr::NoMemory)
+    if text.len() > u32::MAX as usize {
+        return Err(LexErr::NoMemory);
+    }
+    let mut spans = Vec::new(alloc);
+    let mut preamble = true;
+    let mut at = 0;
+    let mut rest = text;
+    'bytes: while let Some((c, after)) = rest.split_first() {
+        if is_blank(*c) {
+            at += 1;
+            rest = after;
+        } else {
+            let token = token_at(preamble, at, rest)?;
+            spans.push(Span::new(token))?;
+            preamble = stays_preamble(preamble, token.kind);
+            rest = rest.split_at(token.end - at).1;
+            at = token.end;
+        }
+    }
+    Ok(Tokens { spans })
 }
 
 impl Tokens {

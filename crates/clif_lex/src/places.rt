@@ -1,9 +1,20 @@
 //! Lines and columns.
 
 ghost use Rattle.std.specs.Prelude.{◌≡◌, ◌≤◌, length};
+ghost use Rattle.std.specs.List.{suffix_len};
+ghost use Rattle.clif_lex.specs.Bytes.{is_no_line_feed};
 ghost use Rattle.clif_lex.specs.Places as spec;
 
 use crate::faults::Place;
+
+/// How many bytes stand behind the last line feed.
+#[inline]
+fn last_line_len(text: &[u8]) -> usize
+    ensures len { result ≡ suffix_len is_no_line_feed text.now }
+    ensures within { result ≤ length text.now }
+{
+    text.iter().rev().take_while(|c| **c != b'\n').count()
+}
 
 /// The place of a byte, or of the end of the text.
 pub fn place(text: &[u8], spot: usize) -> Place
@@ -14,9 +25,8 @@ pub fn place(text: &[u8], spot: usize) -> Place
 {
     let before = &text[..spot];
     let lines = before.iter().filter(|c| **c == b'\n').count();
-    let bytes = before.iter().rev().take_while(|c| **c != b'\n').count();
     Place {
         line: 1 + lines as u32,
-        column: 1 + bytes as u32,
+        column: 1 + last_line_len(before) as u32,
     }
 }

@@ -1,6 +1,6 @@
 //! Tokens, and the list of a text's tokens.
 
-ghost use Rattle.std.specs.Prelude.{◌≡◌, ◌<◌, ◌≤◌, ◌↔◌, IsTrue, [], length, slice_get};
+ghost use Rattle.std.specs.Prelude.{◌≡◌, ◌<◌, ◌≤◌, ◌^◌, ◌↔◌, IsTrue, [], length, slice_get};
 ghost use Rattle.clif_lex.specs.Spans as spec;
 
 use std::marker::Model;
@@ -42,10 +42,36 @@ pub(crate) struct Span {
     pub end: u32,
 }
 
+impl Span {
+    #[inline]
+    pub(crate) fn new(token: Token) -> Span
+        requires start { token.start < 2 ^ 32 }
+        requires end { token.end < 2 ^ 32 }
+        ensures { spec.token_of result ≡ token }
+    {
+        Span {
+            kind: token.kind,
+            start: token.start as u32,
+            end: token.end as u32,
+        }
+    }
+
+    #[inline]
+    fn token(self) -> Token
+        ensures { result ≡ spec.token_of self }
+    {
+        Token {
+            kind: self.kind,
+            start: self.start as usize,
+            end: self.end as usize,
+        }
+    }
+}
+
 /// The tokens of a text.
 #[derive(Debug, Drop)]
 pub struct Tokens {
-    spans: Vec<Span>,
+    pub(crate) spans: Vec<Span>,
 }
 
 impl Model for Tokens {
@@ -82,12 +108,7 @@ impl Tokens {
         requires { i < length self.now }
         ensures { slice_get self.now i ≡ Some result }
     {
-        let span = self.spans[i];
-        Token {
-            kind: span.kind,
-            start: span.start as usize,
-            end: span.end as usize,
-        }
+        self.spans[i].token()
     }
 }
 

@@ -1,0 +1,3 @@
+pub mod Amounts
+pub mod Runs
+pub mod Starts

@@ -1,3 +1,4 @@
+pub mod Examples
 pub mod Numbers
 pub mod Operations
 pub mod Rows

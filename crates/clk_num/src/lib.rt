@@ -3,10 +3,12 @@
 
 mod bits;
 mod eval;
+mod law;
 mod op;
 mod width;
 
 pub use bits::Bits;
 pub use eval::Evaled;
+pub use law::worked_examples;
 pub use op::{Cc, Op, TrapCode};
 pub use width::Width;

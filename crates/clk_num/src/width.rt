@@ -1,5 +1,5 @@
 //! The integer types by their width.
-ghost use Rattle.std.specs.Prelude.{◌≡◌};
+ghost use Rattle.std.specs.Prelude.{◌≡◌, ◌-◌, ◌^◌, ◌<◌};
 
 /// An integer type of CLIF, `i8` to `i128`, by its width in bits.
 #[derive(Clone, Copy, Debug, PartialEq, Eq)]
@@ -12,7 +12,7 @@ pub enum Width {
 }
 
 impl Width {
-    ghost use Rattle.clk_num.specs.Width.{bits_of};
+    ghost use Rattle.clk_num.specs.Width.{bits_of, double, half};
 
     /// The width in bits: 8, 16, 32, 64 or 128.
     pub fn bits(self) -> u32
@@ -24,6 +24,58 @@ impl Width {
             Width::W32 => 32,
             Width::W64 => 64,
             Width::W128 => 128,
+        }
+    }
+
+    /// The greatest unsigned value of the type: all its bits set.
+    pub(crate) fn greatest(self) -> u128
+        ensures { result ≡ 2 ^ bits_of self - 1 }
+    {
+        match self {
+            Width::W8 => 0xff,
+            Width::W16 => 0xffff,
+            Width::W32 => 0xffff_ffff,
+            Width::W64 => 0xffff_ffff_ffff_ffff,
+            Width::W128 => u128::MAX,
+        }
+    }
+
+    /// The greatest signed value of the type: all its bits set but the highest.
+    pub(crate) fn greatest_signed(self) -> u128
+        ensures { result ≡ 2 ^ (bits_of self - 1) - 1 }
+    {
+        match self {
+            Width::W8 => 0x7f,
+            Width::W16 => 0x7fff,
+            Width::W32 => 0x7fff_ffff,
+            Width::W64 => 0x7fff_ffff_ffff_ffff,
+            Width::W128 => 0x7fff_ffff_ffff_ffff_ffff_ffff_ffff_ffff,
+        }
+    }
+
+    /// The type of twice the width. There is none above `i128`.
+    pub(crate) fn double(self) -> Width
+        requires { bits_of self < 128 }
+        ensures { result ≡ double self }
+    {
+        match self {
+            Width::W8 => Width::W16,
+            Width::W16 => Width::W32,
+            Width::W32 => Width::W64,
+            Width::W64 | Width::W128 => Width::W128,
+        }
+    }
+
+    /// The type of half the width. There is none below `i8`.
+    pub(crate) fn half(self) -> Width
+        requires { 8 < bits_of self }
+        ensures { result ≡ half self }
+    {
+        match self {
+            Width::W8 | Width::W16 => Width::W8,
+            Width::W32 => Width::W16,
+            Width::W64 => Width::W32,
+            Width::W128 => Width::W64,
         }
     }
 }

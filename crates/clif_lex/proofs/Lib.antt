@@ -1,3 +1,5 @@
 pub mod Amounts
 pub mod Runs
 pub mod Starts
+pub mod Spelled
+pub mod Longest

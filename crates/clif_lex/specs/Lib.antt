@@ -3,3 +3,4 @@ pub mod Numbers
 pub mod Spans
 pub mod Lexing
 pub mod Places
+pub mod Spelling

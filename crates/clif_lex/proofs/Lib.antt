@@ -3,3 +3,5 @@ pub mod Runs
 pub mod Starts
 pub mod Spelled
 pub mod Longest
+pub mod Readings
+pub mod OneReading

@@ -64,7 +64,7 @@ found preamble kind len text begins reached h s = record {
     only = λ other t. same_kind preamble kind other (take len text) (sym (spelled_begun preamble other len text h t).0 ∙ begins) s t
   }
 
-not_nothing : (kind : TokenKind) → nothing ≡ class_of kind → ⊥
+pub not_nothing : (kind : TokenKind) → nothing ≡ class_of kind → ⊥
 not_nothing Header e = cc
 not_nothing Comment e = cc
 not_nothing Name e = cc

@@ -68,11 +68,27 @@ IsDivided last preamble at text [] = AfterBlanks (last preamble) at text
 IsDivided last preamble at text (t ∷ ts) =
     AfterBlanks (λ start rest. Stands preamble start rest (Ok t) × IsDivided last (preamble && is_preamble t.kind) t.end (drop (t.end - start) rest) ts) at text
 
--- The tokens of a text, or the first place where none stands.
+-- the text ends
+abbrev pub IsAtEnd : Bool → ℕ → List ℕ → Type 0
+IsAtEnd preamble at rest = rest ≡ []
+
+-- a byte that is no blank stands here, and no token
+abbrev pub IsAtFault : LexErr → Bool → ℕ → List ℕ → Type 0
+IsAtFault fault preamble at rest = (0 < length rest) × (is_blank (first rest) ≡ false) × Stands preamble at rest (Err fault)
+
+abbrev pub IsReadFrom : Bool → ℕ → List ℕ → Result (List Token) LexErr → Type 0
+IsReadFrom preamble at text (Ok ts) = IsDivided IsAtEnd preamble at text ts
+IsReadFrom preamble at text (Err fault) = (ts : List Token) × IsDivided (IsAtFault fault) preamble at text ts
+
+-- The tokens of a text; or its fault, which is the first place where none stands, with tokens and blanks alone before it.
 abbrev pub IsReading : List ℕ → Result (List Token) LexErr → Type 0
-IsReading text (Ok ts) = IsDivided (λ preamble at rest. rest ≡ []) true 0 text ts
-IsReading text (Err fault) =
-    (ts : List Token) × IsDivided (λ preamble at rest. (0 < length rest) × (is_blank (first rest) ≡ false) × Stands preamble at rest (Err fault)) true 0 text ts
+IsReading text read = IsReadFrom true 0 text read
+
+-- a fault stands at a byte of the text
+abbrev pub IsFaultIn : List ℕ → LexErr → Type 0
+IsFaultIn text (BadChar spot) = spot < length text
+IsFaultIn text (BadNumber spot) = spot < length text
+IsFaultIn text NoMemory = Unit {0}
 
 -- what is known of each token of a text by itself
 pub record IsTokenIn (text : List ℕ) (t : Token) : Type 0 where

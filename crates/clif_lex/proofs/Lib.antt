@@ -5,3 +5,4 @@ pub mod Spelled
 pub mod Longest
 pub mod Readings
 pub mod OneReading
+pub mod Examples

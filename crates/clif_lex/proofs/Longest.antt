@@ -54,15 +54,15 @@ same_kind preamble kind other text e s t = absurd cc
 found : (preamble : Bool) (kind : TokenKind) (len : ℕ) (text : List ℕ) → begun text ≡ class_of kind → len ≡ reach preamble (class_of kind) text → len ≤ length text → spells preamble kind (take len text) ≡ true
     → IsLongest preamble kind len text
 found preamble kind len text begins reached h s = record {
-    within = h;
-    spelled = s;
-    longest = λ n other inside t.
+  within = h;
+  spelled = s;
+  longest = λ n other inside t.
       let b = spelled_begun preamble other n text inside t in
       let same : class_of other ≡ class_of kind = sym b.0 ∙ begins in
       let bound : n ≤ reach preamble (class_of kind) text = subst (λ (class : Class). n ≤ reach preamble class text) same b.1 in
       omega arith;
-    only = λ other t. same_kind preamble kind other (take len text) (sym (spelled_begun preamble other len text h t).0 ∙ begins) s t
-  }
+  only = λ other t. same_kind preamble kind other (take len text) (sym (spelled_begun preamble other len text h t).0 ∙ begins) s t;
+}
 
 pub not_nothing : (kind : TokenKind) → nothing ≡ class_of kind → ⊥
 not_nothing Header e = cc
@@ -122,17 +122,17 @@ word_stands preamble at (c ∷ cs) h = go (preamble && is_header_word (take (wor
         let parts = and_parts preamble (is_header_word (take (word_run (c ∷ cs)) (c ∷ cs))) e in
         let shorter = word_in_line (c ∷ cs) in
         let s : spells preamble Header (take (line_run (c ∷ cs)) (c ∷ cs)) ≡ true =
-            rw (run_of_take is_word_byte (line_run (c ∷ cs)) (c ∷ cs) shorter, take_of_take (word_run (c ∷ cs)) (line_run (c ∷ cs)) (c ∷ cs) shorter)
-              (and_from (preamble && is_header_word (take (word_run (c ∷ cs)) (c ∷ cs))) (list_all is_no_line_feed (take (line_run (c ∷ cs)) (c ∷ cs))) e (run_passes is_no_line_feed (c ∷ cs))) in
+        rw (run_of_take is_word_byte (line_run (c ∷ cs)) (c ∷ cs) shorter, take_of_take (word_run (c ∷ cs)) (line_run (c ∷ cs)) (c ∷ cs) shorter)
+        (and_from (preamble && is_header_word (take (word_run (c ∷ cs)) (c ∷ cs))) (list_all is_no_line_feed (take (line_run (c ∷ cs)) (c ∷ cs))) e (run_passes is_no_line_feed (c ∷ cs))) in
         let reached : line_run (c ∷ cs) ≡ word_reach preamble (c ∷ cs) = sym (ap (λ b. cond b (line_run (c ∷ cs)) (word_run (c ∷ cs))) e) in
         token_stands preamble at Header (line_run (c ∷ cs)) (c ∷ cs)
-          (found preamble Header (line_run (c ∷ cs)) (c ∷ cs) (words_begun (c ∷ cs) h) reached (prefix_len-le-length is_no_line_feed (c ∷ cs)) s) (λ e. absurd cc)
+        (found preamble Header (line_run (c ∷ cs)) (c ∷ cs) (words_begun (c ∷ cs) h) reached (prefix_len-le-length is_no_line_feed (c ∷ cs)) s) (λ e. absurd cc)
     go false e =
         let letter : is_letter (first (take (word_run (c ∷ cs)) (c ∷ cs))) ≡ true = rw (first_run is_word_byte c cs (letter_is_word_byte c h)) h in
         let s : spells preamble Word (take (word_run (c ∷ cs)) (c ∷ cs)) ≡ true = rw (letter, run_passes is_word_byte (c ∷ cs), e) refl in
         let reached : word_run (c ∷ cs) ≡ word_reach preamble (c ∷ cs) = sym (ap (λ b. cond b (line_run (c ∷ cs)) (word_run (c ∷ cs))) e) in
         token_stands preamble at Word (word_run (c ∷ cs)) (c ∷ cs)
-          (found preamble Word (word_run (c ∷ cs)) (c ∷ cs) (words_begun (c ∷ cs) h) reached (prefix_len-le-length is_word_byte (c ∷ cs)) s) (λ e. absurd cc)
+        (found preamble Word (word_run (c ∷ cs)) (c ∷ cs) (words_begun (c ∷ cs) h) reached (prefix_len-le-length is_word_byte (c ∷ cs)) s) (λ e. absurd cc)
 
 -- numbers
 
@@ -147,9 +147,9 @@ decimal_digits c cs h e =
     let reached : digits_reach (c ∷ cs) ≡ R = ap (λ b. cond b (cond (is_ascii_hexdigit (first (drop 2 (c ∷ cs)))) (2 + prefix_len is_hex_byte (drop 2 (c ∷ cs))) 1) R) e in
     let digit : is_ascii_digit (first (take R (c ∷ cs))) ≡ true = rw front h in
     let are : are_digits (take R (c ∷ cs)) ≡ true =
-        or_left (is_ascii_digit (first (take R (c ∷ cs))) && list_all is_decimal_byte (take R (c ∷ cs)))
-          (is_hex (take R (c ∷ cs)) && is_ascii_hexdigit (first (drop 2 (take R (c ∷ cs)))) && list_all is_hex_byte (drop 2 (take R (c ∷ cs))))
-          (and_from (is_ascii_digit (first (take R (c ∷ cs)))) (list_all is_decimal_byte (take R (c ∷ cs))) digit (run_passes is_decimal_byte (c ∷ cs))) in
+    or_left (is_ascii_digit (first (take R (c ∷ cs))) && list_all is_decimal_byte (take R (c ∷ cs)))
+    (is_hex (take R (c ∷ cs)) && is_ascii_hexdigit (first (drop 2 (take R (c ∷ cs)))) && list_all is_hex_byte (drop 2 (take R (c ∷ cs))))
+    (and_from (is_ascii_digit (first (take R (c ∷ cs)))) (list_all is_decimal_byte (take R (c ∷ cs))) digit (run_passes is_decimal_byte (c ∷ cs))) in
     subst (λ n. (are_digits (take n (c ∷ cs)) ≡ true) × (n ≤ length (c ∷ cs)) × (first (take n (c ∷ cs)) ≡ c)) (sym reached) (are, prefix_len-le-length is_decimal_byte (c ∷ cs), front)
 
 hex_digit_is_hex_byte : (c : ℕ) → is_ascii_hexdigit c ≡ true → is_hex_byte c ≡ true
@@ -161,12 +161,14 @@ hex_digits (d ∷ ds) = go (is_ascii_hexdigit d) refl
   where
     k : ℕ
     k = prefix_len is_hex_byte (d ∷ ds)
+
     two : 2 + k ≡ suc (suc k)
     two = omega arith
+
     go : (b : Bool) → is_ascii_hexdigit d ≡ b
         → (are_digits (take (cond b (2 + prefix_len is_hex_byte (d ∷ ds)) 1) (48 ∷ 120 ∷ d ∷ ds)) ≡ true)
-          × (cond b (2 + prefix_len is_hex_byte (d ∷ ds)) 1 ≤ length (48 ∷ 120 ∷ d ∷ ds))
-          × (first (take (cond b (2 + prefix_len is_hex_byte (d ∷ ds)) 1) (48 ∷ 120 ∷ d ∷ ds)) ≡ 48)
+        × (cond b (2 + prefix_len is_hex_byte (d ∷ ds)) 1 ≤ length (48 ∷ 120 ∷ d ∷ ds))
+        × (first (take (cond b (2 + prefix_len is_hex_byte (d ∷ ds)) 1) (48 ∷ 120 ∷ d ∷ ds)) ≡ 48)
     go true e =
         let s : 2 + prefix_len is_hex_byte (d ∷ ds) ≡ suc (suc (prefix_len is_hex_byte (d ∷ ds))) = omega arith in
         let front = first_run is_hex_byte d ds (hex_digit_is_hex_byte d e) in
@@ -182,6 +184,7 @@ digits_are (c ∷ cs) h = go (is_hex (c ∷ cs)) refl
     hexed : (cs : List ℕ) → c ≡ 48 → first cs == 120 ≡ true → HasDigits (c ∷ cs)
     hexed [] e f = absurd cc
     hexed (d ∷ ds) e f = rw (e, eqb-true d 120 f) (hex_digits ds)
+
     go : (b : Bool) → is_hex (c ∷ cs) ≡ b → HasDigits (c ∷ cs)
     go true e = let parts = and_parts (c == 48) (first cs == 120) e in hexed cs (eqb-true c 48 parts.0) parts.1
     go false e = decimal_digits c cs h e
@@ -208,6 +211,7 @@ number_longest preamble (c ∷ cs) h = go (is_sign c) refl
     whole : (len : ℕ) → len ≡ sign_len (c ∷ cs) + digits_reach (unsigned (c ∷ cs)) → len ≤ suc (length cs) → are_digits (unsigned (take len (c ∷ cs))) ≡ true
         → IsLongest preamble Number (sign_len (c ∷ cs) + digits_reach (unsigned (c ∷ cs))) (c ∷ cs)
     whole len e inside are = subst (λ n. IsLongest preamble Number n (c ∷ cs)) e (found preamble Number len (c ∷ cs) (numbers_begun (c ∷ cs) h) e inside are)
+
     go : (b : Bool) → is_sign c ≡ b → IsLongest preamble Number (sign_len (c ∷ cs) + digits_reach (unsigned (c ∷ cs))) (c ∷ cs)
     go true e =
         let digit = (and_parts (is_sign c) (is_ascii_digit (first cs)) (only_right (is_ascii_digit c) (is_sign c && is_ascii_digit (first cs)) (sign_no_digit c e) h)).1 in
@@ -229,9 +233,10 @@ reach_with text h = go (is_hex (unsigned text)) (is_ascii_hexdigit (first (drop 
   where
     m : ℕ
     m = 2 + prefix_len is_hex_byte (drop 2 (unsigned text))
+
     go : (b d : Bool) → (b && not d) ≡ false
         → sign_len text + cond b (cond d (2 + prefix_len is_hex_byte (drop 2 (unsigned text))) 1) (prefix_len is_decimal_byte (unsigned text))
-          ≡ sign_len text + cond b (2 + prefix_len is_hex_byte (drop 2 (unsigned text))) (prefix_len is_decimal_byte (unsigned text))
+        ≡ sign_len text + cond b (2 + prefix_len is_hex_byte (drop 2 (unsigned text))) (prefix_len is_decimal_byte (unsigned text))
     go true true e = refl
     go true false e = absurd cc
     go false d e = refl
@@ -261,9 +266,11 @@ number_stands preamble at text h = lacks (lacks_digits text) refl
   where
     longest : IsLongest preamble Number (sign_len text + digits_reach (unsigned text)) text
     longest = number_longest preamble text h
+
     good : (len : ℕ) → IsLongest preamble Number len text → (b : Bool) → is_bad len text ≡ b → Stands preamble at text (cond b (Err (BadNumber at)) (Ok (token Number at len)))
     good len l true e = (refl, inr (len, l, e))
     good len l false e = token_stands preamble at Number len text l (λ k. e)
+
     lacks : (b : Bool) → lacks_digits text ≡ b
         → Stands preamble at text (cond ((b || is_letter (first (drop (number_len text) text))) || not (is_in_range (take (number_len text) text))) (Err (BadNumber at)) (Ok (token Number at (number_len text))))
     lacks true e =
@@ -323,6 +330,7 @@ location_stands preamble at (c ∷ cs) h = go (is_ascii_hexdigit (first cs)) ref
   where
     c_is : c ≡ at_sign
     c_is = eqb-true c at_sign h
+
     with_digits : (xs : List ℕ) → is_ascii_hexdigit (first xs) ≡ true → Stands preamble at (c ∷ xs) (Ok (token Srcloc at (1 + prefix_len is_ascii_hexdigit xs)))
     with_digits [] e = absurd cc
     with_digits (d ∷ ds) e =
@@ -332,7 +340,8 @@ location_stands preamble at (c ∷ cs) h = go (is_ascii_hexdigit (first cs)) ref
         let begins : begun (c ∷ d ∷ ds) ≡ locations = rw (c_is, e) refl in
         let inside = prefix_len-le-length is_ascii_hexdigit (d ∷ ds) in
         token_stands preamble at Srcloc (1 + prefix_len is_ascii_hexdigit (d ∷ ds)) (c ∷ d ∷ ds)
-          (found preamble Srcloc (1 + prefix_len is_ascii_hexdigit (d ∷ ds)) (c ∷ d ∷ ds) begins refl (omega arith) s) (λ e. absurd cc)
+        (found preamble Srcloc (1 + prefix_len is_ascii_hexdigit (d ∷ ds)) (c ∷ d ∷ ds) begins refl (omega arith) s) (λ e. absurd cc)
+
     go : (b : Bool) → is_ascii_hexdigit (first cs) ≡ b
         → Stands preamble at (c ∷ cs) (cond b (Ok (token Srcloc at (1 + prefix_len is_ascii_hexdigit cs))) (Err (BadNumber at)))
     go true e = with_digits cs e
@@ -352,5 +361,5 @@ stands preamble at text =
     cond_both (first text == semicolon) _ _ P (λ e. comment_stands preamble at text e) (λ no_comment.
     cond_both (first text == minus && second text == greater) _ _ P (λ e. arrow_stands preamble at text e) (λ no_arrow.
     cond_both (first text == at_sign) _ _ P (λ e. location_stands preamble at text e) (λ no_location.
-      let begins : begun text ≡ nothing = rw (no_word, no_number, no_mark, no_name, no_comment, no_arrow, no_location) refl in
-      (refl, none preamble text begins, λ e. both_ways (first text == at_sign) no_location (eq-eqb (first text) at_sign e)))))))))
+    let begins : begun text ≡ nothing = rw (no_word, no_number, no_mark, no_name, no_comment, no_arrow, no_location) refl in
+    (refl, none preamble text begins, λ e. both_ways (first text == at_sign) no_location (eq-eqb (first text) at_sign e)))))))))

@@ -80,12 +80,13 @@ blank_begins_nothing text h = go (or_cases _ _ h)
   where
     at : (c : ℕ) → (first text == c) ≡ true → first text ≡ c
     at c e = eqb-true (first text) c e
+
     go : (((first text == 32 || first text == 10) || first text == 9) ≡ true) ⊎ ((first text == 13) ≡ true) → begun text ≡ nothing
     go (inr e) = rw (at 13 e) refl
     go (inl e) = elim (or_cases (first text == 32 || first text == 10) (first text == 9) e) [
-        | inr f ↦ rw (at 9 f) refl
-        | inl f ↦ elim (or_cases (first text == 32) (first text == 10) f) [ | inl g ↦ rw (at 32 g) refl | inr g ↦ rw (at 10 g) refl ]
-      ]
+      | inr f ↦ rw (at 9 f) refl
+      | inl f ↦ elim (or_cases (first text == 32) (first text == 10) f) [ inl g ↦ rw (at 32 g) refl | inr g ↦ rw (at 10 g) refl ]
+    ]
 
 token_no_blank : (preamble : Bool) (at : ℕ) (text : List ℕ) (t : Token) → Stands preamble at text (Ok t) → is_blank (first text) ≡ false
 token_no_blank preamble at text t s =
@@ -112,19 +113,19 @@ record Ends (last : Bool → ℕ → List ℕ → Type 0) : Type 1 where
 
 ends_at_end : Ends IsAtEnd
 ends_at_end = record {
-    no_blank = λ preamble at rest e. rw e refl;
-    no_token = λ preamble at rest t e s.
+  no_blank = λ preamble at rest e. rw e refl;
+  no_token = λ preamble at rest t e s.
       let some : at < t.end = s.1 in
       let within : t.end - at ≤ length rest = s.2.within in
       let none : length rest ≡ 0 = ap length e in
-      omega arith
-  }
+      omega arith;
+}
 
 ends_at_fault : (fault : LexErr) → Ends (IsAtFault fault)
 ends_at_fault fault = record {
-    no_blank = λ preamble at rest e. e.1;
-    no_token = λ preamble at rest t e s. let same : failed fault ≡ taken t = one_stands preamble at rest (Err fault) (Ok t) e.2 s in cc
-  }
+  no_blank = λ preamble at rest e. e.1;
+  no_token = λ preamble at rest t e s. let same : failed fault ≡ taken t = one_stands preamble at rest (Err fault) (Ok t) e.2 s in cc;
+}
 
 abbrev BothEnd : (Bool → ℕ → List ℕ → Type 0) → (Bool → ℕ → List ℕ → Type 0) → Type 0
 BothEnd last other = (preamble : Bool) × ((at : ℕ) × ((rest : List ℕ) × (last preamble at rest × other preamble at rest)))
@@ -164,9 +165,9 @@ one_read preamble at text (Err e) (Err f) (ts, a) (us, b) = same (one_division (
   where
     same : BothEnd (IsAtFault e) (IsAtFault f) → unread e ≡ unread f
     same (q, (k, (rest, (x, y)))) =
-      let g : failed e ≡ failed f = one_stands q k rest (Err e) (Err f) x.2 y.2 in
-      let h : e ≡ f = cc in
-      ap (λ z. Err z) h
+        let g : failed e ≡ failed f = one_stands q k rest (Err e) (Err f) x.2 y.2 in
+        let h : e ≡ f = cc in
+        ap (λ z. Err z) h
 
 pub only_reading : (text : List ℕ) (read : Result (List Token) LexErr) → IsReading text read → read ≡ tokens_of text
 only_reading text read h = one_read true 0 text read (tokens_of text) h (reading text)

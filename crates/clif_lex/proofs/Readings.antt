@@ -1,5 +1,5 @@
 -- The tokens of a text are its one reading.
-use Rattle.std.proofs.Common.{◌≡◌, ℕ, zero, suc, ◌+◌, ◌-◌, ◌≤◌, ◌<◌, Bool, true, false, not, ◌&&◌, List, [], ◌∷◌, length, take, drop, slice_get, Some, Result, Ok, Err, refl, sym, ◌∙◌, ap, subst, arith}
+use Rattle.std.proofs.Common.{◌≡◌, ℕ, zero, suc, ◌+◌, ◌-◌, ◌≤◌, ◌<◌, Bool, true, false, not, ◌&&◌, List, [], ◌∷◌, length, take, drop, slice_get, Option, Some, None, IfSome, Result, Ok, Err, refl, sym, ◌∙◌, ap, subst, arith}
 use Rattle.std.proofs.lemmas.Bool.{and_parts, and_from, or_parts, not-false, both_ways}
 use Rattle.std.proofs.lemmas.List.{length-drop, drop-drop}
 use Rattle.std.specs.List.{list_all}
@@ -66,7 +66,7 @@ reads (suc n) preamble at (c ∷ cs) h =
         let k : t.end - at ≡ suc (t.end - at - 1) = omega arith in
         let shorter : length (drop (t.end - at) (c ∷ cs)) ≤ n = omega (arith, length-drop (t.end - at) (c ∷ cs)) in
         rw (at_token preamble at c cs t blank e some)
-          (read_from preamble at (c ∷ cs) t (tokens_from (preamble && is_preamble t.kind) 0 t.end (drop (t.end - at) (c ∷ cs))) s (further (preamble && is_preamble t.kind) t.end (drop (t.end - at) (c ∷ cs)) shorter))
+        (read_from preamble at (c ∷ cs) t (tokens_from (preamble && is_preamble t.kind) 0 t.end (drop (t.end - at) (c ∷ cs))) s (further (preamble && is_preamble t.kind) t.end (drop (t.end - at) (c ∷ cs)) shorter))
 
 pub reading : (text : List ℕ) → IsReading text (tokens_of text)
 reading text = reads (length text) true 0 text (omega arith)
@@ -80,7 +80,7 @@ token_inside whole preamble at t inside (start, some, longest, good) =
     record {
       some = omega arith;
       within = omega arith;
-      in_range = λ number. rw start (not-false (is_in_range (take (t.end - at) (drop at whole))) (or_parts (is_letter (first (drop (t.end - at) (drop at whole)))) (not (is_in_range (take (t.end - at) (drop at whole)))) (good number)).1)
+      in_range = λ number. rw start (not-false (is_in_range (take (t.end - at) (drop at whole))) (or_parts (is_letter (first (drop (t.end - at) (drop at whole)))) (not (is_in_range (take (t.end - at) (drop at whole)))) (good number)).1);
     }
 
 pub tokens_inside : (whole : List ℕ) (last : Bool → ℕ → List ℕ → Type 0) (preamble : Bool) (at : ℕ) (text : List ℕ) (ts : List Token) → at ≤ length whole → text ≡ drop at whole → IsDivided last preamble at text ts
@@ -91,14 +91,18 @@ tokens_inside whole last preamble at text (x ∷ xs) inside e (n, within, all, s
   where
     start_inside : at + n ≤ length whole
     start_inside = let k : length text ≡ length whole - at = ap length e ∙ length-drop at whole in omega arith
+
     rest : drop n text ≡ drop (at + n) whole
     rest = ap (drop n) e ∙ drop-drop n at whole
+
     token : IsTokenIn whole x
     token = token_inside whole preamble (at + n) x start_inside (subst (λ (r : List ℕ). Stands preamble (at + n) r (Ok x)) rest stand.0)
+
     past : drop (x.end - (at + n)) (drop n text) ≡ drop x.end whole
     past =
-      let some : at + n < x.end = stand.0.1 in
-      ap (drop (x.end - (at + n))) rest ∙ drop-drop (x.end - (at + n)) (at + n) whole ∙ ap (λ (k : ℕ). drop k whole) (omega arith)
+        let some : at + n < x.end = stand.0.1 in
+        ap (drop (x.end - (at + n))) rest ∙ drop-drop (x.end - (at + n)) (at + n) whole ∙ ap (λ (k : ℕ). drop k whole) (omega arith)
+
     go : ((j : ℕ) (u : Token) → slice_get xs j ≡ Some u → IsTokenIn whole u) → (i : ℕ) → slice_get (x ∷ xs) i ≡ Some t → IsTokenIn whole t
     go others zero f = let same : x ≡ t = cc in subst (IsTokenIn whole) same token
     go others (suc k) f = others k t f
@@ -122,9 +126,16 @@ faults_inside fault whole preamble at text (t ∷ ts) e (n, within, all, stand) 
     let some : at + n < t.end = stand.0.1 in
     let inside : t.end - (at + n) ≤ length (drop n text) = stand.0.2.within in
     faults_inside fault whole (preamble && is_preamble t.kind) t.end (drop (t.end - (at + n)) (drop n text)) ts
-      (omega (arith, length-drop n text, length-drop (t.end - (at + n)) (drop n text))) stand.1
+    (omega (arith, length-drop n text, length-drop (t.end - (at + n)) (drop n text))) stand.1
 
 pub fault_inside_text : (text : List ℕ) (fault : LexErr) → tokens_of text ≡ Err fault → IsFaultIn text fault
 fault_inside_text text fault e =
     let d : IsReading text (Err fault) = subst (IsReading text) e (reading text) in
     faults_inside fault text true 0 text d.0 (omega arith) d.1
+
+pub if_token_in_text : (text : List ℕ) (ts : List Token) → tokens_of text ≡ Ok ts → (i : ℕ) → IfSome (slice_get ts i) (IsTokenIn text)
+if_token_in_text text ts whole i = go (slice_get ts i) refl
+  where
+    go : (o : Option Token) → slice_get ts i ≡ o → IfSome o (IsTokenIn text)
+    go None e = tt
+    go (Some t) e = token_inside_text text ts whole i t e

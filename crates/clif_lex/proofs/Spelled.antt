@@ -144,8 +144,9 @@ header_letter word h = go (or_cases (bytes_eq word (codes "test") || bytes_eq wo
   where
     at : (w : List ℕ) → is_letter (first w) ≡ true → bytes_eq word w ≡ true → is_letter (first word) ≡ true
     at w letter e = ap (λ xs. is_letter (first xs)) ((bytes_eq-Decides word w).0 e) ∙ letter
+
     go : ((bytes_eq word (codes "test") || bytes_eq word (codes "set")) ≡ true) ⊎ (bytes_eq word (codes "target") ≡ true) → is_letter (first word) ≡ true
-    go (inl e) = elim (or_cases (bytes_eq word (codes "test")) (bytes_eq word (codes "set")) e) [ | inl f ↦ at (codes "test") refl f | inr f ↦ at (codes "set") refl f ]
+    go (inl e) = elim (or_cases (bytes_eq word (codes "test")) (bytes_eq word (codes "set")) e) [ inl f ↦ at (codes "test") refl f | inr f ↦ at (codes "set") refl f ]
     go (inr e) = at (codes "target") refl e
 
 pub words_begun : (text : List ℕ) → is_letter (first text) ≡ true → begun text ≡ words
@@ -208,19 +209,21 @@ hex_begun (suc (suc n)) (a ∷ b ∷ cs) h digit all = (first_take is_ascii_hexd
 pub digits_begun : (n : ℕ) (text : List ℕ) → n ≤ length text → are_digits (take n text) ≡ true → (is_ascii_digit (first text) ≡ true) × (n ≤ digits_reach text)
 digits_begun n text h s =
     go (or_cases (is_ascii_digit (first (take n text)) && list_all is_decimal_byte (take n text))
-        (is_hex (take n text) && is_ascii_hexdigit (first (drop 2 (take n text))) && list_all is_hex_byte (drop 2 (take n text))) s)
+    (is_hex (take n text) && is_ascii_hexdigit (first (drop 2 (take n text))) && list_all is_hex_byte (drop 2 (take n text))) s)
   where
     decimal : (b d : Bool) → is_hex text ≡ b → n ≤ prefix_len is_decimal_byte text → n ≤ cond b (cond d (2 + prefix_len is_hex_byte (drop 2 text)) 1) (prefix_len is_decimal_byte text)
     decimal false d e g = g
     decimal true true e g = omega (arith, hex_stops text e)
     decimal true false e g = omega (arith, hex_stops text e)
+
     go : ((is_ascii_digit (first (take n text)) && list_all is_decimal_byte (take n text)) ≡ true)
-            ⊎ ((is_hex (take n text) && is_ascii_hexdigit (first (drop 2 (take n text))) && list_all is_hex_byte (drop 2 (take n text))) ≡ true)
+        ⊎ ((is_hex (take n text) && is_ascii_hexdigit (first (drop 2 (take n text))) && list_all is_hex_byte (drop 2 (take n text))) ≡ true)
         → (is_ascii_digit (first text) ≡ true) × (n ≤ digits_reach text)
     go (inl e) =
-        let parts = and_parts (is_ascii_digit (first (take n text))) (list_all is_decimal_byte (take n text)) e in
-        (first_take is_ascii_digit n text refl parts.0,
-         decimal (is_hex text) (is_ascii_hexdigit (first (drop 2 text))) refl (covers is_decimal_byte n text h parts.1))
+        let parts = and_parts (is_ascii_digit (first (take n text))) (list_all is_decimal_byte (take n text)) e in (
+          first_take is_ascii_digit n text refl parts.0,
+          decimal (is_hex text) (is_ascii_hexdigit (first (drop 2 text))) refl (covers is_decimal_byte n text h parts.1),
+        )
     go (inr e) =
         let parts = and_parts (is_hex (take n text) && is_ascii_hexdigit (first (drop 2 (take n text)))) (list_all is_hex_byte (drop 2 (take n text))) e in
         let more = and_parts (is_hex (take n text)) (is_ascii_hexdigit (first (drop 2 (take n text)))) parts.0 in
@@ -304,6 +307,7 @@ marks_begun text h = rw (no_letter (first text) h, no_number (first text) (secon
   where
     no_letter : (c : ℕ) → is_mark c ≡ true → is_letter c ≡ false
     no_letter c h = grind (arith, nat_tests)
+
     no_number : (c d : ℕ) → is_mark c ≡ true → (is_ascii_digit c || (is_sign c && is_ascii_digit d)) ≡ false
     no_number c d h = grind (arith, nat_tests)
 

@@ -4,3 +4,4 @@ pub mod Spans
 pub mod Lexing
 pub mod Places
 pub mod Spelling
+pub mod Faults

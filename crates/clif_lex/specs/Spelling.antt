@@ -17,7 +17,7 @@ use Rattle.clif_lex.specs.Lexing.{is_header_word, is_preamble}
 -- a digit, and then digits and underscores; or `0x`, a hexadecimal digit, and then such digits and underscores
 abbrev pub are_digits : List ℕ → Bool
 are_digits text =
-       (is_ascii_digit (first text) && list_all is_decimal_byte text)
+    (is_ascii_digit (first text) && list_all is_decimal_byte text)
     || (is_hex text && is_ascii_hexdigit (first (drop 2 text)) && list_all is_hex_byte (drop 2 text))
 
 -- Whether a text is spelled as a token of a kind may be. A Header may stand only where `preamble` holds,
@@ -53,7 +53,7 @@ abbrev pub Stands : Bool → ℕ → List ℕ → Result Token LexErr → Type 0
 Stands preamble at text (Ok t) =
     (t.start ≡ at) × (at < t.end) × IsLongest preamble t.kind (t.end - at) text × (t.kind ≡ Number → is_bad (t.end - at) text ≡ false)
 Stands preamble at text (Err (BadNumber spot)) =
-      (spot ≡ at)
+    (spot ≡ at)
     × (((first text ≡ at_sign) × IsNone preamble text) ⊎ ((len : ℕ) × IsLongest preamble Number len text × (is_bad len text ≡ true)))
 Stands preamble at text (Err (BadChar spot)) = (spot ≡ at) × IsNone preamble text × (first text ≢ at_sign)
 Stands preamble at text (Err NoMemory) = ⊥

@@ -41,14 +41,14 @@ regroup front t (Ok ts) = ap (λ (x : List Token). Ok x) (simp append_assoc)
 regroup front t (Err e) = refl
 
 -- a blank is passed over
-at_blank : (preamble : Bool) (at c : ℕ) (cs : List ℕ) → is_blank c ≡ true → tokens_from preamble 0 at (c ∷ cs) ≡ tokens_from preamble 0 (at + 1) cs
+pub at_blank : (preamble : Bool) (at c : ℕ) (cs : List ℕ) → is_blank c ≡ true → tokens_from preamble 0 at (c ∷ cs) ≡ tokens_from preamble 0 (at + 1) cs
 unfolding tokens_from
 at_blank preamble at c cs h =
     let none : nat_lt at 0 ≡ false = grind (arith, nat_tests) in
     rw (none, h) refl
 
 -- a token is taken, and reading goes on behind it
-at_token : (preamble : Bool) (at c : ℕ) (cs : List ℕ) (t : Token) → is_blank c ≡ false → token_at preamble at (c ∷ cs) ≡ Ok t → at < t.end
+pub at_token : (preamble : Bool) (at c : ℕ) (cs : List ℕ) (t : Token) → is_blank c ≡ false → token_at preamble at (c ∷ cs) ≡ Ok t → at < t.end
     → tokens_from preamble 0 at (c ∷ cs) ≡ (tokens_from (preamble && is_preamble t.kind) 0 t.end (drop (t.end - at) (c ∷ cs)) >>= λ ts. Ok (t ∷ ts))
 unfolding tokens_from
 at_token preamble at c cs t blank h some =
@@ -61,7 +61,7 @@ at_token preamble at c cs t blank h some =
     rw (none, blank, h, k, q) refl
 
 -- no token begins here
-at_fault : (preamble : Bool) (at c : ℕ) (cs : List ℕ) (e : LexErr) → is_blank c ≡ false → token_at preamble at (c ∷ cs) ≡ Err e → tokens_from preamble 0 at (c ∷ cs) ≡ Err e
+pub at_fault : (preamble : Bool) (at c : ℕ) (cs : List ℕ) (e : LexErr) → is_blank c ≡ false → token_at preamble at (c ∷ cs) ≡ Err e → tokens_from preamble 0 at (c ∷ cs) ≡ Err e
 unfolding tokens_from
 at_fault preamble at c cs e blank h =
     let none : nat_lt at 0 ≡ false = grind (arith, nat_tests) in

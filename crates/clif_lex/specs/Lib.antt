@@ -3,3 +3,5 @@ pub mod Numbers
 pub mod Spans
 pub mod Lexing
 pub mod Places
+pub mod Spelling
+pub mod Faults

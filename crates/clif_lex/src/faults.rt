@@ -58,8 +58,12 @@ pub enum TextKind {
 }
 
 impl TextKind {
+    ghost use Rattle.clif_lex.specs.Faults.{kind_name};
+
     /// The kind as users see it.
-    pub fn name(&self) -> &'static str {
+    pub fn name(&self) -> &'static str
+        ensures { result.now ≡ kind_name self.now }
+    {
         match self {
             TextKind::BadChar => "BadChar",
             TextKind::BadNumber => "BadNumber",
@@ -91,6 +95,26 @@ pub enum TextErr {
     Fault { kind: TextKind, spot: usize },
     /// Memory ran out.
     NoMemory,
+}
+
+impl From<LexErr> for TextErr {
+    ghost use Rattle.clif_lex.specs.Faults.{text_err_of};
+
+    ghost from_gives = { λ e f. f ≡ text_err_of e };
+
+    fn from(err: LexErr) -> Self {
+        match err {
+            LexErr::BadChar(spot) => TextErr::Fault {
+                kind: TextKind::BadChar,
+                spot,
+            },
+            LexErr::BadNumber(spot) => TextErr::Fault {
+                kind: TextKind::BadNumber,
+                spot,
+            },
+            LexErr::NoMemory => TextErr::NoMemory,
+        }
+    }
 }
 
 /// Where a byte of a text stands: its line, and its column in bytes, both counted from 1.

@@ -1,6 +1,6 @@
 //! The tokens of a text.
 
-ghost use Rattle.std.specs.Prelude.{◌≡◌, ◌&&◌, ◌+◌, ◌<◌, ◌≤◌, ◌^◌, length, slice_get, IfSome, IfOk};
+ghost use Rattle.std.specs.Prelude.{◌≡◌, ◌&&◌, ◌+◌, ◌<◌, ◌≤◌, ◌^◌, length, slice_get, IfSome, IfOk, IfErr};
 ghost use Rattle.std.specs.List.{prefix_len};
 ghost use Rattle.std.specs.Char.{is_ascii_hexdigit};
 ghost use Rattle.clif_lex.specs.Bytes as bytes;
@@ -9,6 +9,7 @@ ghost use Rattle.clif_lex.specs.Numbers as numbers;
 ghost use Rattle.clif_lex.specs.Spans.{spelling};
 ghost use Rattle.clif_lex.specs.Lexing as spec;
 ghost use Rattle.clif_lex.specs.Lexing.{Gives};
+ghost use Rattle.clif_lex.specs.Spelling.{IsFaultIn};
 
 use crate::bytes::{first, is_blank, is_letter, is_mark, is_sign, is_word_byte, second};
 use crate::faults::LexErr;
@@ -162,7 +163,8 @@ fn token_at(preamble: bool, at: usize, text: &[u8]) -> Result<Token, LexErr>
 /// The tokens of the text, or its first fault.
 /// A text of 2^32 bytes or more is refused with NoMemory, since spans are kept in 32 bits.
 pub fn tokens(alloc: Global, text: &[u8]) -> Result<Tokens, LexErr>
-    ensures { Gives result (spec.tokens_of text.now) }
+    ensures tokens { Gives result (spec.tokens_of text.now) }
+    ensures spot { IfErr result (IsFaultIn text.now) }
 {
     if text.len() > u32::MAX as usize {
         return Err(LexErr::NoMemory);

@@ -3,6 +3,7 @@
 
 mod bytes;
 mod faults;
+pub mod laws;
 mod lexing;
 mod numbers;
 mod places;

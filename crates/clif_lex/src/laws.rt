@@ -1,0 +1,32 @@
+//! Laws that speak of the definitions alone. Each is a function that does nothing, so that a caller has the law by a call.
+
+ghost use Rattle.std.specs.Prelude.{◌≡◌, ◌<◌, List, Result, IfSome, length, slice_get};
+ghost use Rattle.clif_lex.specs.declared.spans.Token.{Token};
+ghost use Rattle.clif_lex.specs.declared.faults.LexErr.{LexErr};
+ghost use Rattle.clif_lex.specs.Lexing.{token_at, tokens_of};
+ghost use Rattle.clif_lex.specs.Spelling.{Stands, IsReading, IsTokenIn};
+
+use crate::spans::Tokens;
+
+/// What stands at a byte is the longest token, or there is none.
+pub fn longest_token(preamble: bool, at: usize, text: &[u8])
+    ensures { Stands preamble at text.now (token_at preamble at text.now) }
+{}
+
+/// The tokens of a text are spelled as their kinds say, each is the longest that stands at its place,
+/// and only blanks stand between them. A fault stands at the first byte where this cannot go on.
+pub fn one_reading(text: &[u8])
+    ensures { IsReading text.now (tokens_of text.now) }
+{}
+
+/// No other list of tokens, and no other fault, is one.
+pub fn no_other_reading(text: &[u8])
+    ensures { (read : Result (List Token) LexErr) → IsReading text.now read → read ≡ tokens_of text.now }
+{}
+
+/// A token of a text takes a byte at least, it ends in the text, and a Number is one of 64 bits.
+pub fn token_in_text(text: &[u8], tokens: &Tokens, i: usize)
+    requires whole { tokens_of text.now ≡ Ok tokens.now }
+    requires below { i < length tokens.now }
+    ensures { IfSome (slice_get tokens.now i) (IsTokenIn text.now) }
+{}

@@ -1,7 +1,14 @@
+pub mod Edits
+pub mod Layout
+pub mod Lists
 pub mod Lookup
 pub mod Module
+pub mod Named
 pub mod Numbering
+pub mod Operands
 pub mod Pieces
+pub mod Shift
+pub mod Sound
 pub mod Text
 pub mod Viewed
 pub mod Words

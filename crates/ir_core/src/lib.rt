@@ -4,17 +4,23 @@
 #![tactic(auto)]
 
 mod declarations;
+mod func;
 mod instructions;
 mod lists;
+mod module;
 mod names;
 mod numbers;
 mod places;
+mod room;
 mod signatures;
 
 pub use declarations::{Callee, SlotDecl};
+pub use func::{Blocks, Func, Insts};
 pub use instructions::{Access, Arg, BlockCall, Flags, Inst, InstData};
 pub use lists::List;
+pub use module::Module;
 pub use names::FuncName;
 pub use numbers::{Block, FuncRef, SigRef, Slot, Value};
 pub use places::{Item, Point};
+pub use room::Room;
 pub use signatures::{Conv, Ext, Param, Purpose, Sig, Ty};

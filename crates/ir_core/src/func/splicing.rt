@@ -1,0 +1,145 @@
+//! Calls that change a function in place and take no memory.
+ghost use Rattle.std.specs.Prelude.{◌≡◌, ◌≢◌, ℕ, ◌+◌, ◌<◌, ◌≤◌, ◌++◌, ◌^◌, List, [], ◌∷◌, length, map, take, drop, slice_get, vec_len, IfOk, OnOk, OnErr};
+ghost use Rattle.ir_core.specs.Lookup.{block_numbers, definitions};
+ghost use Rattle.ir_core.specs.Lists.{In, Different, Below, Each};
+ghost use Rattle.ir_core.specs.Sound.{CanAdd, LineInRange, counts_of, instruction_count};
+ghost use Rattle.ir_core.specs.Edits.{at_block, insert_after, put_param, put_line, lines_of, with_lines, change_last};
+ghost use Rattle.ir_core.specs.Viewed.{line_of};
+ghost use Rattle.ir_core.specs.Shift.{shifted};
+
+use super::{BlockData, Func};
+use crate::instructions::{Inst, InstData};
+use crate::lists::List;
+use crate::numbers::{Block, Value};
+use debug_tags::Tags;
+use std::alloc::Global;
+use std::mem;
+
+impl Func {
+    /// Puts an empty block directly after `after` and answers its number.
+    pub fn insert_block(&mut self, after: Block, params: List<Value>) -> Block
+        requires there { In after (block_numbers self.old.function.blocks) }
+        requires room { 0 < self.old.room.blocks }
+        requires few { CanAdd (length self.old.function.blocks) }
+        requires declared { Below (length self.old.function.types) params }
+        requires different { Different params }
+        requires undefined { (v : ℕ) → In v params → In v (definitions self.old.function.blocks) → ⊥ }
+        ensures body { self.new.function ≡ record self.old.function { blocks = insert_after after (record { number = result; params = params; lines = [] }) self.old.function.blocks } }
+        ensures number { result ≡ length self.old.function.blocks }
+        ensures room { self.old.room ≡ record self.new.room { blocks = self.new.room.blocks + 1 } }
+        ensures blocks_differ { Different (block_numbers self.old.function.blocks) }
+        ensures fresh { In result (block_numbers self.old.function.blocks) → ⊥ }
+    {
+        let number = Block::new(self.blocks.len() as u32);
+        let start = self.insts.len();
+        let params = params.into_vec();
+        self.defined += params.len();
+        let next = self.blocks[after.number() as usize].next;
+        self.blocks.push_reserved(BlockData {
+            params,
+            start,
+            len: 0,
+            cap: 0,
+            next,
+        });
+        self.blocks[after.number() as usize].next = Some(number);
+        if next.is_none() {
+            self.last = Some(number);
+        }
+        number
+    }
+
+    /// Appends an instruction to a block.
+    pub fn put_inst(&mut self, block: Block, added: InstData)
+        requires there { In block (block_numbers self.old.function.blocks) }
+        requires in_range { LineInRange (counts_of self.old.function) (line_of added) }
+        requires different { Different added.results }
+        requires undefined { (v : ℕ) → In v added.results → In v (definitions self.old.function.blocks) → ⊥ }
+        requires few { CanAdd (instruction_count self.old.function.blocks) }
+        requires room { 0 < self.old.room.insts }
+        ensures body { self.new.function ≡ record self.old.function { blocks = at_block block (put_line (line_of added)) self.old.function.blocks } }
+        ensures room { self.new.room ≡ record self.old.room { insts = self.new.room.insts } }
+        ensures room_insts { self.old.room.insts ≤ self.new.room.insts + 1 }
+    {
+        self.defined += added.results.as_slice().len();
+        let entry = &mut self.blocks[block.number() as usize];
+        let end = entry.start + entry.len;
+        if entry.len < entry.cap {
+            entry.len += 1;
+            self.insts[end] = added;
+            return;
+        }
+        entry.len += 1;
+        entry.cap += 1;
+        if entry.cap == 1 {
+            entry.start = self.insts.len();
+            self.insts.push_reserved(added);
+            return;
+        }
+        if end < self.insts.len() {
+            move_starts(self.blocks.as_mut_slice(), end);
+        }
+        let _ = self.insts.insert(end, added);
+    }
+
+    /// Takes the last instruction of a block away and answers it. Its results are then not defined.
+    pub fn take_last(&mut self, block: Block) -> InstData
+        requires there { In block (block_numbers self.old.function.blocks) }
+        requires some { lines_of block self.old.function.blocks ≢ [] }
+        ensures body { self.old.function ≡ record self.new.function { blocks = at_block block (put_line (line_of result)) self.new.function.blocks } }
+        ensures room { self.new.room ≡ self.old.room }
+    {
+        let entry = &mut self.blocks[block.number() as usize];
+        entry.len -= 1;
+        let end = entry.start + entry.len;
+        let taken = mem::replace(&mut self.insts[end], nop(self.alloc));
+        self.defined -= taken.results.as_slice().len();
+        taken
+    }
+
+    /// Moves the instructions from `index` on to `into`, which is another block, without instructions.
+    pub fn cut(&mut self, block: Block, index: u32, into: Block)
+        requires there { In block (block_numbers self.old.function.blocks) }
+        requires into_there { In into (block_numbers self.old.function.blocks) }
+        requires other { block ≢ into }
+        requires within { index ≤ length (lines_of block self.old.function.blocks) }
+        requires empty { lines_of into self.old.function.blocks ≡ [] }
+        ensures body { self.new.function ≡ record self.old.function { blocks = at_block into (with_lines (drop index (lines_of block self.old.function.blocks))) (at_block block (with_lines (take index (lines_of block self.old.function.blocks))) self.old.function.blocks) } }
+        ensures room { self.new.room ≡ self.old.room }
+    {
+        let index = index as usize;
+        let entry = &mut self.blocks[block.number() as usize];
+        let start = entry.start + index;
+        let len = entry.len - index;
+        let cap = entry.cap - index;
+        entry.len = index;
+        entry.cap = index;
+        let entry = &mut self.blocks[into.number() as usize];
+        entry.start = start;
+        entry.len = len;
+        entry.cap = cap;
+    }
+}
+
+/// An instruction that does nothing.
+fn nop(alloc: Global) -> InstData
+{
+    InstData {
+        inst: Inst::Nop,
+        ty: None,
+        results: List::from_vec(Vec::new(alloc)),
+        tags: Tags::new(Vec::new(alloc)),
+    }
+}
+
+/// Moves each range that starts at a place or after it by one.
+fn move_starts(blocks: &mut [BlockData], place: usize)
+    requires { Each (λ entry. entry.start + 1 < 2 ^ 64) blocks.old }
+    ensures { blocks.new ≡ map (shifted place) blocks.old }
+{
+    for entry in blocks.iter_mut() {
+        if place <= entry.start {
+            entry.start += 1;
+        }
+    }
+}

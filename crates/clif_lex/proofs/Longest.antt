@@ -1,6 +1,6 @@
 -- The token that is taken is the longest that stands at its place.
-use Rattle.std.proofs.Common.{◌≡◌, ℕ, zero, suc, ◌+◌, ◌-◌, ◌≤◌, ◌<◌, Bool, true, false, not, ◌||◌, ◌&&◌, ◌==◌, ◌⊎◌, cond, List, [], ◌∷◌, length, take, drop, Result, Ok, Err, refl, sym, ◌∙◌, ap, subst, arith, inl, inr, codes}
-use Rattle.std.proofs.lemmas.Bool.{and_parts, or_cases, and_from, or_left, or_right, eqb-true, eq-eqb, false_from_ne_true, both_ways, cond_both, not-true}
+use Rattle.std.proofs.Common.{◌≡◌, ℕ, zero, suc, ◌+◌, ◌-◌, ◌≤◌, ◌<◌, Bool, true, false, not, ◌||◌, ◌&&◌, ◌==◌, cond, List, [], ◌∷◌, length, take, drop, Ok, Err, refl, sym, ◌∙◌, ap, subst, arith, inl, inr}
+use Rattle.std.proofs.lemmas.Bool.{and_parts, and_from, or_left, eqb-true, eq-eqb, false_from_ne_true, both_ways, cond_both, not-true}
 use Rattle.std.proofs.lemmas.Bool.Decides.{nat_tests}
 use Rattle.std.proofs.lemmas.List.Sums.{prefix_len-le-length}
 use Rattle.std.proofs.lemmas.Slice.Eq.{bytes_eq-Decides}
@@ -9,14 +9,12 @@ use Rattle.std.specs.Char.{is_ascii_digit, is_ascii_hexdigit}
 use Rattle.std.specs.List.{prefix_len, list_all}
 use Rattle.clif_lex.specs.declared.spans.TokenKind.{TokenKind}
 use Rattle.clif_lex.specs.declared.spans.TokenKind.TheVariants.{Header, Comment, Name, Word, Number, Srcloc, Arrow, Mark}
-use Rattle.clif_lex.specs.declared.spans.Token.{Token}
-use Rattle.clif_lex.specs.declared.faults.LexErr.{LexErr}
-use Rattle.clif_lex.specs.declared.faults.LexErr.TheVariants.{BadChar, BadNumber, NoMemory}
+use Rattle.clif_lex.specs.declared.faults.LexErr.TheVariants.{BadNumber}
 use Rattle.clif_lex.specs.Bytes.{percent, minus, semicolon, greater, at_sign, is_no_line_feed, is_letter, is_word_byte, is_sign, is_decimal_byte, is_hex_byte, is_mark, first, second}
-use Rattle.clif_lex.specs.Numbers.{is_hex, unsigned, sign_len, digits_len, number_len, lacks_digits, is_in_range}
+use Rattle.clif_lex.specs.Numbers.{is_hex, unsigned, sign_len, number_len, lacks_digits, is_in_range}
 use Rattle.clif_lex.specs.Lexing.{begins_number, is_header_word, token, number_at, word_at, token_at}
 use Rattle.clif_lex.specs.Spelling.{are_digits, spells, IsLongest, IsNone, is_bad, Stands}
-use Rattle.clif_lex.proofs.Spelled.{Class, words, numbers, marks, names, comments, arrows, locations, lone_at, nothing, begun, class_of, reach, word_run, line_run, word_reach, digits_reach, run_passes, run_of_take, take_of_take, word_in_line, word_byte_no_line_feed, words_begun, numbers_begun, marks_begun, hex_digit, spelled_begun}
+use Rattle.clif_lex.proofs.Spelled.{Class, names, comments, arrows, locations, lone_at, nothing, begun, class_of, reach, word_run, line_run, word_reach, digits_reach, run_passes, run_of_take, take_of_take, word_in_line, words_begun, numbers_begun, marks_begun, spelled_begun}
 
 -- what is spelled is of one kind
 

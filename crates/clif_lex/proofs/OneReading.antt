@@ -7,10 +7,10 @@ use Rattle.clif_lex.specs.declared.spans.TokenKind.TheVariants.{Number}
 use Rattle.clif_lex.specs.declared.spans.Token.{Token}
 use Rattle.clif_lex.specs.declared.faults.LexErr.{LexErr}
 use Rattle.clif_lex.specs.declared.faults.LexErr.TheVariants.{BadChar, BadNumber, NoMemory}
-use Rattle.clif_lex.specs.Bytes.{at_sign, is_blank, first}
+use Rattle.clif_lex.specs.Bytes.{is_blank, first}
 use Rattle.clif_lex.specs.Lexing.{is_preamble, tokens_of}
 use Rattle.clif_lex.specs.Spelling.{spells, IsLongest, IsNone, is_bad, Stands, IsDivided, IsAtEnd, IsAtFault, IsReadFrom, IsReading}
-use Rattle.clif_lex.proofs.Spelled.{Class, nothing, begun, class_of, spelled_begun}
+use Rattle.clif_lex.proofs.Spelled.{nothing, begun, spelled_begun}
 use Rattle.clif_lex.proofs.Longest.{not_nothing}
 use Rattle.clif_lex.proofs.Readings.{reading}
 

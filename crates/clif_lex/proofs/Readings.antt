@@ -1,18 +1,15 @@
 -- The tokens of a text are its one reading.
-use Rattle.std.proofs.Common.{◌≡◌, ℕ, zero, suc, ◌+◌, ◌-◌, ◌≤◌, ◌<◌, Bool, true, false, not, ◌&&◌, List, [], ◌∷◌, length, take, drop, slice_get, Option, Some, None, IfSome, Result, Ok, Err, refl, sym, ◌∙◌, ap, subst, arith}
-use Rattle.std.proofs.lemmas.Bool.{and_parts, and_from, or_parts, not-false, both_ways}
+use Rattle.std.proofs.Common.{◌≡◌, ℕ, zero, suc, ◌+◌, ◌-◌, ◌≤◌, ◌<◌, Bool, true, false, not, ◌&&◌, List, [], ◌∷◌, length, take, drop, slice_get, Option, Some, None, IfSome, Result, Ok, Err, refl, ◌∙◌, ap, subst, arith}
+use Rattle.std.proofs.lemmas.Bool.{and_from, or_parts, not-false}
 use Rattle.std.proofs.lemmas.List.{length-drop, drop-drop}
 use Rattle.std.specs.List.{list_all}
-use Rattle.clif_lex.specs.declared.spans.TokenKind.{TokenKind}
-use Rattle.clif_lex.specs.declared.spans.TokenKind.TheVariants.{Number}
 use Rattle.clif_lex.specs.declared.spans.Token.{Token}
 use Rattle.clif_lex.specs.declared.faults.LexErr.{LexErr}
 use Rattle.clif_lex.specs.declared.faults.LexErr.TheVariants.{BadChar, BadNumber, NoMemory}
 use Rattle.clif_lex.specs.Bytes.{is_blank, is_letter, first}
 use Rattle.clif_lex.specs.Numbers.{is_in_range}
-use Rattle.clif_lex.specs.Spans.{spelling}
 use Rattle.clif_lex.specs.Lexing.{◌>>=◌, is_preamble, token_at, tokens_from, tokens_of}
-use Rattle.clif_lex.specs.Spelling.{spells, IsLongest, IsNone, is_bad, Stands, AfterBlanks, IsDivided, IsAtEnd, IsAtFault, IsReadFrom, IsReading, IsFaultIn, IsTokenIn}
+use Rattle.clif_lex.specs.Spelling.{Stands, AfterBlanks, IsDivided, IsAtEnd, IsAtFault, IsReadFrom, IsReading, IsFaultIn, IsTokenIn}
 use Rattle.clif_lex.proofs.Runs.{at_blank, at_token, at_fault}
 use Rattle.clif_lex.proofs.Longest.{stands}
 

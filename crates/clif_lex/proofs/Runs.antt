@@ -1,12 +1,12 @@
 -- Going on from a token.
-use Rattle.std.proofs.Common.{◌≡◌, ℕ, zero, suc, ◌+◌, ◌-◌, ◌≤◌, ◌<◌, Bool, true, false, ◌&&◌, ◌||◌, nat_lt, cond, List, [], ◌∷◌, ◌++◌, length, drop, Result, Ok, Err, refl, sym, ap, ◌∙◌, arith, append_assoc}
+use Rattle.std.proofs.Common.{◌≡◌, ℕ, zero, suc, ◌+◌, ◌-◌, ◌≤◌, ◌<◌, Bool, true, false, ◌&&◌, nat_lt, cond, List, [], ◌∷◌, ◌++◌, length, drop, Result, Ok, Err, refl, sym, ap, ◌∙◌, arith, append_assoc}
 use Rattle.std.proofs.lemmas.List.{append-nil, nil_from_length}
 use Rattle.std.proofs.lemmas.Bool.Decides.{nat_tests}
 use Rattle.clif_lex.specs.declared.spans.Token.{Token}
 use Rattle.clif_lex.specs.declared.faults.LexErr.{LexErr}
 use Rattle.clif_lex.specs.declared.faults.LexErr.TheVariants.{BadChar, BadNumber, NoMemory}
 use Rattle.clif_lex.specs.Bytes.{is_blank}
-use Rattle.clif_lex.specs.Lexing.{◌>>=◌, is_preamble, token_at, tokens_from, tokens_of, Gives}
+use Rattle.clif_lex.specs.Lexing.{◌>>=◌, is_preamble, token_at, tokens_from, Gives}
 
 -- what was read before, and what is still read
 abbrev pub with_front : List Token → Result (List Token) LexErr → Result (List Token) LexErr

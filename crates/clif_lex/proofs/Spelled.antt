@@ -1,6 +1,6 @@
 -- Whatever is spelled at the front of a text is of the kind that its first bytes begin, and is no longer than the run that they begin.
-use Rattle.std.proofs.Common.{◌≡◌, ℕ, zero, suc, ◌+◌, ◌-◌, ◌≤◌, ◌<◌, Bool, true, false, not, ◌||◌, ◌&&◌, ◌==◌, ◌⊎◌, cond, leb, List, [], ◌∷◌, length, take, drop, refl, sym, ◌∙◌, ap, arith, inl, inr, codes}
-use Rattle.std.proofs.lemmas.Bool.{and_parts, or_cases, and_from, or_left, or_right, cases_Bool, eqb-true, eq-eqb, leb-true, leb-false}
+use Rattle.std.proofs.Common.{◌≡◌, ℕ, zero, suc, ◌+◌, ◌≤◌, Bool, true, false, not, ◌||◌, ◌&&◌, ◌==◌, ◌⊎◌, cond, leb, List, [], ◌∷◌, length, take, drop, refl, ◌∙◌, ap, arith, inl, inr, codes}
+use Rattle.std.proofs.lemmas.Bool.{and_parts, or_cases, and_from, or_left, or_right, cases_Bool, eqb-true, leb-true, leb-false}
 use Rattle.std.proofs.lemmas.Bool.Decides.{nat_tests}
 use Rattle.std.proofs.lemmas.Slice.Eq.{bytes_eq-Decides}
 use Rattle.std.specs.Str.{bytes_eq}
@@ -9,7 +9,7 @@ use Rattle.std.specs.List.{prefix_len, list_all}
 use Rattle.clif_lex.specs.declared.spans.TokenKind.{TokenKind}
 use Rattle.clif_lex.specs.declared.spans.TokenKind.TheVariants.{Header, Comment, Name, Word, Number, Srcloc, Arrow, Mark}
 use Rattle.clif_lex.specs.Bytes.{percent, minus, semicolon, greater, at_sign, is_no_line_feed, is_letter, is_word_byte, is_sign, is_decimal_byte, is_hex_byte, is_mark, first, second}
-use Rattle.clif_lex.specs.Numbers.{is_hex, unsigned, sign_len, digits_len, number_len, lacks_digits}
+use Rattle.clif_lex.specs.Numbers.{is_hex, unsigned, sign_len}
 use Rattle.clif_lex.specs.Lexing.{begins_number, is_header_word}
 use Rattle.clif_lex.specs.Spelling.{are_digits, spells}
 

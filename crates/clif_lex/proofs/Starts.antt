@@ -1,5 +1,5 @@
 -- A token takes a byte at least.
-use Rattle.std.proofs.Common.{◌≡◌, ℕ, zero, ◌+◌, ◌<◌, Bool, true, false, not, ◌||◌, ◌&&◌, ◌==◌, cond, List, [], ◌∷◌, take, drop, Result, Ok, Err, IfOk, refl, arith}
+use Rattle.std.proofs.Common.{◌≡◌, ℕ, ◌+◌, ◌<◌, Bool, true, false, not, ◌||◌, ◌&&◌, cond, List, [], ◌∷◌, take, drop, Result, Ok, Err, IfOk, refl, arith}
 use Rattle.std.proofs.lemmas.Bool.Decides.{nat_tests}
 use Rattle.std.specs.Char.{is_ascii_digit}
 use Rattle.std.specs.List.{prefix_len}
@@ -7,8 +7,8 @@ use Rattle.clif_lex.specs.declared.spans.Token.{Token}
 use Rattle.clif_lex.specs.declared.spans.TokenKind.TheVariants.{Header, Word, Number}
 use Rattle.clif_lex.specs.declared.faults.LexErr.{LexErr}
 use Rattle.clif_lex.specs.declared.faults.LexErr.TheVariants.{BadNumber}
-use Rattle.clif_lex.specs.Bytes.{first, second, line_feed, underscore, is_letter, is_sign, is_word_byte, is_decimal_byte, is_hex_byte, is_no_line_feed}
-use Rattle.clif_lex.specs.Numbers.{is_hex, unsigned, sign_len, digits_len, number_len, lacks_digits, is_in_range}
+use Rattle.clif_lex.specs.Bytes.{first, second, is_letter, is_sign, is_word_byte, is_decimal_byte, is_hex_byte, is_no_line_feed}
+use Rattle.clif_lex.specs.Numbers.{is_hex, digits_len, number_len, lacks_digits, is_in_range}
 use Rattle.clif_lex.specs.Lexing.{begins_number, is_header_word, token, number_at, word_at}
 
 -- a run whose first byte passes is not empty

@@ -1,6 +1,5 @@
 -- How tokens are kept: the tokens of a text of fewer than 2^32 bytes, each with the span of bytes that it takes.
-use Rattle.std.specs.Prelude.{ℕ, List, slice_range, get_or}
-use Rattle.clif_lex.specs.declared.spans.TokenKind.{TokenKind}
+use Rattle.std.specs.Prelude.{ℕ, List, slice_range}
 use Rattle.clif_lex.specs.declared.spans.Token.{Token}
 use Rattle.clif_lex.specs.declared.spans.Span.{Span}
 

@@ -1,6 +1,6 @@
 //! The tokens of a text.
 
-ghost use Rattle.std.specs.Prelude.{◌≡◌, ◌&&◌, ◌+◌, ◌<◌, ◌≤◌, ◌^◌, length, slice_get, IfSome, IfOk, IfErr};
+ghost use Rattle.std.specs.Prelude.{◌≡◌, ◌∷◌, ◌&&◌, ◌+◌, ◌<◌, ◌≤◌, ◌^◌, length, slice_get, IfSome, IfOk, IfErr};
 ghost use Rattle.std.specs.List.{prefix_len};
 ghost use Rattle.std.specs.Char.{is_ascii_hexdigit};
 ghost use Rattle.clif_lex.specs.Bytes as bytes;
@@ -77,19 +77,17 @@ fn number_at(at: usize, text: &[u8]) -> Result<Token, LexErr>
     ensures start { IfOk result (λ t. t.start ≡ at) }
     ensures within { IfOk result (λ t. t.end ≤ at + length text.now) }
 {
-    if lacks_digits(text) {
-        return Err(LexErr::BadNumber(at));
-    }
     let len = number_len(text);
     let (number, rest) = text.split_at(len);
-    if is_letter(first(rest)) || !is_in_range(number) {
-        return Err(LexErr::BadNumber(at));
+    if lacks_digits(text) || is_letter(first(rest)) || !is_in_range(number) {
+        Err(LexErr::BadNumber(at))
+    } else {
+        Ok(Token {
+            kind: TokenKind::Number,
+            start: at,
+            end: at + len,
+        })
     }
-    Ok(Token {
-        kind: TokenKind::Number,
-        start: at,
-        end: at + len,
-    })
 }
 
 /// The word that begins the text, or the Header where one may stand.
@@ -116,20 +114,17 @@ fn word_at(preamble: bool, at: usize, text: &[u8]) -> Token
     }
 }
 
-/// The token that begins the text, before which `at` bytes stand.
+/// The token that begins the text, before which `at` bytes stand. The text is the byte `c` and the rest.
 #[inline(always)]
 #[tactic(auto, unfolding(crate::specs::Lexing::token_at))]
-fn token_at(preamble: bool, at: usize, text: &[u8]) -> Result<Token, LexErr>
+fn token_at(preamble: bool, at: usize, text: &[u8], c: u8, rest: &[u8]) -> Result<Token, LexErr>
+    requires whole { text.now ≡ c ∷ rest.now }
     requires short { at + length text.now < 2 ^ 32 }
     ensures is { result ≡ spec.token_at preamble at text.now }
     ensures start { IfOk result (λ t. t.start ≡ at) }
     ensures some { IfOk result (λ t. at < t.end) }
     ensures within { IfOk result (λ t. t.end ≤ at + length text.now) }
 {
-    let Some((c, rest)) = text.split_first() else {
-        return Err(LexErr::BadChar(at));
-    };
-    let c = *c;
     let next = first(rest);
     if is_letter(c) {
         return Ok(word_at(preamble, at, text));
@@ -178,7 +173,7 @@ pub fn tokens(alloc: Global, text: &[u8]) -> Result<Tokens, LexErr>
             at += 1;
             rest = after;
         } else {
-            let token = token_at(preamble, at, rest)?;
+            let token = token_at(preamble, at, rest, *c, after)?;
             spans.push(Span::new(token))?;
             preamble = stays_preamble(preamble, token.kind);
             rest = rest.split_at(token.end - at).1;

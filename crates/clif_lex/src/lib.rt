@@ -8,9 +8,11 @@ mod lexing;
 mod numbers;
 mod places;
 mod spans;
+#[cfg(test)]
+mod tests;
 
 pub use faults::{LexErr, Place, TextErr, TextKind};
 pub use lexing::tokens;
 pub use numbers::number;
 pub use places::place;
-pub use spans::{Token, TokenKind, Tokens, spelling};
+pub use spans::{Token, TokenIter, TokenKind, Tokens, spelling};

@@ -110,6 +110,48 @@ impl Tokens {
     {
         self.spans[i].token()
     }
+
+    /// The tokens, from the left.
+    #[inline]
+    pub fn iter(&self) -> TokenIter<'_>
+        ensures { result ≡ self.now }
+    {
+        TokenIter { spans: &self.spans }
+    }
+}
+
+/// The tokens of a text, from the left.
+#[derive(Clone, Drop)]
+pub struct TokenIter<'a> {
+    spans: &'a [Span],
+}
+
+impl<'a> Model for TokenIter<'a> {
+    ghost use Rattle.std.specs.Prelude.{List, map};
+    ghost use Rattle.clif_lex.specs.declared.spans.Token.{Token};
+
+    ghost Value = { List Token };
+
+    ghost use Rattle.clif_lex.specs.Spans.{token_of};
+
+    ghost view = { λ tokens. map token_of tokens.spans.now };
+}
+
+impl<'a> Iterator for TokenIter<'a> {
+    ghost use Rattle.std.specs.Iterator.{YieldsFirst, item_count};
+
+    type Item = Token;
+
+    ghost next_gives = { YieldsFirst (λ left. left) };
+
+    ghost remaining = { item_count (λ left. left) };
+
+    #[inline]
+    fn next(&mut self) -> Option<Token> {
+        let (span, rest) = self.spans.split_first()?;
+        self.spans = rest;
+        Some(span.token())
+    }
 }
 
 /// The bytes that a token takes.

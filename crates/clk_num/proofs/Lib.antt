@@ -1,2 +1,3 @@
+pub mod ArithmeticLemmas
 pub mod Examples
 pub mod Numbers

@@ -1,6 +1,7 @@
 -- Facts on the reading of naturals as signed numbers, and on integers modulo a power of two.
-use Rattle.std.proofs.Common.{◌≡◌, ℕ, suc, ◌+◌, ◌-◌, ◌*◌, ◌/◌, ◌%◌, ◌^◌, ◌<◌, ◌≤◌, true, false, ℤ, pos, negsuc, ◌-ℤ◌, neg_ℤ, refl, sym, ◌∙◌, ap, arith, lit≤, ltb, inl, inr, ◌⊎◌, FitsSigned, to_z, of_z, to_z-of_z, leb, ◌&&◌}
-use Rattle.std.specs.Int.RustNames.{unsigned_abs, int_lt as lt_z}
+use Rattle.std.proofs.Common.{◌≡◌, ℕ, suc, ◌+◌, ◌-◌, ◌*◌, ◌/◌, ◌%◌, ◌^◌, ◌<◌, ◌≤◌, true, false, ℤ, pos, negsuc, ◌-ℤ◌, neg_ℤ, refl, sym, ◌∙◌, ap, ap₂, arith, lit≤, ltb, inl, inr, ◌⊎◌, FitsSigned, to_z, of_z, to_z-of_z, leb, ◌&&◌}
+use Rattle.std.specs.Int.RustNames.{unsigned_abs, int_lt as lt_z, int_le}
+use lib.Signed.{mag, shr_z, mag_shr}
 use Rattle.std.proofs.Math.Nat.{mod-eq_of_lt}
 use Rattle.std.specs.Int.{w128}
 use Rattle.std.proofs.lemmas.Int.{ints, to_z_pos}
@@ -10,7 +11,7 @@ use Rattle.std.proofs.lemmas.Bool.{cases_lt}
 use Rattle.clk_num.specs.declared.width.Width.{Width}
 use Rattle.clk_num.specs.declared.width.Width.TheVariants.{W8, W16, W32, W64, W128}
 use Rattle.clk_num.specs.Width.{bits_of}
-use Rattle.clk_num.specs.Numbers.{signed, wrapped, fits}
+use Rattle.clk_num.specs.Numbers.{signed, wrapped, fits, fits_signed, floored}
 
 -- two to the power of a width is twice the power below it
 pub power_halves : (t : Width) → 2 ^ bits_of t ≡ 2 * 2 ^ (bits_of t - 1)
@@ -212,3 +213,92 @@ positive_value t z g k f neg e d h =
     let small : n < 2 ^ bits_of t = omega (arith, e ∙ c) in
     let kept : n % 2 ^ bits_of t ≡ n = mod-eq_of_lt small in
     rw (is, kept) (e ∙ c)
+
+-- ---- the code's signed numbers: each is handed on as `to_z w128 (of_z w128 z)`
+
+pub read_back : (z : ℤ) → mag z < 2 ^ 127 → to_z w128 (of_z w128 z) ≡ z
+read_back z h = let f : FitsSigned w128 z = record { sfits = h } in to_z-of_z f
+
+-- two of them in a test, or in any function
+pub read_both : {A : Type 0} (f : ℤ → ℤ → A) (a b p q : ℤ) → mag a < 2 ^ 127 → mag b < 2 ^ 127 → a ≡ p → b ≡ q
+    → f (to_z w128 (of_z w128 a)) (to_z w128 (of_z w128 b)) ≡ f p q
+read_both f a b p q h k d e = ap₂ f (read_back a h ∙ d) (read_back b k ∙ e)
+
+-- a result of two of them that fits
+pub read_result : (f : ℤ → ℤ → ℤ) (a b p q : ℤ) → mag a < 2 ^ 127 → mag b < 2 ^ 127 → a ≡ p → b ≡ q
+    → FitsSigned w128 (f p q) → to_z w128 (of_z w128 (f (to_z w128 (of_z w128 a)) (to_z w128 (of_z w128 b)))) ≡ f p q
+read_result f a b p q h k d e fits = ap (λ (z : ℤ). to_z w128 (of_z w128 z)) (read_both f a b p q h k d e) ∙ to_z-of_z fits
+
+-- the signed reading is in the range of the width
+pub signed_mag : (t : Width) (n : ℕ) → n < 2 ^ bits_of t → mag (signed (bits_of t) n) < 2 ^ (bits_of t - 1)
+signed_mag t n h = elim (signed_cases t n h) [
+  | inl (low, is) ↦ rw is low
+  | inr (high, is, small) ↦ rw is small
+]
+
+-- a number that fits a width is one whose magnitude is below half the power
+pub fits_signed_mag : (t : Width) (z : ℤ) → fits_signed (bits_of t) z ≡ ltb (mag z) (2 ^ (bits_of t - 1))
+unfolding fits_signed
+fits_signed_mag t (pos n) =
+    let p = pow_pos (bits_of t - 1) in
+    let least : neg_ℤ (pos (2 ^ (bits_of t - 1))) ≡ negsuc (2 ^ (bits_of t - 1) - 1) = omega (arith, ints) in
+    rw least refl
+fits_signed_mag t (negsuc n) =
+    let p = pow_pos (bits_of t - 1) in
+    let least : neg_ℤ (pos (2 ^ (bits_of t - 1))) ≡ negsuc (2 ^ (bits_of t - 1) - 1) = omega (arith, ints) in
+    let test : (leb n (2 ^ (bits_of t - 1) - 1) && true) ≡ ltb n (2 ^ (bits_of t - 1)) = grind (arith, nat_tests) in
+    rw least test
+
+-- and fits an i128
+pub fits_widest : (t : Width) (z : ℤ) → fits_signed (bits_of t) z ≡ true → FitsSigned w128 z
+fits_widest t z h =
+    let test : ltb (mag z) (2 ^ (bits_of t - 1)) ≡ true = sym (fits_signed_mag t z) ∙ h in
+    let small : mag z < 2 ^ (bits_of t - 1) = grind (arith, nat_tests) in
+    let bound = half_power_le t in
+    record { sfits = omega arith }
+
+-- the code's least value of a width, where g is its greatest
+least_of : (g : ℕ) → g < 2 ^ 127 → to_z w128 (of_z w128 (negsuc 0 -ℤ to_z w128 g)) ≡ negsuc g
+least_of g h =
+    let is : to_z w128 g ≡ pos g = to_z_pos w128 g h in
+    let value : (negsuc 0 -ℤ pos g) ≡ negsuc g = omega (arith, ints) in
+    rw (is, value) (read_back (negsuc g) h)
+
+-- the code's test of the range, in its two parts
+pub held_above : (t : Width) (z : ℤ) (g : ℕ) → g ≡ 2 ^ (bits_of t - 1) - 1 → FitsSigned w128 z
+    → int_le (to_z w128 (of_z w128 (negsuc 0 -ℤ to_z w128 g))) (to_z w128 (of_z w128 z)) ≡ true
+    → int_le (to_z w128 (of_z w128 z)) (to_z w128 g) ≡ fits_signed (bits_of t) z
+held_above t z g e f h =
+    let p = pow_pos (bits_of t - 1) in
+    let bound = half_power_le t in
+    let small : g < 2 ^ 127 = omega arith in
+    let low : int_le (negsuc g) z ≡ true = ap₂ int_le (sym (least_of g small)) (sym (to_z-of_z f)) ∙ h in
+    ap₂ int_le (to_z-of_z f) (to_z_pos w128 g small) ∙ held z low ∙ sym (fits_signed_mag t z)
+  where
+    held : (z : ℤ) → int_le (negsuc g) z ≡ true → int_le z (pos g) ≡ ltb (mag z) (2 ^ (bits_of t - 1))
+    held (pos n) low = let p = pow_pos (bits_of t - 1) in let d = e in grind (arith, nat_tests)
+    held (negsuc n) low = let p = pow_pos (bits_of t - 1) in let d = e in
+        let under : leb n g ≡ true = low in
+        let test : true ≡ ltb n (2 ^ (bits_of t - 1)) = grind (arith, nat_tests) in test
+
+pub held_below : (t : Width) (z : ℤ) (g : ℕ) → g ≡ 2 ^ (bits_of t - 1) - 1 → FitsSigned w128 z
+    → int_le (to_z w128 (of_z w128 (negsuc 0 -ℤ to_z w128 g))) (to_z w128 (of_z w128 z)) ≡ false
+    → int_le (to_z w128 (of_z w128 (negsuc 0 -ℤ to_z w128 g))) (to_z w128 (of_z w128 z)) ≡ fits_signed (bits_of t) z
+held_below t z g e f h =
+    let p = pow_pos (bits_of t - 1) in
+    let bound = half_power_le t in
+    let small : g < 2 ^ 127 = omega arith in
+    let low : int_le (negsuc g) z ≡ false = ap₂ int_le (sym (least_of g small)) (sym (to_z-of_z f)) ∙ h in
+    h ∙ sym (held z low) ∙ sym (fits_signed_mag t z)
+  where
+    held : (z : ℤ) → int_le (negsuc g) z ≡ false → ltb (mag z) (2 ^ (bits_of t - 1)) ≡ false
+    held (pos n) low = absurd cc
+    held (negsuc n) low = let p = pow_pos (bits_of t - 1) in let d = e in
+        let under : leb n g ≡ false = low in
+        grind (arith, nat_tests)
+
+-- the code's shift of a signed number rounds down
+pub shifted_is : (z : ℤ) (m : ℕ) → mag z < 2 ^ 127 → to_z w128 (of_z w128 (shr_z z m)) ≡ floored z m
+unfolding floored
+shifted_is (pos n) m h = let d = mag_shr (pos n) m in read_back (pos (n / m)) (omega arith)
+shifted_is (negsuc n) m h = let d = mag_shr (negsuc n) m in read_back (negsuc (n / m)) (omega arith)

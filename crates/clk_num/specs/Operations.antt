@@ -21,6 +21,10 @@ pub record DataValue : Type 0 where
   pub width : Width
   pub value : ℕ
 
+-- n as a value of type t
+abbrev pub value_of : Width → ℕ → DataValue
+value_of t n = record { width = t; value = n }
+
 -- the types of some values
 abbrev pub widths : List DataValue → List Width
 widths xs = map (λ (x : DataValue). x.width) xs
@@ -204,11 +208,11 @@ ssub_overflows w x y = not (fits_signed w (signed w x -ℤ signed w y))
 
 -- one result
 abbrev pub one : Width → ℕ → Evaluation
-one t n = Values (record { width = t; value = n } ∷ [])
+one t n = Values (value_of t n ∷ [])
 
 -- two results
 abbrev pub two : Width → ℕ → Width → ℕ → Evaluation
-two t m u n = Values (record { width = t; value = m } ∷ record { width = u; value = n } ∷ [])
+two t m u n = Values (value_of t m ∷ value_of u n ∷ [])
 
 -- a value of its operand's type
 abbrev pub unary : (ℕ → ℕ → ℕ) → List DataValue → Evaluation

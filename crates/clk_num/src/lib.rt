@@ -1,7 +1,9 @@
 //! The operations of CLIF on bits: types of 8 to 128 bits, their values, and what each opcode gives.
 #![tactic(auto)]
 
+mod arithmetic;
 mod bits;
+mod bitwise;
 mod eval;
 mod law;
 mod op;

@@ -13,6 +13,7 @@ pub enum Width {
 
 impl Width {
     ghost use Rattle.clk_num.specs.Width.{bits_of, double, half};
+    ghost use Rattle.clk_num.specs.Numbers.{fits_signed};
 
     /// The width in bits: 8, 16, 32, 64 or 128.
     pub fn bits(self) -> u32
@@ -51,6 +52,14 @@ impl Width {
             Width::W64 => 0x7fff_ffff_ffff_ffff,
             Width::W128 => 0x7fff_ffff_ffff_ffff_ffff_ffff_ffff_ffff,
         }
+    }
+
+    /// Whether the number is a value of the type read as signed.
+    pub(crate) fn holds_signed(self, number: i128) -> bool
+        ensures { result ≡ fits_signed (bits_of self) number }
+    {
+        let greatest = self.greatest_signed() as i128;
+        -1 - greatest <= number && number <= greatest
     }
 
     /// The type of twice the width. There is none above `i128`.

@@ -1,4 +1,3 @@
-use Rattle.std.proofs.Common.{Some, refl}
 use Rattle.clif_lex.proofs.Readings.{if_token_in_text}
 use Rattle.clif_lex.proofs.laws.token_in_text.Goals as goal
 

@@ -6,7 +6,7 @@ use Rattle.clif_lex.proofs.lexing.token_at.Goals as goal
 pub returns-then-is_letter-clause-some : goal.returns-then-is_letter-clause-some
 returns-then-is_letter-clause-some c =
     let text = c.args.text.now in
-    let letter = ap (λ xs. is_letter (first xs)) c.in-Some.ensures.cases.0 ∙ sym c.is_letter.ensures ∙ c.if-is_letter.true in
+    let letter = ap (λ xs. is_letter (first xs)) c.requires.whole ∙ sym c.is_letter.ensures ∙ c.if-is_letter.true in
     rw c.word_at.ensures.is (word_some c.args.preamble c.args.at text letter)
 
 pub returns-then-begins_number-clause-some : goal.returns-then-begins_number-clause-some

@@ -1,6 +1,4 @@
-use Rattle.std.proofs.Common.{IfSome, arith}
-use Rattle.clif_lex.specs.declared.spans.Token.{Token}
-use Rattle.clif_lex.specs.declared.spans.TokenKind.TheVariants.{Number}
+use Rattle.std.proofs.Common.{arith}
 use Rattle.clif_lex.proofs.Readings.{token_inside_text}
 use Rattle.clif_lex.proofs.spans.Tokens.number.Goals as goal
 

@@ -1,5 +1,5 @@
 //! Calls that change a function in place and take no memory.
-ghost use Rattle.std.specs.Prelude.{◌≡◌, ◌≢◌, ℕ, ◌+◌, ◌<◌, ◌≤◌, ◌++◌, ◌^◌, List, [], ◌∷◌, length, map, take, drop, slice_get, vec_len, IfOk, OnOk, OnErr};
+ghost use Rattle.std.specs.Prelude.{All, ◌≡◌, ◌≢◌, ℕ, ◌+◌, ◌<◌, ◌≤◌, ◌++◌, ◌^◌, List, [], ◌∷◌, length, map, take, drop, slice_get, vec_len, vec_capacity, insert, IfOk, OnOk, OnErr};
 ghost use Rattle.ir_core.specs.Lookup.{block_numbers, definitions};
 ghost use Rattle.ir_core.specs.Lists.{In, Different, Below, Each};
 ghost use Rattle.ir_core.specs.Sound.{CanAdd, LineInRange, counts_of, instruction_count};
@@ -34,7 +34,8 @@ impl Func {
         let start = self.insts.len();
         let params = params.into_vec();
         self.defined += params.len();
-        let next = self.blocks[after.number() as usize].next;
+        let place = after.number() as usize;
+        let next = self.blocks[place].next;
         self.blocks.push_reserved(BlockData {
             params,
             start,
@@ -42,7 +43,7 @@ impl Func {
             cap: 0,
             next,
         });
-        self.blocks[after.number() as usize].next = Some(number);
+        self.blocks[place].next = Some(number);
         if next.is_none() {
             self.last = Some(number);
         }
@@ -66,7 +67,7 @@ impl Func {
         let end = entry.start + entry.len;
         if entry.len < entry.cap {
             entry.len += 1;
-            self.insts[end] = added;
+            overwrite(&mut self.insts[end], added);
             return;
         }
         entry.len += 1;
@@ -76,10 +77,12 @@ impl Func {
             self.insts.push_reserved(added);
             return;
         }
-        if end < self.insts.len() {
-            move_starts(self.blocks.as_mut_slice(), end);
+        if end == self.insts.len() {
+            self.insts.push_reserved(added);
+            return;
         }
-        let _ = self.insts.insert(end, added);
+        move_starts(self.blocks.as_mut_slice(), end);
+        put_between(&mut self.insts, end, added);
     }
 
     /// Takes the last instruction of a block away and answers it. Its results are then not defined.
@@ -132,9 +135,27 @@ fn nop(alloc: Global) -> InstData
     }
 }
 
+/// Writes an instruction in the place of one that is in use no more.
+fn overwrite(place: &mut InstData, added: InstData)
+    ensures { place.new ≡ added }
+{
+    *place = added;
+}
+
+/// Puts an instruction at a place of the arena, which has room for it. Those from there on move back by one.
+fn put_between(insts: &mut Vec<InstData>, place: usize, added: InstData)
+    requires room { vec_len insts.old < vec_capacity insts.old }
+    requires within { place ≤ vec_len insts.old }
+    ensures items { insts.new.items ≡ insert insts.old.items place added }
+    ensures len { vec_len insts.new ≡ vec_len insts.old + 1 }
+    ensures capacity { vec_capacity insts.old ≤ vec_capacity insts.new }
+{
+    let _ = insts.insert(place, added);
+}
+
 /// Moves each range that starts at a place or after it by one.
 fn move_starts(blocks: &mut [BlockData], place: usize)
-    requires { Each (λ entry. entry.start + 1 < 2 ^ 64) blocks.old }
+    requires { All (λ entry. entry.start + 1 < 2 ^ 64) blocks.old }
     ensures { blocks.new ≡ map (shifted place) blocks.old }
 {
     for entry in blocks.iter_mut() {

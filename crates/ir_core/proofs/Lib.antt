@@ -1,0 +1,14 @@
+pub mod Order
+pub mod Ranges
+pub mod Laying
+pub mod Changing
+pub mod Members
+pub mod Splitting
+pub mod Keeping
+pub mod Adding
+pub mod Counting
+pub mod Walking
+pub mod Inserting
+pub mod Shifting
+pub mod Writing
+pub mod Putting

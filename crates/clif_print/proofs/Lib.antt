@@ -1,0 +1,6 @@
+pub mod Blocks
+pub mod Left
+pub mod PlacesLemmas
+pub mod Puts
+pub mod Ranges
+pub mod Sinks

@@ -112,6 +112,27 @@ sound_value f ts t is s few =
       small = record { slots = s.small.slots; sigs = s.small.sigs; callees = s.small.callees; values = omega (arith, long, few); blocks = s.small.blocks; instructions = s.small.instructions };
     }
 
+-- numbered from n on, and more
+pub numbered_more : (n m : ℕ) (ts us : List Ty) → m ≡ n + length ts → enumerate_from n (ts ++ us) ≡ enumerate_from n ts ++ enumerate_from m us
+numbered_more n m [] us e = let q : n ≡ m = omega (arith, e) in ap (λ z. enumerate_from z us) q
+numbered_more n m (t ∷ ts) us e = ap (λ r. (n, t) ∷ r) (numbered_more (n + 1) m ts us (omega (arith, e)))
+
+-- several of each kind appended
+pub sound_append : (f : Function) (ts us : List Ty) (slots : List SlotDecl) (sigs : List Sig) (callees : List Callee) → f.types ≡ enumerate_from 0 ts → IsSound f → length f.slots + length slots < 2 ^ 32 - 1 → length f.sigs + length sigs < 2 ^ 32 - 1 → length f.callees + length callees < 2 ^ 32 - 1 → length f.types + length us < 2 ^ 32 - 1 → Each (λ callee. callee.sig < length f.sigs + length sigs) callees → IsSound (record f { slots = f.slots ++ slots; sigs = f.sigs ++ sigs; callees = f.callees ++ callees; types = enumerate_from 0 (ts ++ us) })
+sound_append f ts us slots sigs callees is s few_slots few_sigs few_callees few_values in_range =
+    let long : length (enumerate_from 0 (ts ++ us)) ≡ length f.types + length us = length_numbered 0 (ts ++ us) ∙ (length-append ts us ∙ ap (λ z. z + length us) (sym (ap length is ∙ length_numbered 0 ts))) in
+    let m : Counts = counts_of (record f { slots = f.slots ++ slots; sigs = f.sigs ++ sigs; callees = f.callees ++ callees; types = enumerate_from 0 (ts ++ us) }) in
+    let more : AtMost (counts_of f) m = record { values = omega (arith, long); blocks = omega arith; slots = omega (arith, length-append f.slots slots); sigs = omega (arith, length-append f.sigs sigs); callees = omega (arith, length-append f.callees callees) } in
+    record {
+      callees = each_join (CalleeInRange m) f.callees callees (callees_more _ _ more f.callees s.callees) (each_more (λ callee. callee.sig < length f.sigs + length sigs) (CalleeInRange m) (λ c q. omega (arith, q, length-append f.sigs sigs)) callees in_range);
+      blocks = blocks_more _ _ more f.blocks s.blocks;
+      numbered = ap (enumerate_from 0) (sym (types_numbered 0 (ts ++ us)));
+      defined_once = s.defined_once;
+      block_range = s.block_range;
+      blocks_differ = s.blocks_differ;
+      small = record { slots = omega (arith, length-append f.slots slots, few_slots); sigs = omega (arith, length-append f.sigs sigs, few_sigs); callees = omega (arith, length-append f.callees callees, few_callees); values = omega (arith, long, few_values); blocks = s.small.blocks; instructions = s.small.instructions };
+    }
+
 -- a block changed
 
 abbrev pub with_blocks : Function → List Block → Function

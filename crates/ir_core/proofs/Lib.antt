@@ -12,3 +12,4 @@ pub mod Inserting
 pub mod Shifting
 pub mod Writing
 pub mod Putting
+pub mod Indexing

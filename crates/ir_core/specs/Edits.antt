@@ -1,5 +1,5 @@
 -- A function with its spare room, and what a call that changes a function makes of its blocks.
-use Rattle.std.specs.Prelude.{ℕ, ◌<◌, Option, Some, None, List, [], ◌∷◌, ◌++◌, length, nat_eq, if◌then◌else◌}
+use Rattle.std.specs.Prelude.{ℕ, ◌<◌, ◌≤◌, Option, Some, None, List, [], ◌∷◌, ◌++◌, length, nat_eq, if◌then◌else◌}
 use Rattle.ir_core.specs.declared.room.Room.{Room}
 use Rattle.ir_core.specs.declared.places.Point.{Point}
 use Rattle.ir_core.specs.Module.{Block, Line, Function}
@@ -10,6 +10,15 @@ use Rattle.ir_core.specs.Lists.{In}
 pub record Body : Type 0 where
   pub function : Function
   pub room : Room
+
+-- there is at least so much room of each kind
+pub record HasRoom (wanted there : Room) : Type 0 where
+  pub slots : wanted.slots ≤ there.slots
+  pub sigs : wanted.sigs ≤ there.sigs
+  pub callees : wanted.callees ≤ there.callees
+  pub values : wanted.values ≤ there.values
+  pub blocks : wanted.blocks ≤ there.blocks
+  pub insts : wanted.insts ≤ there.insts
 
 -- the blocks, with f of each that has the number
 abbrev pub at_block : ℕ → (Block → Block) → List Block → List Block

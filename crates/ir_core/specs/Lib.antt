@@ -8,6 +8,7 @@ pub mod Numbering
 pub mod Operands
 pub mod Pieces
 pub mod Shift
+pub mod Size
 pub mod Sound
 pub mod Text
 pub mod Viewed

@@ -13,6 +13,7 @@ mod numbers;
 mod places;
 mod room;
 mod signatures;
+mod size;
 
 pub use declarations::{Callee, SlotDecl};
 pub use func::{Blocks, Func, Insts};

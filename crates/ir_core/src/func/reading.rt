@@ -5,6 +5,7 @@ ghost use Rattle.std.specs.Slice.Iter.{iter_rest};
 ghost use Rattle.ir_core.specs.Lookup.{block_numbers, type_of};
 ghost use Rattle.ir_core.specs.Lists.{In};
 ghost use Rattle.ir_core.specs.Sound.{IsSound, IsWhole};
+ghost use Rattle.ir_core.specs.Size.{size_of, size_at, capped};
 ghost use Rattle.ir_core.specs.Edits.{params_of, lines_of, IsPoint};
 ghost use Rattle.ir_core.specs.Viewed.{line_of};
 
@@ -157,5 +158,32 @@ impl Func {
         ensures { IsTrue result ↔ IsWhole self.now.function }
     {
         self.first.is_some() && self.defined == self.types.len()
+    }
+
+    /// The function's size: the number of its parts that the limits on sizes count. The greatest number of the type where
+    /// it is greater.
+    pub fn size(&self) -> usize
+        ensures { result ≡ capped (size_of self.now.function) }
+    {
+        let mut size = self.slots.len().saturating_add(self.callees.len());
+        for sig in self.sigs.iter() {
+            size = size.saturating_add(sig.size());
+        }
+        for block in self.blocks() {
+            size = size.saturating_add(self.block_size(block));
+        }
+        size
+    }
+
+    /// A block's part of the size.
+    fn block_size(&self, block: Block) -> usize
+        requires { In block (block_numbers self.now.function.blocks) }
+        ensures { result ≡ capped (size_at self.now.function.blocks block) }
+    {
+        let mut size = 1usize.saturating_add(self.params(block).len());
+        for added in self.inst_slice(block) {
+            size = size.saturating_add(added.size());
+        }
+        size
     }
 }

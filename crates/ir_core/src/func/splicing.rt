@@ -1,21 +1,64 @@
 //! Calls that change a function in place and take no memory.
-ghost use Rattle.std.specs.Prelude.{All, ◌≡◌, ◌≢◌, ℕ, ◌+◌, ◌<◌, ◌≤◌, ◌++◌, ◌^◌, List, [], ◌∷◌, length, map, take, drop, slice_get, vec_len, vec_capacity, insert, IfOk, OnOk, OnErr};
+ghost use Rattle.std.specs.Prelude.{All, ◌≡◌, ◌≢◌, ℕ, ◌+◌, ◌-◌, ◌<◌, ◌≤◌, ◌++◌, ◌^◌, List, [], ◌∷◌, length, map, take, drop, slice_get, vec_len, vec_capacity, insert, IfOk, OnOk, OnErr};
+ghost use Rattle.std.specs.List.{enumerate_from};
 ghost use Rattle.ir_core.specs.Lookup.{block_numbers, definitions};
 ghost use Rattle.ir_core.specs.Lists.{In, Different, Below, Each};
 ghost use Rattle.ir_core.specs.Sound.{CanAdd, LineInRange, counts_of, instruction_count};
-ghost use Rattle.ir_core.specs.Edits.{at_block, insert_after, put_param, put_line, lines_of, with_lines, change_last};
+ghost use Rattle.ir_core.specs.Edits.{HasRoom, at_block, insert_after, put_param, put_line, lines_of, with_lines, change_last};
 ghost use Rattle.ir_core.specs.Viewed.{line_of};
 ghost use Rattle.ir_core.specs.Shift.{shifted};
 
 use super::{BlockData, Func};
+use crate::declarations::{Callee, SlotDecl};
 use crate::instructions::{Inst, InstData};
 use crate::lists::List;
 use crate::numbers::{Block, Value};
+use crate::room::Room;
+use crate::signatures::{Sig, Ty};
 use debug_tags::Tags;
-use std::alloc::Global;
+use std::alloc::{AllocError, Global};
 use std::mem;
 
 impl Func {
+    /// Makes room for so many more of each kind. All lists are as before, and no room shrinks. Only `AllocError` refuses.
+    pub fn reserve(&mut self, room: Room) -> Result<(), AllocError>
+        ensures same { self.new.function ≡ self.old.function }
+        ensures ok { OnOk result (HasRoom room self.new.room) }
+        ensures grows { HasRoom self.old.room self.new.room }
+    {
+        self.slots.reserve(room.slots)?;
+        self.sigs.reserve(room.sigs)?;
+        self.callees.reserve(room.callees)?;
+        self.types.reserve(room.values)?;
+        self.blocks.reserve(room.blocks)?;
+        self.insts.reserve(room.insts)?;
+        Ok(())
+    }
+
+    /// Appends slots, signatures, callees and values of these types, for which there is room. A callee may name one of the
+    /// new signatures.
+    pub fn append(
+        &mut self,
+        slots: List<SlotDecl>,
+        sigs: List<Sig>,
+        callees: List<Callee>,
+        values: List<Ty>,
+    )
+        requires room { HasRoom (record { slots = length slots; sigs = length sigs; callees = length callees; values = length values; blocks = 0; insts = 0 }) self.old.room }
+        requires few_slots { length self.old.function.slots + length slots < 2 ^ 32 - 1 }
+        requires few_sigs { length self.old.function.sigs + length sigs < 2 ^ 32 - 1 }
+        requires few_callees { length self.old.function.callees + length callees < 2 ^ 32 - 1 }
+        requires few_values { length self.old.function.types + length values < 2 ^ 32 - 1 }
+        requires in_range { Each (λ callee. callee.sig < length self.old.function.sigs + length sigs) callees }
+        ensures body { self.new.function ≡ record self.old.function { slots = self.old.function.slots ++ slots; sigs = self.old.function.sigs ++ sigs; callees = self.old.function.callees ++ callees; types = self.old.function.types ++ enumerate_from (length self.old.function.types) values } }
+        ensures room { HasRoom self.old.room (record self.new.room { slots = self.new.room.slots + length slots; sigs = self.new.room.sigs + length sigs; callees = self.new.room.callees + length callees; values = self.new.room.values + length values }) }
+    {
+        append_reserved(&mut self.slots, slots);
+        append_reserved(&mut self.sigs, sigs);
+        append_reserved(&mut self.callees, callees);
+        append_reserved(&mut self.types, values);
+    }
+
     /// Puts an empty block directly after `after` and answers its number.
     pub fn insert_block(&mut self, after: Block, params: List<Value>) -> Block
         requires there { In after (block_numbers self.old.function.blocks) }
@@ -122,6 +165,16 @@ impl Func {
         entry.len = len;
         entry.cap = cap;
     }
+}
+
+/// Moves the items of a list to the end of a vector that has room for them.
+fn append_reserved<T: Drop>(items: &mut Vec<T>, more: List<T>)
+    requires { vec_len items.old + length more ≤ vec_capacity items.old }
+    ensures items { items.new.items ≡ items.old.items ++ more }
+    ensures len { vec_len items.new ≡ vec_len items.old + length more }
+    ensures capacity { vec_capacity items.old ≤ vec_capacity items.new }
+{
+    let _ = items.append(&mut more.into_vec());
 }
 
 /// An instruction that does nothing.

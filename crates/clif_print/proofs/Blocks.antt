@@ -5,14 +5,8 @@ use Rattle.std.proofs.lemmas.Bool.{eqb-true}
 use Rattle.ir_core.specs.Edits.{params_of, lines_of}
 use Rattle.ir_core.specs.Lists.{In, Different}
 use Rattle.ir_core.specs.Lookup.{definitions, line_definitions, block_numbers}
-use Rattle.ir_core.specs.Module.{Block, Line}
-
--- the block of a number
-abbrev pub block_at : List Block → ℕ → Block
-block_at bs n = record { number = n; params = params_of n bs; lines = lines_of n bs }
-
-abbrev pub blocks_at : List Block → List ℕ → List Block
-blocks_at bs ns = map (block_at bs) ns
+use Rattle.ir_core.specs.Module.{Block}
+use Rattle.clif_print.specs.Walk.{block_at, blocks_at}
 
 skip : (b : Block) (bs : List Block) (n : ℕ) → (b.number ≡ n → ⊥) → block_at (b ∷ bs) n ≡ block_at bs n
 skip b bs n other = go (nat_eq b.number n) refl
@@ -48,3 +42,7 @@ pub listed : (bs : List Block) (order now it rest : List ℕ) (b : ℕ) → it �
 listed bs order now it rest b e f h =
     ap (λ (l : List ℕ). l ++ definitions (blocks_at bs rest)) f ∙ append_assoc (order ++ params_of b bs) (line_definitions (lines_of b bs)) (definitions (blocks_at bs rest))
     ∙ append_assoc order (params_of b bs) (line_definitions (lines_of b bs) ++ definitions (blocks_at bs rest)) ∙ ap (λ (l : List ℕ). order ++ definitions (blocks_at bs l)) (sym e) ∙ h
+
+-- the first block, and the others
+pub first_block : (bs : List Block) (order rest : List ℕ) (b : ℕ) → order ≡ b ∷ rest → order ≡ block_numbers bs → Different (block_numbers bs) → bs ≡ block_at bs b ∷ blocks_at bs rest
+first_block bs order rest b e f d = sym (blocks_again bs d) ∙ ap (blocks_at bs) (sym f ∙ e)

@@ -4,8 +4,8 @@ use Rattle.std.specs.Prelude.{◌⊎◌}
 use Rattle.std.proofs.lemmas.Bool.{eqb-true}
 use Rattle.ir_core.specs.Lists.{In, Different, Below, Each}
 use Rattle.ir_core.specs.Lookup.{definitions, line_definitions, block_numbers}
-use Rattle.ir_core.specs.Module.{Block, Line}
-use Rattle.ir_core.specs.Sound.{Counts, LineInRange, BlockInRange}
+use Rattle.ir_core.specs.Module.{Block, Line, Function}
+use Rattle.ir_core.specs.Sound.{Counts, counts_of, LineInRange, BlockInRange, IsSound}
 
 below-append : (n : ℕ) (xs ys : List ℕ) → Below n xs → Below n ys → Below n (xs ++ ys)
 below-append n [] ys h k = k
@@ -69,3 +69,6 @@ pub few : (n : ℕ) (xs : List ℕ) → Different xs → Below n xs → length x
 few zero [] d h = omega arith
 few zero (x ∷ xs) d h = absurd (omega (arith, h.0))
 few (suc n) xs d h = omega (arith, length_without n xs, few n (without n xs) (different_without n xs d) (below_without n xs d h))
+
+pub all_few : (f : Function) → IsSound f → length (definitions f.blocks) < 2 ^ 32
+all_few f s = omega (arith, few (length f.types) (definitions f.blocks) s.defined_once (below_blocks (counts_of f) f.blocks s.blocks), s.small.values)

@@ -2,7 +2,7 @@
 ghost use Rattle.std.specs.Prelude.{ℕ, List};
 ghost use Rattle.ir_core.specs.Numbering.{Numbering};
 ghost use Rattle.ir_core.specs.Pieces.{Text, spelled, comma, ◌▹◌};
-ghost use Rattle.ir_core.specs.Text.{instruction, signature_reference, target, exception_table, op_suffix, condition, extending_suffix, load_opcode, store_opcode};
+ghost use Rattle.ir_core.specs.Text.{instruction, value, address, slot_address, signature_reference, target, exception_table, op_suffix, condition, extending_suffix, load_opcode, store_opcode};
 ghost use Rattle.ir_core.specs.Viewed.{instruction_of};
 ghost use Rattle.ir_core.specs.declared.instructions.Inst.TheVariants as form;
 ghost use Rattle.clif_print.specs.Output.{Start, Puts};
@@ -156,9 +156,37 @@ fn put_store<O: Output>(
     put_suffix_if(out, suffix);
     out.put(b" ");
     put_flags(out, flags);
-    put_value(out, numbers, value);
+    put_stored(out, numbers, value, address, offset);
+}
+
+/// Puts a value that is stored, and the address.
+fn put_stored<O: Output>(
+    out: &mut O,
+    numbers: &FuncNumbers,
+    stored: Value,
+    base: Value,
+    offset: i32,
+)
+    ensures { Puts O.holds out.old out.new (spelled (value numbers.now stored ▹ comma ▹ address numbers.now base offset)) }
+{
+    put_value(out, numbers, stored);
     out.put(b", ");
-    put_address(out, numbers, address, offset);
+    put_address(out, numbers, base, offset);
+}
+
+/// Puts a value that is stored, and the place in a slot.
+fn put_stored_in_slot<O: Output>(
+    out: &mut O,
+    numbers: &FuncNumbers,
+    stored: Value,
+    slot: Slot,
+    offset: i32,
+)
+    ensures { Puts O.holds out.old out.new (spelled (value numbers.now stored ▹ comma ▹ slot_address slot offset)) }
+{
+    put_value(out, numbers, stored);
+    out.put(b", ");
+    put_slot_address(out, slot, offset);
 }
 
 fn put_stack_load<O: Output>(
@@ -190,9 +218,7 @@ fn put_stack_store<O: Output>(
     out.put(b"stack_store");
     put_suffix_if(out, suffix);
     out.put(b" ");
-    put_value(out, numbers, value);
-    out.put(b", ");
-    put_slot_address(out, slot, offset);
+    put_stored_in_slot(out, numbers, value, slot, offset);
 }
 
 fn put_func_addr<O: Output>(out: &mut O, numbers: &FuncNumbers, suffix: Option<Ty>, callee: FuncRef)

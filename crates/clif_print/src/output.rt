@@ -1,6 +1,5 @@
 //! Where a text goes, and the pieces that every text is made of.
-ghost use Rattle.std.specs.Prelude.{ℕ, List, ◌++◌, codes, decimal};
-ghost use Rattle.ir_core.specs.Pieces.{Text, Numbered, Word, spelled};
+ghost use Rattle.std.specs.Prelude.{ℕ, List, ◌++◌};
 ghost use Rattle.clif_print.specs.Output.{Start, Puts};
 
 use itoa::Integer;
@@ -23,8 +22,8 @@ pub(crate) fn put_number<O: Output, I: Integer>(out: &mut O, number: I)
 }
 
 /// Puts a word that ends with a number.
-pub(crate) fn put_numbered<O: Output>(out: &mut O, word: &[u8], number: u32)
-    ensures { Puts O.holds out.old out.new (spelled (Numbered word.now number)) }
+pub(crate) fn put_numbered<O: Output, I: Integer>(out: &mut O, word: &[u8], number: I)
+    ensures { Puts O.holds out.old out.new (word.now ++ I.text number) }
 {
     out.put(word);
     put_number(out, number);

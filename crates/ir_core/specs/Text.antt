@@ -68,7 +68,7 @@ signature s = in_parentheses (separated parameter s.params) ▹ signature_result
 -- ---- declarations: the number of the first, and the declarations
 
 abbrev pub alignment : ℕ → Text
-alignment bytes = if bytes == 1 then Nothing else comma ▹ Word (codes "align") ▹ equals ▹ Number bytes
+alignment bytes = if bytes == 1 then Nothing else (comma ▹ Word (codes "align") ▹ equals ▹ Number bytes)
 
 abbrev pub slot_line : ℕ → SlotDecl → Text
 slot_line k s = indent ▹ Numbered (codes "ss") k ▹ equals ▹ Word (codes "explicit_slot") ▹ space ▹ Number s.size ▹ alignment s.align ▹ line_end
@@ -384,3 +384,7 @@ canonical_text (f ∷ fs) = canonical_function f ▹ more_functions fs
 -- the bytes of the canonical text
 abbrev pub text_of : Module → List ℕ
 text_of m = spelled (canonical_text m)
+
+-- the bytes of one function's text
+abbrev pub function_text_of : Function → List ℕ
+function_text_of f = spelled (canonical_function f)

@@ -1,22 +1,19 @@
 -- What the code's sums, products and comparisons give, against the table of operations.
-use Rattle.std.proofs.Common.{◌≡◌, ℕ, zero, suc, ◌+◌, ◌-◌, ◌*◌, ◌/◌, ◌%◌, ◌^◌, ◌<◌, ◌≤◌, Bool, true, false, cond, ℤ, pos, negsuc, ◌-ℤ◌, ◌+ℤ◌, ◌*ℤ◌, neg_ℤ, refl, sym, ◌∙◌, ap, ap₂, subst, arith, lit<, lit≤, eqb, ltb, leb, inl, inr, ◌⊎◌, FitsSigned, to_z, of_z, ◌<ℤ◌, ◌≤ℤ◌, to_z-of_z, min, max, not, ◌&&◌}
+use Rattle.std.proofs.Common.{◌≡◌, ℕ, suc, ◌+◌, ◌-◌, ◌*◌, ◌/◌, ◌%◌, ◌^◌, ◌<◌, ◌≤◌, Bool, true, false, ℤ, ◌-ℤ◌, ◌+ℤ◌, ◌*ℤ◌, refl, sym, ◌∙◌, ap, ap₂, subst, arith, lit<, lit≤, ltb, FitsSigned, to_z, of_z, to_z-of_z, not}
 use Rattle.std.specs.Int.{w128}
-use Rattle.std.specs.Int.RustNames.{unsigned_abs, int_lt, int_le}
+use Rattle.std.specs.Int.RustNames.{unsigned_abs, int_lt}
 use lib.Signed.{mag, nat_abs-le, shr_z}
 use Rattle.std.proofs.Math.Pow.{mod-mod-pow}
 use Rattle.std.proofs.Math.Nat.{mod-eq_of_lt, mul-add-mod_self_right}
-use Rattle.std.proofs.lemmas.Int.{ints, to_z_pos, fits_signed_mul, unsigned_abs-mul}
-use Rattle.std.proofs.lemmas.Nat.{pow_pos, div_below, mod-mul-add, mod_below, mul-lt, mul-le}
+use Rattle.std.proofs.lemmas.Int.{fits_signed_mul}
+use Rattle.std.proofs.lemmas.Nat.{pow_pos, div_below, mul-lt}
 use Rattle.std.proofs.lemmas.Bool.Decides.{nat_tests}
-use Rattle.std.proofs.lemmas.Bool.{cases_lt}
-use Rattle.clk_num.specs.declared.bits.Bits.{Bits}
 use Rattle.clk_num.specs.declared.width.Width.{Width}
 use Rattle.clk_num.specs.declared.width.Width.TheVariants.{W8, W16, W32, W64, W128}
 use Rattle.clk_num.specs.Width.{bits_of}
-use Rattle.clk_num.specs.Numbers.{signed, wrapped, fits_signed, floored}
-use Rattle.clk_num.specs.Operations.{DataValue, value_of, iadd, isub, imul, ineg, iabs, smin, smax, umin, umax, umulhi, smulhi, uadd_overflows, sadd_overflows, usub_overflows, ssub_overflows}
-use Rattle.clk_num.specs.Views.{data_of}
-use Rattle.clk_num.proofs.Numbers.{power_halves, half_power_le, multiple_of, power_divides, signed_low, signed_high, signed_cases, signed_mag, read_both, read_back, read_result, fits_widest, shifted_is}
+use Rattle.clk_num.specs.Numbers.{signed, wrapped, fits_signed}
+use Rattle.clk_num.specs.Operations.{value_of, iadd, isub, imul, ineg, iabs, smin, smax, umin, umax, umulhi, smulhi, uadd_overflows, sadd_overflows, usub_overflows, ssub_overflows}
+use Rattle.clk_num.proofs.Numbers.{power_halves, multiple_of, power_divides, signed_low, signed_high, signed_mag, read_both, read_result, fits_widest, shifted_is}
 
 -- a value is told by its width and its number
 pub value_is : (t u : Width) (n m : ℕ) → t ≡ u → n ≡ m → value_of t n ≡ value_of u m

@@ -1,5 +1,5 @@
 -- Facts on the reading of naturals as signed numbers, and on integers modulo a power of two.
-use Rattle.std.proofs.Common.{◌≡◌, ℕ, suc, ◌+◌, ◌-◌, ◌*◌, ◌/◌, ◌%◌, ◌^◌, ◌<◌, ◌≤◌, true, false, ℤ, pos, negsuc, ◌-ℤ◌, neg_ℤ, refl, sym, ◌∙◌, ap, ap₂, arith, lit≤, ltb, inl, inr, ◌⊎◌, FitsSigned, to_z, of_z, to_z-of_z, leb, ◌&&◌}
+use Rattle.std.proofs.Common.{◌≡◌, ℕ, suc, ◌+◌, ◌-◌, ◌*◌, ◌/◌, ◌%◌, ◌^◌, ◌<◌, ◌≤◌, true, false, ℤ, pos, negsuc, ◌-ℤ◌, neg_ℤ, refl, sym, ◌∙◌, ap, ap₂, subst, arith, lit≤, ltb, inl, inr, ◌⊎◌, FitsSigned, to_z, of_z, to_z-of_z, leb, ◌&&◌}
 use Rattle.std.specs.Int.RustNames.{unsigned_abs, int_lt as lt_z, int_le}
 use lib.Signed.{mag, shr_z, mag_shr}
 use Rattle.std.proofs.Math.Nat.{mod-eq_of_lt}
@@ -302,3 +302,20 @@ pub shifted_is : (z : ℤ) (m : ℕ) → mag z < 2 ^ 127 → to_z w128 (of_z w12
 unfolding floored
 shifted_is (pos n) m h = let d = mag_shr (pos n) m in read_back (pos (n / m)) (omega arith)
 shifted_is (negsuc n) m h = let d = mag_shr (negsuc n) m in read_back (negsuc (n / m)) (omega arith)
+
+-- the code passes over no number at the widest type
+pub widest_negative : (t : Width) (z : ℤ) (g k : ℕ) → t ≡ W128 → FitsSigned w128 z → lt_z (to_z w128 (of_z w128 z)) (pos 0) ≡ true
+    → k ≡ unsigned_abs (to_z w128 (of_z w128 (negsuc 0 -ℤ to_z w128 (of_z w128 z)))) → g ≡ 2 ^ (bits_of t - 1) - 1 → g < k → ⊥
+widest_negative t z g k w f neg e d h =
+    let (n, is, c) = complement_of z f neg in
+    let small : n < 2 ^ 127 = subst (λ (z : ℤ). mag z < 2 ^ 127) is f.sfits in
+    let greatest : g ≡ 2 ^ 127 - 1 = d ∙ ap (λ (t : Width). 2 ^ (bits_of t - 1) - 1) w in
+    omega (arith, e ∙ c)
+
+pub widest_positive : (t : Width) (z : ℤ) (g k : ℕ) → t ≡ W128 → FitsSigned w128 z → lt_z (to_z w128 (of_z w128 z)) (pos 0) ≡ false
+    → k ≡ unsigned_abs (to_z w128 (of_z w128 z)) → g ≡ 2 ^ bits_of t - 1 → g < k → ⊥
+widest_positive t z g k w f neg e d h =
+    let (n, is, c) = number_of z f neg in
+    let small : n < 2 ^ 127 = subst (λ (z : ℤ). mag z < 2 ^ 127) is f.sfits in
+    let greatest : g ≡ 2 ^ 128 - 1 = d ∙ ap (λ (t : Width). 2 ^ bits_of t - 1) w in
+    omega (arith, e ∙ c)

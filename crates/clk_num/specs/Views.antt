@@ -1,8 +1,8 @@
 -- The code's values and results as those of the definition of the operations.
 use Rattle.std.specs.Prelude.{List, [], ◌∷◌, map}
 use Rattle.clk_num.specs.declared.bits.Bits.{Bits}
-use Rattle.clk_num.specs.declared.eval.Evaled.{Evaled}
-use Rattle.clk_num.specs.declared.eval.Evaled.TheVariants.{One, Two, Trap}
+use Rattle.clk_num.specs.declared.operations.Evaled.{Evaled}
+use Rattle.clk_num.specs.declared.operations.Evaled.TheVariants.{One, Two, Trap}
 use Rattle.clk_num.specs.Operations.{DataValue, Evaluation, Values, Traps}
 
 -- the value

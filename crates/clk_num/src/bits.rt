@@ -1,5 +1,5 @@
 //! Values of the integer types.
-ghost use Rattle.std.specs.Prelude.{◌≡◌, ◌<◌, ◌^◌, ◌%◌, is_some, IfSome};
+ghost use Rattle.std.specs.Prelude.{◌≡◌, ◌<◌, ◌^◌, ◌%◌, is_some, IsSome, IfSome};
 ghost use Rattle.clk_num.specs.Width.{bits_of};
 ghost use Rattle.clk_num.specs.Numbers.{signed, wrapped, fits};
 
@@ -29,6 +29,7 @@ impl Bits {
     /// value or above the greatest unsigned one: at `W128` never.
     pub fn fit(width: Width, number: i128) -> Option<Bits>
         ensures answer { is_some result ≡ fits (bits_of width) number }
+        ensures widest { width ≡ Width.W128 → IsSome result }
         ensures width { IfSome result (λ b. b.width ≡ width) }
         ensures value { IfSome result (λ b. b.value ≡ wrapped (bits_of width) number) }
     {

@@ -1,5 +1,9 @@
 //! Laws of the definitions: functions without a body, each of which has its law as its contract.
+ghost use Rattle.std.specs.Prelude.{List};
+ghost use Rattle.clk_num.specs.declared.op.Op.{Op};
 ghost use Rattle.clk_num.specs.Examples.{WorkedRows, WorkedArithmetic, WorkedDivision, WorkedBits, WorkedShifts, WorkedConversions, WorkedRefusals};
+ghost use Rattle.clk_num.specs.Operations.{DataValue};
+ghost use Rattle.clk_num.specs.Results.{KeepsRow};
 
 /// The table of operations gives these values on these operands.
 pub fn worked_examples()
@@ -10,4 +14,9 @@ pub fn worked_examples()
     ensures shifts { WorkedShifts }
     ensures conversions { WorkedConversions }
     ensures refusals { WorkedRefusals }
+{}
+
+/// On operands of its row an operation gives values of the row's types or a trap, and on others it gives none.
+pub fn result_types()
+    ensures { (op : Op) (xs : List DataValue) → KeepsRow op xs }
 {}

@@ -4,13 +4,18 @@
 mod arithmetic;
 mod bits;
 mod bitwise;
-mod eval;
+mod conversions;
+mod division;
 mod law;
 mod op;
+mod operations;
+mod rows;
+mod shifts;
 mod width;
 
 pub use bits::Bits;
-pub use eval::Evaled;
-pub use law::worked_examples;
+pub use law::{result_types, worked_examples};
 pub use op::{Cc, Op, TrapCode};
+pub use operations::{Evaled, eval};
+pub use rows::fits;
 pub use width::Width;

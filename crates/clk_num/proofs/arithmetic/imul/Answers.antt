@@ -1,4 +1,4 @@
-use Rattle.std.proofs.Common.{◌∙◌, ap}
+use Rattle.std.proofs.Common.{◌∙◌}
 use Rattle.clk_num.proofs.ArithmeticLemmas.{value_is, imul_is}
 use Rattle.clk_num.proofs.arithmetic.imul.Goals as goal
 

@@ -1,5 +1,4 @@
-use Rattle.std.proofs.Common.{◌≡◌, ◌∙◌, ◌<◌, ◌^◌, ℕ, subst}
-use Rattle.clk_num.specs.declared.width.Width.{Width}
+use Rattle.std.proofs.Common.{◌∙◌, ◌<◌, ◌^◌}
 use Rattle.clk_num.specs.Width.{bits_of}
 use Rattle.clk_num.proofs.ArithmeticLemmas.{value_is, isub_is}
 use Rattle.clk_num.proofs.arithmetic.isub.Goals as goal

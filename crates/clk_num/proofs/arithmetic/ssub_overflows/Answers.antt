@@ -1,4 +1,4 @@
-use Rattle.std.proofs.Common.{sym, refl, ◌∙◌, subst, ◌-ℤ◌, ℤ, FitsSigned}
+use Rattle.std.proofs.Common.{sym, ◌∙◌, subst, ◌-ℤ◌, ℤ, FitsSigned}
 use Rattle.std.specs.Int.{w128}
 use Rattle.clk_num.proofs.ArithmeticLemmas.{signed_result, tested, outside, ssub_tested}
 use Rattle.clk_num.proofs.arithmetic.ssub_overflows.Goals as goal

@@ -1,5 +1,5 @@
 use Rattle.std.proofs.Common.{refl}
-use Rattle.clk_num.proofs.Numbers.{negative_fits, negative_passes, negative_value, positive_fits, positive_passes, positive_value}
+use Rattle.clk_num.proofs.Numbers.{negative_fits, negative_passes, negative_value, positive_fits, positive_passes, positive_value, widest_negative, widest_positive}
 use Rattle.clk_num.proofs.bits.Bits.fit.Goals as goal
 
 pub returns-then-complement-greatest_signed-clause-answer :
@@ -28,3 +28,12 @@ returns-then-value-greatest-clause-value c =
 pub returns-else-value-greatest-clause-answer : goal.returns-else-value-greatest-clause-answer
 returns-else-value-greatest-clause-answer c =
     positive_passes _ _ _ _ c.ranges.number c.if-number-lt0.false refl c.greatest-else-number-lt0.ensures c.if-value-greatest.false
+
+pub returns-else-complement-greatest_signed-clause-widest :
+    goal.returns-else-complement-greatest_signed-clause-widest
+returns-else-complement-greatest_signed-clause-widest c = λ w.
+    absurd (widest_negative _ _ _ _ w c.ranges.number c.if-number-lt0.true refl c.greatest_signed.ensures c.if-complement-greatest_signed.false)
+
+pub returns-else-value-greatest-clause-widest : goal.returns-else-value-greatest-clause-widest
+returns-else-value-greatest-clause-widest c = λ w.
+    absurd (widest_positive _ _ _ _ w c.ranges.number c.if-number-lt0.false refl c.greatest-else-number-lt0.ensures c.if-value-greatest.false)

@@ -1,0 +1,7 @@
+use Rattle.std.proofs.Common.{◌∙◌}
+use Rattle.clk_num.proofs.ArithmeticLemmas.{value_is}
+use Rattle.clk_num.proofs.BitwiseLemmas.{band_is}
+use Rattle.clk_num.proofs.bitwise.band.Goals as goal
+
+pub returns : goal.returns
+returns c = value_is _ _ _ _ c.new.ensures.width (c.new.ensures.value ∙ band_is _ _ _)

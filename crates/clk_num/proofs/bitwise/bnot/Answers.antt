@@ -1,0 +1,7 @@
+use Rattle.std.proofs.Common.{◌∙◌}
+use Rattle.clk_num.proofs.ArithmeticLemmas.{value_is}
+use Rattle.clk_num.proofs.BitwiseLemmas.{bnot_is}
+use Rattle.clk_num.proofs.bitwise.bnot.Goals as goal
+
+pub returns : goal.returns
+returns c = value_is _ _ _ _ c.new.ensures.width (c.new.ensures.value ∙ bnot_is _ _ c.args.x.in_range)

@@ -1,0 +1,158 @@
+//! The vectors that bench/eval_vectors.py writes, which has its own integers, against `eval`.
+use super::vectors::VECTORS;
+use super::{Evaled, eval};
+use crate::bits::Bits;
+use crate::op::{Cc, Op, TrapCode};
+use crate::rows::fits;
+use crate::width::Width;
+use std::test::Fail;
+
+static UNARY: [Op; 21] = [
+    Op::Ineg,
+    Op::Bnot,
+    Op::Iabs,
+    Op::Clz,
+    Op::Ctz,
+    Op::Popcnt,
+    Op::Bitrev,
+    Op::Bswap,
+    Op::Isplit,
+    Op::Uextend(Width::W16),
+    Op::Uextend(Width::W32),
+    Op::Uextend(Width::W64),
+    Op::Uextend(Width::W128),
+    Op::Sextend(Width::W16),
+    Op::Sextend(Width::W32),
+    Op::Sextend(Width::W64),
+    Op::Sextend(Width::W128),
+    Op::Ireduce(Width::W8),
+    Op::Ireduce(Width::W16),
+    Op::Ireduce(Width::W32),
+    Op::Ireduce(Width::W64),
+];
+
+static BINARY: [Op; 31] = [
+    Op::Iadd,
+    Op::Isub,
+    Op::Imul,
+    Op::Band,
+    Op::Bor,
+    Op::Bxor,
+    Op::Smin,
+    Op::Smax,
+    Op::Umin,
+    Op::Umax,
+    Op::Umulhi,
+    Op::Smulhi,
+    Op::Udiv,
+    Op::Urem,
+    Op::Sdiv,
+    Op::Srem,
+    Op::UaddOverflow,
+    Op::SaddOverflow,
+    Op::UsubOverflow,
+    Op::SsubOverflow,
+    Op::Iconcat,
+    Op::Icmp(Cc::Eq),
+    Op::Icmp(Cc::Ne),
+    Op::Icmp(Cc::Slt),
+    Op::Icmp(Cc::Sge),
+    Op::Icmp(Cc::Sgt),
+    Op::Icmp(Cc::Sle),
+    Op::Icmp(Cc::Ult),
+    Op::Icmp(Cc::Uge),
+    Op::Icmp(Cc::Ugt),
+    Op::Icmp(Cc::Ule),
+];
+
+static SHIFTS: [Op; 5] = [Op::Ishl, Op::Ushr, Op::Sshr, Op::Rotl, Op::Rotr];
+
+static SELECT: [Op; 1] = [Op::Select];
+
+/// The value that a word stands for.
+fn value(word: &str) -> Option<Bits> {
+    let (width, digits) = if let Some(digits) = word.strip_prefix('B') {
+        (Width::W8, digits)
+    } else if let Some(digits) = word.strip_prefix('H') {
+        (Width::W16, digits)
+    } else if let Some(digits) = word.strip_prefix('W') {
+        (Width::W32, digits)
+    } else if let Some(digits) = word.strip_prefix('D') {
+        (Width::W64, digits)
+    } else if let Some(digits) = word.strip_prefix('Q') {
+        (Width::W128, digits)
+    } else {
+        return None;
+    };
+    let value = u128::from_str_radix(digits, 16).ok()?;
+    Some(Bits::new(width, value))
+}
+
+/// The result that a word stands for.
+fn wanted(word: &str) -> Option<Evaled> {
+    if word == "!z" {
+        return Some(Evaled::Trap(TrapCode::IntDivz));
+    }
+    if word == "!o" {
+        return Some(Evaled::Trap(TrapCode::IntOvf));
+    }
+    match word.split_once(',') {
+        Some((first, second)) => Some(Evaled::Two(value(first)?, value(second)?)),
+        None => Some(Evaled::One(value(word)?)),
+    }
+}
+
+/// Whether the operation gives on these operands what the word says.
+fn agrees(op: Op, args: &[Bits], word: &str) -> bool {
+    if fits(op, args) {
+        wanted(word) == Some(eval(op, args))
+    } else {
+        word == "-"
+    }
+}
+
+/// How many cases the line has, where each agrees.
+fn agreeing(line: &str) -> Option<u32> {
+    let mut words = line.split_whitespace();
+    let kind = words.next()?;
+    let x = value(words.next()?)?;
+    let mut args = [x, x, x];
+    let (ops, count) = if kind == "u" {
+        (UNARY.as_slice(), 1)
+    } else if kind == "t" {
+        args[1] = value(words.next()?)?;
+        args[2] = value(words.next()?)?;
+        (SELECT.as_slice(), 3)
+    } else {
+        args[1] = value(words.next()?)?;
+        let ops = if kind == "b" {
+            BINARY.as_slice()
+        } else {
+            SHIFTS.as_slice()
+        };
+        (ops, 2)
+    };
+    let mut cases: u32 = 0;
+    for op in ops {
+        if !agrees(*op, &args[..count], words.next()?) {
+            return None;
+        }
+        cases = cases.wrapping_add(1);
+    }
+    match words.next() {
+        Some(_) => None,
+        None => Some(cases),
+    }
+}
+
+#[test]
+fn eval_gives_what_python_gives(rt: HostRuntime) -> Result<(), Fail> {
+    let mut cases: u32 = 0;
+    for line in VECTORS.lines() {
+        let agreed = agreeing(line);
+        assert!(rt; agreed.is_some(), "at {line}");
+        cases = cases.wrapping_add(agreed.unwrap_or(0));
+    }
+    assert_eq!(rt; cases, 4152);
+    Ok(())
+}

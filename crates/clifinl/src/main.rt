@@ -4,6 +4,8 @@
 mod command;
 mod reading;
 mod status;
+#[cfg(test)]
+mod tests;
 mod words;
 
 use clk_flow::{NoGate, StdSink, StdSource};

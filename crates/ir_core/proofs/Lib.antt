@@ -13,3 +13,4 @@ pub mod Shifting
 pub mod Writing
 pub mod Putting
 pub mod Indexing
+pub mod Sizing

@@ -53,12 +53,16 @@ turn order places bound d i different range long lt found n =
   where
     x : ℕ
     x = get_or order i 0
+
     split : order ≡ take i order ++ x ∷ drop (i + 1) order
     split = sym (take-append-drop i order) ∙ ap (λ (l : List ℕ). take i order ++ l) (drop-cons order i 0 lt ∙ ap (λ (k : ℕ). x ∷ drop k order) (sym (add-one i)))
+
     new : In x (take i order) → ⊥
     new = new_behind (take i order) x (drop (i + 1) order) (subst Different split different)
+
     count : length (take i order) ≡ i
     count = length-take-le i order (omega arith)
+
     go : (b : Bool) → nat_eq x n ≡ b → get_or (set places x i) n d ≡ cond b (0 + length (take i order)) (place_from 0 d (take i order) n)
     go true e =
         let same : n ≡ x = sym (eqb-true x n e) in

@@ -4,7 +4,6 @@ use Rattle.std.proofs.lemmas.List.{append-nil}
 use Rattle.clif_print.specs.Output.{Start, Puts}
 
 infixr 4 ◌▸◌
-
 -- nothing
 pub nothing : {S : Type 0} {H : Start → S → List ℕ → Type 0} {a : S} → Puts H a a []
 nothing {S} {H} {a} = record { puts = λ start text h. subst (λ (l : List ℕ). H start a l) (sym (append-nil text)) h }

@@ -51,6 +51,7 @@ below_without n (x ∷ xs) d h = go (nat_eq x n) refl (below_without n xs d.1 h.
     rest : (ys : List ℕ) → (In x ys → ⊥) → x ≡ n → Below (suc n) ys → Below n ys
     rest [] out e k = tt
     rest (y ∷ ys) out e k = (let other : y ≡ n → ⊥ = λ f. out (inl (e ∙ sym f)) in omega (arith, k.0, other), rest ys (λ g. out (inr g)) e k.1)
+
     go : (b : Bool) → nat_eq x n ≡ b → Below n (without n xs) → Below n (cond b xs (x ∷ without n xs))
     go true e ih = rest xs d.0 (eqb-true x n e) h.1
     go false e ih = (let other : x ≡ n → ⊥ = λ f. (let g = eq-eqb x n f in absurd cc) in omega (arith, h.0, other), ih)

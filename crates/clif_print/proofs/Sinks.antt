@@ -28,19 +28,23 @@ after s written faults r = record { name = s.name; written = written; faults = f
 pub given : {T E : Type 0} (s : SinkState) (written : Option (List ℕ)) (faults : ℕ) (r : Result T E) (bytes more : List ℕ)
     → s.failed ≡ false → bytes ≡ s.waiting ++ more → OnOk r (Appends s.written written bytes) → OnErr r (AppendsPrefix s.written written bytes) → HasCause s.faults faults r
     → Takes s (after s written faults r) more
-given s written faults (Ok x) bytes more sound is whole part cause = record { takes = λ start text has.
-    let all = all_of start s text sound has in
-    let e : all.front ++ bytes ≡ text ++ more = ap (λ (l : List ℕ). all.front ++ l) is ∙ sym (append_assoc all.front s.waiting more) ∙ ap (λ (l : List ℕ). l ++ more) all.whole in
-    let a : Appends start.written written (all.front ++ bytes) = Appends-trans start.written s.written written all.front bytes all.given whole in
-    let l : start.faults ≤ faults = omega (arith, has.later, cause.later) in
-    record { same = has.same; later = l; taken = record { front = text ++ more; whole = append-nil (text ++ more); given = subst (λ (l : List ℕ). Appends start.written written l) e a } } }
-given s written faults (Err x) bytes more sound is whole part cause = record { takes = λ start text has.
-    let all = all_of start s text sound has in
-    let e : all.front ++ bytes ≡ text ++ more = ap (λ (l : List ℕ). all.front ++ l) is ∙ sym (append_assoc all.front s.waiting more) ∙ ap (λ (l : List ℕ). l ++ more) all.whole in
-    let a : Appends start.written written (all.front ++ part.0) = Appends-trans start.written s.written written all.front part.0 all.given part.3 in
-    let f : text ++ more ≡ (all.front ++ part.0) ++ part.1 = sym e ∙ ap (λ (l : List ℕ). all.front ++ l) part.2 ∙ sym (append_assoc all.front part.0 part.1) in
-    let l : start.faults ≤ faults = omega (arith, has.later, cause.later) in
-    record { same = has.same; later = l; taken = record { given = (all.front ++ part.0, part.1, f, a); rose = rose_before start.faults s.faults faults has.later cause.failed } } }
+given s written faults (Ok x) bytes more sound is whole part cause = record {
+  takes = λ start text has.
+      let all = all_of start s text sound has in
+      let e : all.front ++ bytes ≡ text ++ more = ap (λ (l : List ℕ). all.front ++ l) is ∙ sym (append_assoc all.front s.waiting more) ∙ ap (λ (l : List ℕ). l ++ more) all.whole in
+      let a : Appends start.written written (all.front ++ bytes) = Appends-trans start.written s.written written all.front bytes all.given whole in
+      let l : start.faults ≤ faults = omega (arith, has.later, cause.later) in
+      record { same = has.same; later = l; taken = record { front = text ++ more; whole = append-nil (text ++ more); given = subst (λ (l : List ℕ). Appends start.written written l) e a } };
+}
+given s written faults (Err x) bytes more sound is whole part cause = record {
+  takes = λ start text has.
+      let all = all_of start s text sound has in
+      let e : all.front ++ bytes ≡ text ++ more = ap (λ (l : List ℕ). all.front ++ l) is ∙ sym (append_assoc all.front s.waiting more) ∙ ap (λ (l : List ℕ). l ++ more) all.whole in
+      let a : Appends start.written written (all.front ++ part.0) = Appends-trans start.written s.written written all.front part.0 all.given part.3 in
+      let f : text ++ more ≡ (all.front ++ part.0) ++ part.1 = sym e ∙ ap (λ (l : List ℕ). all.front ++ l) part.2 ∙ sym (append_assoc all.front part.0 part.1) in
+      let l : start.faults ≤ faults = omega (arith, has.later, cause.later) in
+      record { same = has.same; later = l; taken = record { given = (all.front ++ part.0, part.1, f, a); rose = rose_before start.faults s.faults faults has.later cause.failed } };
+}
 
 -- after a failure bytes are dropped
 pub dropped : (s : SinkState) (waiting more : List ℕ) → s.failed ≡ true

@@ -66,10 +66,10 @@ thrown = record {
   callees = callee (codes "g") 0 ∷ callee (codes "h") 0 ∷ [];
   types = (0, I64) ∷ (1, I64) ∷ (2, I64) ∷ (3, I64) ∷ (4, I64) ∷ [];
   blocks = block 0 (0 ∷ []) (bare [] (Branches (Jump (to 3 (arg.Value 0 ∷ [])))) ∷ [])
-    ∷ block 3 (3 ∷ []) (bare [] (TryCall (Direct 1) 0 (3 ∷ []) (to 4 (arg.Ret 0 ∷ [])) (on (Some 3) (to 2 (arg.Exn 0 ∷ [])) ∷ [])) ∷ [])
-    ∷ block 4 (4 ∷ []) (bare [] (Branches (Jump (to 1 (arg.Value 4 ∷ [])))) ∷ [])
-    ∷ block 1 (1 ∷ []) (bare [] (Return (1 ∷ [])) ∷ [])
-    ∷ block 2 (2 ∷ []) (bare [] (Return (2 ∷ [])) ∷ []) ∷ [];
+      ∷ block 3 (3 ∷ []) (bare [] (TryCall (Direct 1) 0 (3 ∷ []) (to 4 (arg.Ret 0 ∷ [])) (on (Some 3) (to 2 (arg.Exn 0 ∷ [])) ∷ [])) ∷ [])
+      ∷ block 4 (4 ∷ []) (bare [] (Branches (Jump (to 1 (arg.Value 4 ∷ [])))) ∷ [])
+      ∷ block 1 (1 ∷ []) (bare [] (Return (1 ∷ [])) ∷ [])
+      ∷ block 2 (2 ∷ []) (bare [] (Return (2 ∷ [])) ∷ []) ∷ [];
 }
 
 abbrev pub thrown_text : List ℕ
@@ -89,7 +89,7 @@ located = record {
   callees = [];
   types = (0, I32) ∷ (1, I32) ∷ (2, I32) ∷ (3, I32) ∷ [];
   blocks = block 0 (0 ∷ 1 ∷ []) (typed I32 (2 ∷ []) (Plain (Pure Iadd (0 ∷ 1 ∷ []))) ∷ bare [] (Branches (Jump (to 1 []))) ∷ [])
-    ∷ block 1 [] (typed I32 (3 ∷ []) (Plain (Pure Isub (2 ∷ 0 ∷ []))) ∷ bare [] (Return (3 ∷ [])) ∷ []) ∷ [];
+      ∷ block 1 [] (typed I32 (3 ∷ []) (Plain (Pure Isub (2 ∷ 0 ∷ []))) ∷ bare [] (Return (3 ∷ [])) ∷ []) ∷ [];
 }
 
 abbrev pub located_text : List ℕ
@@ -106,7 +106,7 @@ tagged = record {
   callees = callee (codes "h") 0 ∷ [];
   types = (0, I16) ∷ [];
   blocks = block 0 [] (bare (0 ∷ []) (Plain (Const (record { width = W16; value = 513 }))) ∷ typed I16 [] (Plain (StackStore 0 0 (pos 0)))
-    ∷ record { inst = Call (Direct 0) []; ty = None; results = []; tags = tag.User 7 ∷ tag.Slot 0 ∷ tag.User 9 ∷ [] } ∷ bare [] (Return []) ∷ []) ∷ [];
+      ∷ record { inst = Call (Direct 0) []; ty = None; results = []; tags = tag.User 7 ∷ tag.Slot 0 ∷ tag.User 9 ∷ [] } ∷ bare [] (Return []) ∷ []) ∷ [];
 }
 
 abbrev pub empty : Function

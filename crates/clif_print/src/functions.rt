@@ -31,19 +31,18 @@ fn put_results<O: Output>(out: &mut O, func: &Func, numbers: &FuncNumbers, defin
 }
 
 /// Puts an instruction on its line. `next` is the number of the next value that is defined.
-fn put_line<O: Output>(
-    out: &mut O,
-    func: &Func,
-    numbers: &FuncNumbers,
-    next: u32,
-    inst: &InstData,
-)
+fn put_line<O: Output>(out: &mut O, func: &Func, numbers: &FuncNumbers, next: u32, inst: &InstData)
     ensures { Puts O.holds out.old out.new (spelled (line func.now.function numbers.now next (line_of inst.now))) }
 {
     out.put(b"    ");
     put_tags(out, numbers, inst.tags.list());
     put_results(out, func, numbers, inst.results.as_slice());
-    put_instruction(out, numbers, shown_suffix(func, numbers, next, inst), &inst.inst);
+    put_instruction(
+        out,
+        numbers,
+        shown_suffix(func, numbers, next, inst),
+        &inst.inst,
+    );
     out.put(b"\n");
 }
 
@@ -86,12 +85,7 @@ fn put_block_parameter<O: Output>(out: &mut O, func: &Func, numbers: &FuncNumber
 }
 
 /// Puts further parameters, each behind a comma.
-fn put_more_parameters<O: Output>(
-    out: &mut O,
-    func: &Func,
-    numbers: &FuncNumbers,
-    params: &[Value],
-)
+fn put_more_parameters<O: Output>(out: &mut O, func: &Func, numbers: &FuncNumbers, params: &[Value])
     ensures { Puts O.holds out.old out.new (spelled (more (block_parameter func.now.function numbers.now) params.now)) }
 {
     let mut rest = params;

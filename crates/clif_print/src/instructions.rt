@@ -228,12 +228,7 @@ fn put_func_addr<O: Output>(out: &mut O, numbers: &FuncNumbers, suffix: Option<T
     put_callee_reference(out, callee);
 }
 
-fn put_jump<O: Output>(
-    out: &mut O,
-    numbers: &FuncNumbers,
-    suffix: Option<Ty>,
-    to: &BlockCall,
-)
+fn put_jump<O: Output>(out: &mut O, numbers: &FuncNumbers, suffix: Option<Ty>, to: &BlockCall)
     ensures { Puts O.holds out.old out.new (spelled (instruction numbers.now suffix (instruction_of (form.Jump to.now)))) }
 {
     out.put(b"jump ");

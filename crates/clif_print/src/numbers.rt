@@ -39,13 +39,6 @@ impl FuncNumbers {
     {
         self.blocks.place(block.number())
     }
-
-    /// How many values have a number.
-    pub(crate) fn values(&self) -> u32
-        ensures { result ≡ length self.now.values }
-    {
-        self.values.len()
-    }
 }
 
 /// The canonical numbers of every value and block of a module. Contracts see a list with those of each function.
@@ -143,4 +136,3 @@ fn block_order(alloc: Global, func: &Func) -> Result<Vec<u32>, AllocError>
     }
     Ok(order)
 }
-

@@ -124,11 +124,7 @@ pub(crate) fn put_exception_table<O: Output>(
 }
 
 /// Puts the targets of a `br_table`.
-pub(crate) fn put_target_list<O: Output>(
-    out: &mut O,
-    numbers: &FuncNumbers,
-    targets: &[BlockCall],
-)
+pub(crate) fn put_target_list<O: Output>(out: &mut O, numbers: &FuncNumbers, targets: &[BlockCall])
     ensures { Puts O.holds out.old out.new (spelled (in_brackets (separated (target numbers.now) targets.now))) }
 {
     out.put(b"[");
@@ -251,12 +247,7 @@ pub(crate) fn put_offset<O: Output>(out: &mut O, offset: i32)
 }
 
 /// Puts an address.
-pub(crate) fn put_address<O: Output>(
-    out: &mut O,
-    numbers: &FuncNumbers,
-    base: Value,
-    offset: i32,
-)
+pub(crate) fn put_address<O: Output>(out: &mut O, numbers: &FuncNumbers, base: Value, offset: i32)
     ensures { Puts O.holds out.old out.new (spelled (address numbers.now base offset)) }
 {
     put_value(out, numbers, base);

@@ -44,13 +44,7 @@ fn has_type(func: &Func, value: Value, ty: Ty) -> bool
 }
 
 /// Whether a reader knows the type from the operand: it is defined before, and has the type.
-fn is_known(
-    func: &Func,
-    numbers: &FuncNumbers,
-    next: u32,
-    ty: Ty,
-    operand: Option<Value>,
-) -> bool
+fn is_known(func: &Func, numbers: &FuncNumbers, next: u32, ty: Ty, operand: Option<Value>) -> bool
     ensures { result ≡ is_known func.now.function numbers.now next ty operand }
 {
     match operand {
@@ -66,9 +60,23 @@ fn typing_operand(inst: &Inst) -> Option<Value>
     match inst {
         Inst::Pure { op, args } => op_operand(*op, args.as_slice()),
         Inst::PureImm { op: _, arg, imm: _ } => Some(*arg),
-        Inst::Store { narrow: _, flags: _, value, address: _, offset: _ } => Some(*value),
-        Inst::StackStore { value, slot: _, offset: _ } => Some(*value),
-        Inst::Brif { cond, yes: _, no: _ } => Some(*cond),
+        Inst::Store {
+            narrow: _,
+            flags: _,
+            value,
+            address: _,
+            offset: _,
+        } => Some(*value),
+        Inst::StackStore {
+            value,
+            slot: _,
+            offset: _,
+        } => Some(*value),
+        Inst::Brif {
+            cond,
+            yes: _,
+            no: _,
+        } => Some(*cond),
         Inst::Trapz { cond, code: _ } => Some(*cond),
         Inst::Trapnz { cond, code: _ } => Some(*cond),
         _ => None,
@@ -103,7 +111,12 @@ fn second_value(values: &[Value]) -> Option<Value>
 }
 
 /// The suffix that is printed where the form may leave it out.
-pub(crate) fn shown_suffix(func: &Func, numbers: &FuncNumbers, next: u32, line: &InstData) -> Option<Ty>
+pub(crate) fn shown_suffix(
+    func: &Func,
+    numbers: &FuncNumbers,
+    next: u32,
+    line: &InstData,
+) -> Option<Ty>
     ensures { result ≡ shown_suffix func.now.function numbers.now next line.now.ty (typing_operand (instruction_of line.now.inst)) }
 {
     match line.ty {

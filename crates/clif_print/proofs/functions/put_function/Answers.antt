@@ -1,3 +1,8 @@
+use Rattle.std.proofs.Common.{subst}
+use Rattle.ir_core.specs.Numbering.{Numbering}
+use Rattle.ir_core.specs.Pieces.{spelled}
+use Rattle.ir_core.specs.Text.{blocks}
+use Rattle.clif_print.specs.Output.{Puts}
 use Rattle.clif_print.proofs.Puts.{◌▸◌}
 use Rattle.clif_print.proofs.functions.put_function.Goals as goal
 
@@ -8,5 +13,7 @@ returns g c =
     let slots = rw c.slots.ensures at c.put_declarations.ensures in
     let sigs = rw c.sigs.ensures at c.put_declarations-2.ensures in
     let callees = rw c.callees.ensures at c.put_declarations-3.ensures in
-    let blocks = rw c.requires at c.put_blocks.ensures in
-    c.put.ensures ▸ name ▸ sig ▸ c.put-2.ensures ▸ slots ▸ sigs ▸ callees ▸ c.put_gap.ensures ▸ blocks ▸ c.put-3.ensures
+    let last =
+    subst (λ (n : Numbering). Puts g.O.Output.holds c.put_gap.new.out c.put_blocks.new.out (spelled (blocks c.args.func.now.function n c.args.func.now.function.blocks))) c.requires
+    c.put_blocks.ensures in
+    c.put.ensures ▸ name ▸ sig ▸ c.put-2.ensures ▸ slots ▸ sigs ▸ callees ▸ c.put_gap.ensures ▸ last ▸ c.put-3.ensures

@@ -4,5 +4,4 @@ use Rattle.clif_print.proofs.instructions.put_store.Goals as goal
 
 pub returns : goal.returns
 returns g c =
-    let fits = c.ranges.offset.sfits in
-    c.put_store_opcode.ensures ▸ c.put_suffix_if.ensures ▸ c.put.ensures ▸ c.put_flags.ensures ▸ (simp to_z-of_z at c.put_stored.ensures)
+    c.put_store_opcode.ensures ▸ c.put_suffix_if.ensures ▸ c.put.ensures ▸ c.put_flags.ensures ▸ (simp (to_z-of_z, c.ranges.offset) at c.put_stored.ensures)

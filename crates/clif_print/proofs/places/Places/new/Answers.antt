@@ -30,6 +30,6 @@ invariant_of-result c =
     record {
       small = omega (arith, few c.args.bound order c.requires.different c.requires.range, c.requires.small);
       placed = λ n.
-        ap (λ (k : ℕ). get_or c.loop-i.places.items n k) (sym count) ∙ c.loop-i.invariant.found n ∙ ap (λ (l : List ℕ). place_from 0 c.len-count.result l n) all
-        ∙ place_is 0 c.len-count.result order n (omega (arith, count)) ∙ (let k : 0 + place order n ≡ place order n = omega arith in k);
+          ap (λ (k : ℕ). get_or c.loop-i.places.items n k) (sym count) ∙ c.loop-i.invariant.found n ∙ ap (λ (l : List ℕ). place_from 0 c.len-count.result l n) all
+          ∙ place_is 0 c.len-count.result order n (omega (arith, count)) ∙ (let k : 0 + place order n ≡ place order n = omega arith in k);
     }

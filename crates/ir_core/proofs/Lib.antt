@@ -14,3 +14,4 @@ pub mod Writing
 pub mod Putting
 pub mod Indexing
 pub mod Sizing
+pub mod Copying

@@ -1,3 +1,4 @@
+pub mod Alike
 pub mod Edits
 pub mod Layout
 pub mod Lists

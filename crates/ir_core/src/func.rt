@@ -6,6 +6,7 @@ ghost use Rattle.ir_core.specs.Sound.{CanAdd, LineInRange, counts_of, instructio
 ghost use Rattle.ir_core.specs.Edits.{at_block, put_param, put_line};
 ghost use Rattle.ir_core.specs.Viewed.{line_of};
 
+mod copying;
 mod reading;
 mod splicing;
 

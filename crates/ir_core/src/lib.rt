@@ -17,6 +17,9 @@ mod room;
 mod signatures;
 mod size;
 
+#[cfg(test)]
+mod tests;
+
 pub use declarations::{Callee, SlotDecl};
 pub use func::{Blocks, Func, Insts};
 pub use instructions::{Access, Arg, BlockCall, Flags, Inst, InstData};

@@ -23,28 +23,28 @@ use Rattle.inline_pass.specs.Pass.{finish, pass_by, pass}
 use Rattle.inline_pass.specs.Laws.{PassKeepsRuns, PassKeeps}
 
 -- what an optional step found
-then_some : {A B : Type 0} (o : Option A) (go : A → Option B) (b : B) → and_then o go ≡ Some b → (a : A) × (o ≡ Some a) × (go a ≡ Some b)
+pub then_some : {A B : Type 0} (o : Option A) (go : A → Option B) (b : B) → and_then o go ≡ Some b → (a : A) × (o ≡ Some a) × (go a ≡ Some b)
 then_some None go b h = cc
 then_some (Some a) go b h = (a, refl, h)
 
-cut_list : (ls : List Line) (i : ℕ) (l : Line) → slice_get ls i ≡ Some l → ls ≡ take i ls ++ (l ∷ drop (suc i) ls)
+pub cut_list : (ls : List Line) (i : ℕ) (l : Line) → slice_get ls i ≡ Some l → ls ≡ take i ls ++ (l ∷ drop (suc i) ls)
 cut_list [] i l h = cc
 cut_list (x ∷ ls) zero l h = ap (λ z. z ∷ ls) (some_same h)
 cut_list (x ∷ ls) (suc i) l h = ap (λ z. x ∷ z) (cut_list ls i l h)
 
 -- the place of a call
-record Found (b : Function) (at i : ℕ) (x : FuncName) : Type 0 where
-  block : Block
-  line : Line
-  index : ℕ
-  callee : Callee
-  found : find_block at b.blocks ≡ Some block
-  get : slice_get block.lines i ≡ Some line
-  is : callee_of line.inst ≡ Some index
-  has : slice_get b.callees index ≡ Some callee
-  name : callee.name ≡ x
+pub record Found (b : Function) (at i : ℕ) (x : FuncName) : Type 0 where
+  pub block : Block
+  pub line : Line
+  pub index : ℕ
+  pub callee : Callee
+  pub found : find_block at b.blocks ≡ Some block
+  pub get : slice_get block.lines i ≡ Some line
+  pub is : callee_of line.inst ≡ Some index
+  pub has : slice_get b.callees index ≡ Some callee
+  pub name : callee.name ≡ x
 
-found : (b : Function) (at i : ℕ) (x : FuncName) → called b at i ≡ Some x → Found b at i x
+pub found : (b : Function) (at i : ℕ) (x : FuncName) → called b at i ≡ Some x → Found b at i x
 found b at i x h =
     let p = then_some (find_block at b.blocks) (λ k. and_then (slice_get k.lines i) (λ l. and_then (callee_of l.inst) (λ j. and_then (slice_get b.callees j) (λ c. Some c.name)))) x h in
     let q = then_some (slice_get p.0.lines i) (λ l. and_then (callee_of l.inst) (λ j. and_then (slice_get b.callees j) (λ c. Some c.name))) x p.2 in

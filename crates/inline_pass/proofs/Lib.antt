@@ -1,3 +1,4 @@
+pub mod Finishing
 pub mod Passing
 pub mod Rows
 pub mod Tracking

@@ -88,10 +88,10 @@ spliced_name b g at i x h = ap (λ z. z.name) (splice_is b g at i x h)
 
 -- replacing twice, and by itself
 
-replace_hit : (b j : Function) (js : Module) → j.name ≡ b.name → replace b (j ∷ js) ≡ b ∷ js
+pub replace_hit : (b j : Function) (js : Module) → j.name ≡ b.name → replace b (j ∷ js) ≡ b ∷ js
 replace_hit b j js q = ap (λ c. if c then b ∷ js else j ∷ replace b js) (equal_name j.name b.name q)
 
-replace_skip : (b j : Function) (js : Module) → same_name j.name b.name ≡ false → replace b (j ∷ js) ≡ j ∷ replace b js
+pub replace_skip : (b j : Function) (js : Module) → same_name j.name b.name ≡ false → replace b (j ∷ js) ≡ j ∷ replace b js
 replace_skip b j js q = ap (λ c. if c then b ∷ js else j ∷ replace b js) q
 
 replace_twice : (a b : Function) (m : Module) → a.name ≡ b.name → replace b (replace a m) ≡ replace b m

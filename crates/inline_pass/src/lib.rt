@@ -1,10 +1,23 @@
 //! The pass: every function of a module with the bodies of its callees, as a policy of sizes allows.
 #![tactic(auto)]
 
+ghost use Rattle.inline_pass.specs.FinishedLaws.{FinishedEquation, PassIsFinished};
 ghost use Rattle.inline_pass.specs.Laws.{PassKeepsRuns};
 
 /// The pass keeps every outcome of a run that lacks nothing and reads no unwritten byte of a slot, for every policy and in
 /// every order of functions.
 pub fn pass_keeps_runs()
     ensures { PassKeepsRuns }
+{}
+
+/// The finished body of a function of a module is its own text, with the finished bodies of functions in other pieces at
+/// its sites, as the policy takes them: the recursion ends, since a function in another piece reaches less than its caller.
+pub fn finished_equation()
+    ensures { FinishedEquation }
+{}
+
+/// The pass in an order that has each function once, behind those in other pieces that it calls, gives every function its
+/// finished body, in the module's order.
+pub fn pass_is_finished()
+    ensures { PassIsFinished }
 {}

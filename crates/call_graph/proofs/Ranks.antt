@@ -54,7 +54,7 @@ count_most : (a b : FuncName → Bool) → ((k : FuncName) → a k ≡ true → 
 count_most a b h [] = omega arith
 count_most a b h (n ∷ ns) = count_step (a n) (b n) (count a ns) (count b ns) (h n) (count_most a b h ns)
 
-count_less : (a b : FuncName → Bool) → ((k : FuncName) → a k ≡ true → b k ≡ true) → (ns : List FuncName) (n : FuncName) → In n ns → a n ≡ false → b n ≡ true → count a ns < count b ns
+pub count_less : (a b : FuncName → Bool) → ((k : FuncName) → a k ≡ true → b k ≡ true) → (ns : List FuncName) (n : FuncName) → In n ns → a n ≡ false → b n ≡ true → count a ns < count b ns
 count_less a b h [] n i p q = elim i [ ]
 count_less a b h (k ∷ ns) n (inl e) p q = count_here (a k) (b k) (count a ns) (count b ns) (ap a (sym e) ∙ p) (ap b (sym e) ∙ q) (count_most a b h ns)
 count_less a b h (k ∷ ns) n (inr i) p q = count_up (a k) (b k) (count a ns) (count b ns) (h k) (count_less a b h ns n i p q)
@@ -69,12 +69,12 @@ names_length (f ∷ m) = ap suc (names_length m)
 
 -- ---- under
 
-both_of : (a b : Bool) → (a && not b) ≡ true → (a ≡ true) × (b ≡ false)
+pub both_of : (a b : Bool) → (a && not b) ≡ true → (a ≡ true) × (b ≡ false)
 both_of true false h = (refl, refl)
 both_of true true h = cc
 both_of false b h = cc
 
-of_both : (a b : Bool) → a ≡ true → (b ≡ true → ⊥) → (a && not b) ≡ true
+pub of_both : (a b : Bool) → a ≡ true → (b ≡ true → ⊥) → (a && not b) ≡ true
 of_both true true h off = absurd (off refl)
 of_both true false h off = refl
 of_both false b h off = cc

@@ -60,7 +60,7 @@ walk_reaches m (suc n) x (z ∷ zs) y h w =
 
 -- ---- without repetitions
 
-abbrev AllDifferent : List FuncName → Type 0
+abbrev pub AllDifferent : List FuncName → Type 0
 AllDifferent [] = Unit {0}
 AllDifferent (n ∷ ns) = (In n ns → ⊥) × AllDifferent ns
 

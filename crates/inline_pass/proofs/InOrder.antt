@@ -9,8 +9,10 @@ use Rattle.ir_core.specs.Splice.{Splicing, sides, spliced, splice_with, replace}
 use Rattle.ir_core.specs.Whole.{Whole, DifferentNames, IsModule}
 use Rattle.ir_core.proofs.Equal.{equal_name}
 use Rattle.call_graph.specs.Reach.{called_names, calls_of, apart}
-use Rattle.call_graph.specs.Order.{names_of, stands, CalleesBefore, BottomUp}
+use Rattle.call_graph.specs.Order.{names_of, stands, CalleesBefore, BottomUp, bottom_up}
 use Rattle.call_graph.proofs.Standing.{stands_of, not_standing}
+use Rattle.call_graph.proofs.Placing.{order_is_bottom_up}
+use Rattle.inline_body.specs.Laws.{RunsKept}
 use Rattle.inline_body.proofs.Local.{some_same}
 use Rattle.inline_body.proofs.Functions.{cases_named, function_hit, function_skip, function_name}
 use Rattle.inline_body.proofs.Linking.{map_same}
@@ -18,8 +20,8 @@ use Rattle.inline_pass.specs.Policy.{Policy, takes}
 use Rattle.inline_pass.specs.Sites.{Place, own_sites, moved, called}
 use Rattle.inline_pass.specs.Finished.{inline_by, finish_by, body_of, finished_in, finished, passed}
 use Rattle.inline_pass.specs.Pass.{finish, pass_by, pass}
-use Rattle.inline_pass.specs.FinishedLaws.{PassIsFinished}
-use Rattle.inline_pass.proofs.Passing.{replace_hit, replace_skip}
+use Rattle.inline_pass.specs.FinishedLaws.{PassIsFinished, OrderInUse, FinishedKeepRuns}
+use Rattle.inline_pass.proofs.Passing.{replace_hit, replace_skip, pass_keeps_runs}
 use Rattle.inline_pass.proofs.Finishing.{calls_is, each_function, equation, finish_same, name_of_found}
 
 -- ---- names stay
@@ -165,3 +167,9 @@ module _ (p : Policy) (m : Module) (is : IsModule m) where
 
 pub pass_is_finished : PassIsFinished
 pass_is_finished p m is order b = in_order p m is order b
+
+pub order_in_use : OrderInUse
+order_in_use p m is = pass_is_finished p m is (bottom_up m) (order_is_bottom_up m is.names)
+
+pub finished_keep_runs : FinishedKeepRuns
+finished_keep_runs p m is = subst (RunsKept m) (order_in_use p m is) (pass_keeps_runs p (bottom_up m) m)

@@ -1,4 +1,5 @@
 pub mod Finishing
+pub mod Holding
 pub mod InOrder
 pub mod Passing
 pub mod Rows

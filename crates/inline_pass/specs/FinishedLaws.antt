@@ -4,7 +4,8 @@ use Rattle.ir_core.specs.declared.names.FuncName.{FuncName}
 use Rattle.ir_core.specs.Module.{Function, Module}
 use Rattle.ir_core.specs.Lookup.{In, and_then}
 use Rattle.ir_core.specs.Whole.{IsModule}
-use Rattle.call_graph.specs.Order.{BottomUp}
+use Rattle.call_graph.specs.Order.{BottomUp, bottom_up}
+use Rattle.inline_body.specs.Laws.{RunsKept}
 use Rattle.inline_pass.specs.Policy.{Policy}
 use Rattle.inline_pass.specs.Finished.{body_of, finish_by, finished, passed}
 use Rattle.inline_pass.specs.Pass.{pass}
@@ -16,3 +17,11 @@ FinishedEquation = (p : Policy) (m : Module) → IsModule m → (f : Function) �
 -- each function once, callees in other pieces before their callers
 abbrev pub PassIsFinished : Type 0
 PassIsFinished = (p : Policy) (m : Module) → IsModule m → (order : List FuncName) → BottomUp m order → pass p order m ≡ passed p m
+
+-- the order in use
+abbrev pub OrderInUse : Type 0
+OrderInUse = (p : Policy) (m : Module) → IsModule m → pass p (bottom_up m) m ≡ passed p m
+
+-- so the module of finished bodies keeps runs
+abbrev pub FinishedKeepRuns : Type 0
+FinishedKeepRuns = (p : Policy) (m : Module) → IsModule m → RunsKept m (passed p m)

@@ -1,7 +1,7 @@
 //! The pass: every function of a module with the bodies of its callees, as a policy of sizes allows.
 #![tactic(auto)]
 
-ghost use Rattle.inline_pass.specs.FinishedLaws.{FinishedEquation, PassIsFinished};
+ghost use Rattle.inline_pass.specs.FinishedLaws.{FinishedEquation, FinishedKeepRuns, OrderInUse, PassIsFinished};
 ghost use Rattle.inline_pass.specs.Laws.{PassKeepsRuns};
 
 /// The pass keeps every outcome of a run that lacks nothing and reads no unwritten byte of a slot, for every policy and in
@@ -20,4 +20,14 @@ pub fn finished_equation()
 /// finished body, in the module's order.
 pub fn pass_is_finished()
     ensures { PassIsFinished }
+{}
+
+/// The pass in the order of pieces, from callees to callers, gives every function its finished body.
+pub fn order_in_use()
+    ensures { OrderInUse }
+{}
+
+/// The module of finished bodies keeps every outcome of a run that lacks nothing and reads no unwritten byte of a slot.
+pub fn finished_keep_runs()
+    ensures { FinishedKeepRuns }
 {}

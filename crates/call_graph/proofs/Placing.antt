@@ -1,17 +1,17 @@
 -- The order in use: as long as a function is not placed, some piece that is not placed has all callees in other pieces
 -- placed, and placing it keeps callees before callers.
-use Rattle.std.proofs.Common.{◌≡◌, ◌⊎◌, inl, inr, ℕ, zero, suc, ◌<◌, ◌≤◌, List, [], ◌∷◌, ◌++◌, length, map, Option, Some, None, Bool, true, false, ◌&&◌, ◌||◌, refl, sym, ap, ap₂, ◌∙◌, subst, arith}
+use Rattle.std.proofs.Common.{◌≡◌, ◌⊎◌, inl, inr, ℕ, zero, suc, ◌<◌, ◌≤◌, List, [], ◌∷◌, ◌++◌, length, Option, Some, None, Bool, true, false, ◌&&◌, ◌||◌, refl, sym, ap, ap₂, ◌∙◌, subst, arith}
 use Rattle.std.specs.Prelude.{not, if◌then◌else◌}
 use Rattle.ir_core.specs.declared.names.FuncName.{FuncName}
-use Rattle.ir_core.specs.Module.{Function, Module}
+use Rattle.ir_core.specs.Module.{Module}
 use Rattle.ir_core.specs.Lookup.{In, same_name, find_function}
 use Rattle.ir_core.specs.Whole.{DifferentNames}
-use Rattle.ir_core.proofs.Equal.{name_equal, equal_name, name_same, both_true}
+use Rattle.ir_core.proofs.Equal.{name_equal, equal_name, both_true}
 use Rattle.call_graph.specs.Reach.{calls_of, reaches, one_piece, apart}
-use Rattle.call_graph.specs.Order.{names_of, CalleesBefore, BottomUp, stands, every_name, those, piece, callees_placed, ready, next_of, placed_in, bottom_up}
+use Rattle.call_graph.specs.Order.{names_of, CalleesBefore, BottomUp, stands, every_name, those, piece, callees_placed, ready, next_of, placed_in}
 use Rattle.call_graph.specs.OrderLaws.{OrderIsBottomUp}
 use Rattle.call_graph.proofs.Walks.{AllDifferent, or_cases, or_left, or_right}
-use Rattle.call_graph.proofs.Standing.{stands_of, in_of, not_standing}
+use Rattle.call_graph.proofs.Standing.{stands_of, in_of}
 use Rattle.call_graph.proofs.Ranks.{reaches_on, call_reaches, under, under_of, rank, rank_falls, count, count_less, both_of, of_both}
 
 -- ---- tests of lists of names

@@ -1,10 +1,10 @@
 -- What a callee in another piece reaches is less than what its caller reaches.
-use Rattle.std.proofs.Common.{◌≡◌, ℕ, suc, ◌<◌, ◌≤◌, inl, inr, List, [], ◌∷◌, length, map, Bool, true, false, ◌&&◌, ◌||◌, refl, sym, ap, ◌∙◌, arith}
+use Rattle.std.proofs.Common.{◌≡◌, ℕ, suc, ◌<◌, ◌≤◌, inl, inr, List, [], ◌∷◌, length, Bool, true, false, ◌&&◌, ◌||◌, refl, sym, ap, ◌∙◌, arith}
 use Rattle.std.specs.Prelude.{not, if◌then◌else◌}
 use Rattle.ir_core.specs.declared.names.FuncName.{FuncName}
 use Rattle.ir_core.specs.Module.{Module}
 use Rattle.ir_core.specs.Lookup.{In, same_name}
-use Rattle.call_graph.specs.Reach.{calls_of, reaches, one_piece, apart}
+use Rattle.call_graph.specs.Reach.{calls_of, reaches, apart}
 use Rattle.call_graph.specs.Laws.{Leads, calls, by_way}
 use Rattle.call_graph.specs.Order.{names_of}
 use Rattle.call_graph.proofs.Walks.{reach_is_by_lists}

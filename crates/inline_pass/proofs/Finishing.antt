@@ -1,16 +1,16 @@
 -- Finished bodies satisfy their equation: only the bodies of what a function calls count, and a callee in another piece
 -- reaches less.
-use Rattle.std.proofs.Common.{◌≡◌, ℕ, zero, suc, ◌<◌, inl, inr, List, [], ◌∷◌, ◌++◌, length, map, Option, Some, None, Bool, true, false, refl, sym, ap, ◌∙◌, subst, arith}
+use Rattle.std.proofs.Common.{◌≡◌, ℕ, zero, suc, ◌<◌, inl, inr, List, [], ◌∷◌, ◌++◌, length, Option, Some, None, Bool, true, false, refl, sym, ap, ◌∙◌, subst, arith}
 use Rattle.std.specs.Prelude.{slice_get, if◌then◌else◌}
 use Rattle.std.proofs.lemmas.Bool.{cases_eq}
 use Rattle.ir_core.specs.declared.names.FuncName.{FuncName}
 use Rattle.ir_core.specs.declared.declarations.Callee.{Callee}
 use Rattle.ir_core.specs.Module.{CallTarget, Direct, Indirect, Instruction, Plain, Branches, SequencePoint, Return, Call, ReturnCall, TryCall, Line, Block, Function, Module}
 use Rattle.ir_core.specs.Lookup.{In, Each, and_then, find_block, find_function}
-use Rattle.ir_core.specs.Splice.{sides, splice_with, spliced}
+use Rattle.ir_core.specs.Splice.{sides, splice_with}
 use Rattle.ir_core.specs.Site.{named_callee, callee_of}
 use Rattle.ir_core.specs.Uses.{called_callees, callees_used}
-use Rattle.ir_core.specs.Whole.{LineWhole, BlockWhole, Whole, DifferentNames, IsModule}
+use Rattle.ir_core.specs.Whole.{LineWhole, BlockWhole, Whole, DifferentNames}
 use Rattle.call_graph.specs.Reach.{called_name, or_nothing, names_in, called_names, calls_of, apart}
 use Rattle.call_graph.specs.Order.{names_of}
 use Rattle.call_graph.proofs.Ranks.{call_reaches, under_of, rank, rank_falls, rank_bound}

@@ -5,7 +5,7 @@ use Rattle.std.specs.Prelude.{slice_get, if◌then◌else◌}
 use Rattle.ir_core.specs.declared.names.FuncName.{FuncName}
 use Rattle.ir_core.specs.Module.{Line, Block, Function, Module}
 use Rattle.ir_core.specs.Lookup.{In, and_then, same_name, find_block, find_function}
-use Rattle.ir_core.specs.Splice.{Splicing, sides, spliced, splice_with, replace}
+use Rattle.ir_core.specs.Splice.{sides, spliced, splice_with, replace}
 use Rattle.ir_core.specs.Whole.{Whole, DifferentNames, IsModule}
 use Rattle.ir_core.proofs.Equal.{equal_name}
 use Rattle.call_graph.specs.Reach.{called_names, calls_of, apart}
@@ -18,7 +18,7 @@ use Rattle.inline_body.proofs.Functions.{cases_named, function_hit, function_ski
 use Rattle.inline_body.proofs.Linking.{map_same}
 use Rattle.inline_pass.specs.Policy.{Policy, takes}
 use Rattle.inline_pass.specs.Sites.{Place, own_sites, moved, called}
-use Rattle.inline_pass.specs.Finished.{inline_by, finish_by, body_of, finished_in, finished, passed}
+use Rattle.inline_pass.specs.Finished.{inline_by, body_of, finished_in, finished, passed}
 use Rattle.inline_pass.specs.Pass.{finish, pass_by, pass}
 use Rattle.inline_pass.specs.FinishedLaws.{PassIsFinished, OrderInUse, FinishedKeepRuns}
 use Rattle.inline_pass.proofs.Passing.{replace_hit, replace_skip, pass_keeps_runs}

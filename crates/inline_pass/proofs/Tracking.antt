@@ -10,13 +10,13 @@ use Rattle.ir_core.specs.Renaming.{block_under, called_under, instruction_under,
 use Rattle.ir_core.specs.Splice.{Splicing, Kind, Within, Last, Tries, kind_of, body, jump_in, cut_block, after_block, after_blocks, caller_names, spliced, spliced_blocks, sides, splice_with}
 use Rattle.ir_core.specs.Site.{named_callee, callee_of}
 use Rattle.ir_core.proofs.Equal.{both_true, number_equal}
-use Rattle.inline_body.proofs.Local.{Injective, some_same}
+use Rattle.inline_body.proofs.Local.{some_same}
 use Rattle.inline_body.proofs.Related.{Distinct, RestF}
 use Rattle.inline_body.proofs.Places.{find_hit, find_skip, append_none, g_off, after_off, after_cut, f_found}
 use Rattle.inline_body.proofs.Merging.{own_callee}
 use Rattle.inline_body.proofs.Linking.{distinct_sides}
 use Rattle.inline_pass.specs.Sites.{Place, moved, called}
-use Rattle.inline_pass.proofs.Passing.{Found, found, cut_list}
+use Rattle.inline_pass.proofs.Passing.{found, cut_list}
 
 -- a call at the place is of a declared callee whose name is among these
 pub record Names (names : List FuncName) (b : Function) (q : Place) : Type 0 where

@@ -3,7 +3,10 @@ use Rattle.std.specs.Prelude.{◌≡◌, List, Some}
 use Rattle.ir_core.specs.declared.names.FuncName.{FuncName}
 use Rattle.ir_core.specs.Module.{Function, Module}
 use Rattle.ir_core.specs.Lookup.{In, and_then}
+use Rattle.ir_core.specs.Same.{Same}
 use Rattle.ir_core.specs.Whole.{IsModule}
+use Rattle.ir_core.specs.Accepted.{Accepted}
+use Rattle.ir_core.specs.Canon.{SameUpToNumbering}
 use Rattle.call_graph.specs.Order.{BottomUp, bottom_up}
 use Rattle.inline_body.specs.Laws.{RunsKept}
 use Rattle.inline_pass.specs.Policy.{Policy}
@@ -25,3 +28,11 @@ OrderInUse = (p : Policy) (m : Module) → IsModule m → pass p (bottom_up m) m
 -- so the module of finished bodies keeps runs
 abbrev pub FinishedKeepRuns : Type 0
 FinishedKeepRuns = (p : Policy) (m : Module) → IsModule m → RunsKept m (passed p m)
+
+-- the same of accepted modules and entry calls
+abbrev pub FinishedKeep : Type 0
+FinishedKeep = (p : Policy) (m : Module) → IsModule m → Accepted m → Same m (passed p m)
+
+-- a module that is the finished bodies up to numbering, as a tool answers it
+abbrev pub RenumberedFinishedKeep : Type 0
+RenumberedFinishedKeep = (p : Policy) (m r : Module) → IsModule m → Accepted m → SameUpToNumbering (passed p m) r → Same m r

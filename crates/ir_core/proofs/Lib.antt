@@ -5,3 +5,9 @@ pub mod Operations
 pub mod Tails
 pub mod Throws
 pub mod Written
+pub mod SafetyTypes
+pub mod SafetyPlaces
+pub mod SafetyStands
+pub mod SafetySteps
+pub mod SafetyRuns
+pub mod SafetyExample

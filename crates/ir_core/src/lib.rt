@@ -5,6 +5,7 @@
 
 mod declarations;
 mod instructions;
+mod laws;
 mod lists;
 mod names;
 mod numbers;
@@ -13,6 +14,7 @@ mod signatures;
 
 pub use declarations::{Callee, SlotDecl};
 pub use instructions::{Access, Arg, BlockCall, Flags, Inst, InstData};
+pub use laws::accepted_never_sticks;
 pub use lists::List;
 pub use names::FuncName;
 pub use numbers::{Block, FuncRef, SigRef, Slot, Value};

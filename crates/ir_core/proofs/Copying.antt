@@ -57,7 +57,7 @@ module _ (xs : List InstData) (ks js : List BlockData) (o last : Option ℕ) (al
         short = λ b j g. let f = get_alike ks js b j alike g in omega (arith, laid.short b f.0 f.1, f.2.len, f.2.cap);
         within = λ b j g. let f = get_alike ks js b j alike g in omega (arith, laid.within b f.0 f.1, f.2.start, f.2.cap);
         apart = λ b c j i g h n p e1 e2 e3 e4.
-          let f = get_alike ks js b j alike g in
-          let f' = get_alike ks js c i alike h in
-          laid.apart b c f.0 f'.0 f.1 f'.1 n p (omega (arith, e1, f.2.start)) (omega (arith, e2, f.2.start, f.2.cap)) (omega (arith, e3, f'.2.start)) (omega (arith, e4, f'.2.start, f'.2.cap));
+            let f = get_alike ks js b j alike g in
+            let f' = get_alike ks js c i alike h in
+            laid.apart b c f.0 f'.0 f.1 f'.1 n p (omega (arith, e1, f.2.start)) (omega (arith, e2, f.2.start, f.2.cap)) (omega (arith, e3, f'.2.start)) (omega (arith, e4, f'.2.start, f'.2.cap));
       }

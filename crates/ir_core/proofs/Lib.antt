@@ -1,6 +1,7 @@
 pub mod Acceptance
 pub mod Adding
 pub mod Changing
+pub mod Copying
 pub mod Counting
 pub mod Equal
 pub mod Indexing
@@ -27,4 +28,3 @@ pub mod Throws
 pub mod Walking
 pub mod Writing
 pub mod Written
-pub mod Copying

@@ -1,7 +1,7 @@
 pub mod Accepted
+pub mod Alike
 pub mod Available
 pub mod Canon
-pub mod Alike
 pub mod Edits
 pub mod Effect
 pub mod Import

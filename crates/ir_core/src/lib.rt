@@ -16,7 +16,6 @@ mod places;
 mod room;
 mod signatures;
 mod size;
-
 #[cfg(test)]
 mod tests;
 

@@ -4,8 +4,7 @@ ghost use Rattle.ir_core.specs.Sound.{IsWhole};
 
 use super::*;
 use debug_tags::Tags;
-use std::alloc::AllocError;
-use std::alloc::Global;
+use std::alloc::{AllocError, Global};
 
 /// A signature of one parameter and no result.
 fn one_param(alloc: Global) -> Result<Sig, AllocError> {

@@ -1,14 +1,13 @@
 -- Copied entries lie as the others do.
-use Rattle.std.proofs.Common.{◌≡◌, ℕ, zero, suc, ◌+◌, ◌<◌, ◌≤◌, List, [], ◌∷◌, map, length, take, drop, Option, Some, None, refl, sym, ap, ap₂, ◌∙◌, subst, arith}
+use Rattle.std.proofs.Common.{◌≡◌, ℕ, zero, suc, List, [], ◌∷◌, map, length, take, drop, Option, Some, refl, sym, ap, ap₂, ◌∙◌, subst, arith}
 use Rattle.std.specs.Prelude.{slice_get}
 use Rattle.std.specs.List.{AllZip}
-use Rattle.ir_core.specs.Module.{Block}
 use Rattle.ir_core.specs.declared.instructions.InstData.{InstData}
 use Rattle.ir_core.specs.declared.func.BlockData.{BlockData}
 use Rattle.ir_core.specs.Alike.{Alike}
 use Rattle.ir_core.specs.Lists.{Different}
 use Rattle.ir_core.specs.Viewed.{line_of}
-use Rattle.ir_core.specs.Layout.{walk, Linked, nexts, range, block_by, block_at, blocks_in, order, Apart, Laid, last_of}
+use Rattle.ir_core.specs.Layout.{walk, Linked, nexts, block_by, block_at, blocks_in, order, Laid, last_of}
 
 nexts_alike : (ks js : List BlockData) → AllZip Alike ks js → nexts js ≡ nexts ks
 nexts_alike [] [] h = refl

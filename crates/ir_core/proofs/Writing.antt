@@ -1,11 +1,11 @@
 -- What keeps a function sound where instructions are put, taken away or moved.
-use Rattle.std.proofs.Common.{◌≡◌, ℕ, zero, suc, ◌+◌, ◌-◌, ◌<◌, ◌≤◌, ◌^◌, ◌⊎◌, inl, inr, List, [], ◌∷◌, ◌++◌, map, length, take, drop, Bool, true, false, refl, sym, ap, ap₂, ◌∙◌, subst, arith, eq-eqb, ne_eqb, append_assoc, length-append}
+use Rattle.std.proofs.Common.{◌≡◌, ℕ, ◌+◌, inl, inr, List, [], ◌∷◌, ◌++◌, length, take, drop, Bool, true, false, refl, sym, ap, ap₂, ◌∙◌, subst, arith, eq-eqb, ne_eqb, append_assoc, length-append}
 use Rattle.std.specs.Prelude.{nat_eq, if◌then◌else◌}
 use Rattle.std.proofs.lemmas.Bool.{cases_eq}
 use Rattle.std.proofs.lemmas.List.{append-nil, take-append-drop}
 use Rattle.ir_core.specs.Module.{Block, Line, Function}
 use Rattle.ir_core.specs.Lookup.{definitions, line_definitions, block_numbers}
-use Rattle.ir_core.specs.Lists.{In, Different, Below, Each}
+use Rattle.ir_core.specs.Lists.{In, Different, Each}
 use Rattle.ir_core.specs.Sound.{Counts, counts_of, LineInRange, BlockInRange, instruction_count, CanAdd, IsSound}
 use Rattle.ir_core.specs.Edits.{at_block, put_line, with_lines, lines_of}
 use Rattle.ir_core.proofs.Members.{in_left, in_right, in_cases, different_join, different_left, different_right, different_apart, each_left, each_right, each_join}

@@ -1,4 +1,4 @@
-use Rattle.std.proofs.Common.{arith, ◌+◌, length, take, sym, ap}
+use Rattle.std.proofs.Common.{arith, ◌+◌, length, take, ap}
 use Rattle.ir_core.specs.Operands.{entry_target}
 use Rattle.ir_core.specs.Size.{argument_count}
 use Rattle.ir_core.proofs.Sizing.{total_more, total_map}

@@ -1,4 +1,4 @@
-use Rattle.std.proofs.Common.{◌≡◌, length, List, refl, sym, ap, ap₂, subst, ◌∙◌}
+use Rattle.std.proofs.Common.{◌≡◌, length, sym, ap, ap₂, subst, ◌∙◌}
 use Rattle.std.specs.List.{AllZip, enumerate_from}
 use Rattle.ir_core.specs.Alike.{Alike}
 use Rattle.ir_core.specs.Lookup.{definitions}

@@ -1,8 +1,8 @@
-use Rattle.std.proofs.Common.{arith, ◌≡◌, ◌+◌, length, take, List, [], ◌∷◌, refl, sym, ap, subst, ◌∙◌}
+use Rattle.std.proofs.Common.{arith, ◌≡◌, length, take, sym, ap, subst, ◌∙◌}
 use Rattle.std.proofs.lemmas.List.{take_all}
 use Rattle.ir_core.specs.Lookup.{block_numbers}
 use Rattle.ir_core.specs.Lists.{In, Each}
-use Rattle.ir_core.specs.Size.{total, sig_size, block_size, size_at, size_of, capped}
+use Rattle.ir_core.specs.Size.{total, sig_size, block_size, size_at}
 use Rattle.ir_core.proofs.Sizing.{total_more, total_numbers, each_in}
 use Rattle.ir_core.proofs.func.Func.size.Goals as goal
 

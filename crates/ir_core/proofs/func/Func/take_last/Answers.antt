@@ -1,7 +1,5 @@
-use Rattle.std.proofs.Common.{arith, ◌≡◌, ℕ, ◌+◌, ◌-◌, ◌<◌, ◌≤◌, length, refl, sym, ap, subst, ◌∙◌}
+use Rattle.std.proofs.Common.{arith, ◌+◌, ◌-◌, length, refl, sym, ap, ◌∙◌}
 use Rattle.std.proofs.lemmas.Option.{slice_get_read}
-use Rattle.ir_core.specs.declared.instructions.InstData.{InstData}
-use Rattle.ir_core.specs.Lookup.{definitions}
 use Rattle.ir_core.specs.Edits.{lines_of}
 use Rattle.ir_core.proofs.Changing.{found, below, named, inside_arena, lines_seen, some_len, less_laid, less_blocks}
 use Rattle.ir_core.proofs.Putting.{taken_sound, taken_defined, taken_function}

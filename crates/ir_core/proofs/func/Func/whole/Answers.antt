@@ -1,6 +1,5 @@
-use Rattle.std.proofs.Common.{arith, ◌≡◌, ◌<◌, length, map, Some, sym, ap, subst, ◌∙◌}
+use Rattle.std.proofs.Common.{arith, ◌≡◌, length, sym, subst, ◌∙◌}
 use Rattle.std.proofs.lemmas.Bool.{eqb-true, eq-eqb}
-use Rattle.ir_core.specs.Lookup.{definitions}
 use Rattle.ir_core.specs.Sound.{IsWhole}
 use Rattle.ir_core.specs.Layout.{function_of, order}
 use Rattle.ir_core.proofs.Keeping.{length_numbered}

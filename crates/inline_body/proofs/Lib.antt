@@ -10,6 +10,11 @@ pub mod Places
 pub mod Merging
 pub mod Ordering
 pub mod Functions
+pub mod Points
+pub mod KeptLists
+pub mod KeptPaths
+pub mod KeptTraces
+pub mod KeptTypes
 pub mod Linking
 pub mod Numbering
 pub mod Laws

@@ -15,6 +15,7 @@ pub mod KeptLists
 pub mod KeptPaths
 pub mod KeptTraces
 pub mod KeptTypes
+pub mod KeptRules
 pub mod Linking
 pub mod Numbering
 pub mod Laws

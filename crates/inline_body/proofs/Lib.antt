@@ -16,6 +16,7 @@ pub mod KeptPaths
 pub mod KeptTraces
 pub mod KeptTypes
 pub mod KeptRules
+pub mod KeptSite
 pub mod Linking
 pub mod Numbering
 pub mod Laws

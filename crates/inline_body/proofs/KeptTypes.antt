@@ -159,7 +159,7 @@ module _ (S : Splicing) (names : Distinct S.naming) (news : Apart S.naming) wher
     new_typed c s k found li get tail =
         type_append_none (map (typed_under (caller_names S)) S.caller.types) _ (S.naming.new_value c j) (type_off (caller_names S) (S.naming.new_value c j) (λ w q. names.value_new w c j q) S.caller.types) ∙ type_append_none (map (typed_under (callee_names S)) S.callee.types) (new_types S S.callee.blocks) (S.naming.new_value c j) (type_off (callee_names S) (S.naming.new_value c j) (λ w q. news.callee_new w c j q) S.callee.types) ∙ block_typed S.callee.blocks c s k found li get tail
 
-  types_from : (T : ℕ → Option Ty) (i : ℕ) (ts : List Ty) → ((j : ℕ) (t : Ty) → slice_get ts j ≡ Some t → T (i + j) ≡ Some t) → map T (from i (length ts)) ≡ each_some ts
+  pub types_from : (T : ℕ → Option Ty) (i : ℕ) (ts : List Ty) → ((j : ℕ) (t : Ty) → slice_get ts j ≡ Some t → T (i + j) ≡ Some t) → map T (from i (length ts)) ≡ each_some ts
   types_from T i [] h = refl
   types_from T i (t ∷ ts) h =
       let z : i ≡ i + 0 = omega arith in

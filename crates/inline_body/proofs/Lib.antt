@@ -17,6 +17,7 @@ pub mod KeptTraces
 pub mod KeptTypes
 pub mod KeptRules
 pub mod KeptSite
+pub mod KeptLines
 pub mod Linking
 pub mod Numbering
 pub mod Laws

@@ -18,6 +18,7 @@ pub mod KeptTypes
 pub mod KeptRules
 pub mod KeptSite
 pub mod KeptLines
+pub mod KeptSplice
 pub mod Linking
 pub mod Numbering
 pub mod Laws

@@ -74,7 +74,7 @@ module _ (m : Module) (S : Splicing) (E : Setting m S) where
   g_typed : (v : ℕ) → type_of (spliced S) (S.naming.callee_value v) ≡ type_of S.callee v
   g_typed v = callee_typed S E.names E.news v
 
-  f_vals : (vs : List ℕ) → types_of (spliced S) (map S.naming.caller_value vs) ≡ types_of S.caller vs
+  pub f_vals : (vs : List ℕ) → types_of (spliced S) (map S.naming.caller_value vs) ≡ types_of S.caller vs
   f_vals vs = vals_typed S.caller (spliced S) (caller_names S) (RestF S) ef f_typed vs
 
   g_vals : (vs : List ℕ) → types_of (spliced S) (map S.naming.callee_value vs) ≡ types_of S.callee vs

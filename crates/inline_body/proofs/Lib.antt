@@ -19,6 +19,7 @@ pub mod KeptRules
 pub mod KeptSite
 pub mod KeptLines
 pub mod KeptSplice
+pub mod KeptFunctions
 pub mod Linking
 pub mod Numbering
 pub mod Laws

@@ -20,6 +20,7 @@ pub mod KeptSite
 pub mod KeptLines
 pub mod KeptSplice
 pub mod KeptFunctions
+pub mod Unique
 pub mod Linking
 pub mod Numbering
 pub mod Laws

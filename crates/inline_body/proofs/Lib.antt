@@ -21,6 +21,7 @@ pub mod KeptLines
 pub mod KeptSplice
 pub mod KeptFunctions
 pub mod Unique
+pub mod KeptCounts
 pub mod Linking
 pub mod Numbering
 pub mod Laws

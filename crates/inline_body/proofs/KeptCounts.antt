@@ -109,18 +109,18 @@ definitions_append (x ∷ a) b = ap (λ z. x.params ++ (line_definitions x.lines
     assoc [] ys zs = refl
     assoc (x ∷ xs) ys zs = ap (λ z. x ∷ z) (assoc xs ys zs)
 
-lines_append : (u : ℕ) (a b : List Line) → count u (line_definitions (a ++ b)) ≡ count u (line_definitions a) + count u (line_definitions b)
+pub lines_append : (u : ℕ) (a b : List Line) → count u (line_definitions (a ++ b)) ≡ count u (line_definitions a) + count u (line_definitions b)
 lines_append u [] b = let e = count_none u in omega (arith, e)
 lines_append u (l ∷ a) b =
     let ih = lines_append u a b in
     let p = count_append u l.results (line_definitions (a ++ b)) in
     let q = count_append u l.results (line_definitions a) in omega (arith, ih, p, q)
 
-lines_under : (r : Renaming) (ls : List Line) → line_definitions (map (line_under r) ls) ≡ map r.value (line_definitions ls)
+pub lines_under : (r : Renaming) (ls : List Line) → line_definitions (map (line_under r) ls) ≡ map r.value (line_definitions ls)
 lines_under r [] = refl
 lines_under r (l ∷ ls) = ap (λ z. map r.value l.results ++ z) (lines_under r ls) ∙ sym (map_append r.value l.results (line_definitions ls))
 
-blocks_under : (r : Renaming) (bs : List Block) → definitions (map (block_under r) bs) ≡ map r.value (definitions bs)
+pub blocks_under : (r : Renaming) (bs : List Block) → definitions (map (block_under r) bs) ≡ map r.value (definitions bs)
 blocks_under r [] = refl
 blocks_under r (b ∷ bs) =
     ap₂ (λ x y. map r.value b.params ++ (x ++ y)) (lines_under r b.lines) (blocks_under r bs) ∙ ap (λ z. map r.value b.params ++ z) (sym (map_append r.value (line_definitions b.lines) (definitions bs))) ∙ sym (map_append r.value b.params (line_definitions b.lines ++ definitions bs))
@@ -136,7 +136,7 @@ NoResults (ReturnCall t args) l = length l.results ≡ 0
 NoResults (TryCall t sig args normal table) l = length l.results ≡ 0
 NoResults _ l = Unit {0}
 
-empty : {A : Type 0} (xs : List A) → length xs ≡ 0 → xs ≡ []
+pub empty : {A : Type 0} (xs : List A) → length xs ≡ 0 → xs ≡ []
 empty [] h = refl
 empty (x ∷ xs) h = absurd (omega (arith, h))
 
@@ -147,7 +147,7 @@ module _ (S : Splicing) (names : Distinct S.naming) (news : Apart S.naming) wher
   abbrev cv : ℕ → ℕ
   cv = S.naming.caller_value
 
-  result_values : (c i : ℕ) (vs : List ℕ) (ts : List Ty) → map (type_in S.caller.types) vs ≡ each_some ts → values (typed_results S c i vs) ≡ map (S.naming.new_value c) (from i (length vs))
+  pub result_values : (c i : ℕ) (vs : List ℕ) (ts : List Ty) → map (type_in S.caller.types) vs ≡ each_some ts → values (typed_results S c i vs) ≡ map (S.naming.new_value c) (from i (length vs))
   result_values c i [] ts h = refl
   result_values c i (v ∷ vs) [] h = cc
   result_values c i (v ∷ vs) (t ∷ ts) h =

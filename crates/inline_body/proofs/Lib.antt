@@ -22,6 +22,7 @@ pub mod KeptSplice
 pub mod KeptFunctions
 pub mod Unique
 pub mod KeptCounts
+pub mod KeptValues
 pub mod Linking
 pub mod Numbering
 pub mod Laws

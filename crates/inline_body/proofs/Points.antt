@@ -120,6 +120,10 @@ of_ending i next h = by (terminates i) refl
 abbrev pub EndsWell : List Line → Type 0
 EndsWell ls = (j : ℕ) (i : Line) → slice_get ls j ≡ Some i → Ending i.inst (slice_get ls (suc j))
 
+pub none_first : (ls : List Line) → slice_get ls 0 ≡ None → ls ≡ []
+none_first [] h = refl
+none_first (l ∷ ls) h = cc
+
 abbrev pub IsTail : Instruction → Type 0
 IsTail (ReturnCall t args) = Unit {0}
 IsTail _ = ⊥

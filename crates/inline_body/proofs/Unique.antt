@@ -1,13 +1,14 @@
 -- The blocks of a splice have different numbers.
-use Rattle.std.proofs.Common.{◌≡◌, ℕ, suc, ◌≤◌, ◌⊎◌, inl, inr, List, [], ◌∷◌, ◌++◌, map, refl, sym, ap, ◌∙◌, subst, arith, eq-eqb, ne_eqb}
+use Rattle.std.proofs.Common.{◌≡◌, ℕ, suc, ◌≤◌, ◌⊎◌, inl, inr, List, [], ◌∷◌, ◌++◌, map, Some, refl, sym, ap, ◌∙◌, subst, arith, eq-eqb, ne_eqb}
 use Rattle.std.specs.Prelude.{if◌then◌else◌}
 use Rattle.std.proofs.lemmas.Bool.{cases_eq}
 use Rattle.ir_core.specs.Module.{Line, Block}
-use Rattle.ir_core.specs.Lookup.{In, Different, block_numbers}
+use Rattle.ir_core.specs.Lookup.{In, Different, block_numbers, find_block}
 use Rattle.ir_core.specs.Renaming.{block_under}
 use Rattle.ir_core.specs.Splice.{Kind, Last, Piece, Splicing, Tries, Within, after_blocks, body, caller_names, cut_block, kind_of, piece, piece_by, spliced, spliced_blocks}
 use Rattle.inline_body.proofs.Related.{Distinct}
-use Rattle.inline_body.proofs.KeptLists.{in_split}
+use Rattle.inline_body.proofs.Places.{find_hit, find_skip}
+use Rattle.inline_body.proofs.KeptLists.{in_split, in_map}
 use Rattle.inline_body.proofs.Points.{shape, Shape, one, two, cut}
 
 numbers_append : (a b : List Block) → block_numbers (a ++ b) ≡ block_numbers a ++ block_numbers b
@@ -21,6 +22,12 @@ different_append (x ∷ a) b d e off = ((λ p. elim (in_split x a b p) [ inl q �
 -- names of one kind
 abbrev AllAre : (ℕ → Type 0) → List ℕ → Type 0
 AllAre P xs = (x : ℕ) → In x xs → P x
+
+-- a block is found by its number, where numbers are different
+pub in_find : (b : Block) (bs : List Block) → Different (block_numbers bs) → In b bs → find_block b.number bs ≡ Some b
+in_find b [] d p = elim p [ ]
+in_find b (x ∷ bs) d (inl p) = find_hit b.number x bs (ap (λ z. z.number) (sym p)) ∙ ap Some (sym p)
+in_find b (x ∷ bs) d (inr p) = find_skip b.number x bs (λ q. d.0 (subst (λ z. In z (block_numbers bs)) (sym q) (in_map (λ z. z.number) b bs p))) ∙ in_find b bs d.1 p
 
 module _ (S : Splicing) (names : Distinct S.naming) where
   more_numbers : (c s : ℕ) (ls : List Line) → Different (block_numbers (piece S c s ls).more) × ((x : ℕ) → In x (block_numbers (piece S c s ls).more) → (j : ℕ) × (s ≤ j) × (x ≡ S.naming.new_block c j))

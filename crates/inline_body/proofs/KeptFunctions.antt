@@ -40,7 +40,7 @@ target_lands f n ts h t p =
     let u = some_and (find_block t.block f.blocks) (λ b. length t.args ≡ length b.params) c.0 in
     (u.0, u.1)
 
-line_lands : (f : Function) (l : Line) (i : Instruction) → InstructionCounts f l i → (t : BlockCall) → In t (targets i) → (e : Block) × (find_block t.block f.blocks ≡ Some e)
+pub line_lands : (f : Function) (l : Line) (i : Instruction) → InstructionCounts f l i → (t : BlockCall) → In t (targets i) → (e : Block) × (find_block t.block f.blocks ≡ Some e)
 line_lands f l (Branches b) h t p = target_lands f None (targets (Branches b)) h.1 t p
 line_lands f l (TryCall c sig args normal table) h t p =
     let u = some_and (signature_of f c) (λ s. (length args ≡ length s.params) × ((length l.results ≡ 0) × Each (TargetCounts f (Some (length s.results))) (normal ∷ table_targets table))) h in

@@ -23,6 +23,8 @@ pub mod KeptFunctions
 pub mod Unique
 pub mod KeptCounts
 pub mod KeptValues
+pub mod KeptWhole
+pub mod KeptModules
 pub mod Linking
 pub mod Numbering
 pub mod Laws

@@ -1,6 +1,10 @@
 //! The splice: a call replaced by the body of its callee. It keeps what every run does.
 #![tactic(auto)]
 
+mod acceptance;
+
+pub use acceptance::splice_stays_accepted;
+
 ghost use Rattle.inline_body.specs.Laws.{NumberingKeepsRuns, SpliceKeepsRuns};
 
 /// A direct call of any kind, replaced by the body of its callee, keeps every outcome of a run that lacks nothing and reads

@@ -1,4 +1,5 @@
 pub mod Finished
+pub mod Kept
 pub mod Laws
 pub mod Pass
 pub mod Policy

@@ -1,6 +1,10 @@
 //! The pass: every function of a module with the bodies of its callees, as a policy of sizes allows.
 #![tactic(auto)]
 
+mod acceptance;
+
+pub use acceptance::pass_stays_accepted;
+
 ghost use Rattle.inline_pass.specs.Laws.{PassKeepsRuns};
 
 /// The pass keeps every outcome of a run that lacks nothing and reads no unwritten byte of a slot, for every policy and in

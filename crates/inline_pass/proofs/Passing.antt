@@ -56,6 +56,9 @@ found b at i x h =
 abbrev pub at_place : (b g : Function) (at i : ℕ) (x : FuncName) → Found b at i x → Splicing
 at_place b g at i x h = record { naming = sides; caller = b; callee = g; at = at; before = take i h.block.lines; site = h.line; behind = drop (suc i) h.block.lines }
 
+pub place_naming : (b g : Function) (at i : ℕ) (x : FuncName) (h : Found b at i x) → (at_place b g at i x h).naming ≡ sides
+place_naming b g at i x h = refl
+
 pub site_of : (c : Module) (b g : Function) (at i : ℕ) (x : FuncName) → find_function b.name c ≡ Some b → find_function x c ≡ Some g → (h : Found b at i x) → Site c (at_place b g at i x h)
 site_of c b g at i x there gone h =
     record {

@@ -4,6 +4,10 @@
 ghost use Rattle.inline_pass.specs.FinishedLaws.{FinishedEquation, FinishedKeep, FinishedKeepRuns, OrderInUse, PassIsFinished, RenumberedFinishedKeep};
 ghost use Rattle.inline_pass.specs.Laws.{PassKeeps, PassKeepsRuns, RenumberedPassKeeps};
 
+mod acceptance;
+
+pub use acceptance::pass_stays_accepted;
+
 /// The pass keeps every outcome of a run that lacks nothing and reads no unwritten byte of a slot, for every policy and in
 /// every order of functions.
 pub fn pass_keeps_runs()

@@ -1,3 +1,4 @@
+mod Examples
 mod SimpleDigits
 mod SimpleDrafts
 mod SimpleLoops

@@ -1,3 +1,8 @@
+mod BackDecimals
+mod BackFronts
+mod BackNumbers
+mod BackPieces
+mod BackRanges
 mod SimpleDigits
 mod SimpleDrafts
 mod SimpleLoops

@@ -1,8 +1,12 @@
+mod BackConstants
 mod BackDecimals
 mod BackFronts
 mod BackNumbers
 mod BackPieces
 mod BackRanges
+mod BackSimple
+mod BackSimpleMeaning
+mod BackSimpleText
 mod SimpleDigits
 mod SimpleDrafts
 mod SimpleLoops

@@ -5,7 +5,11 @@ mod BackNumbers
 mod BackPieces
 mod BackRanges
 mod BackSimple
+mod BackSimpleClear
+mod BackSimpleLexemes
+mod BackSimpleTold
 mod BackSimpleMeaning
+mod BackSimpleRules
 mod BackSimpleText
 mod SimpleDigits
 mod SimpleDrafts

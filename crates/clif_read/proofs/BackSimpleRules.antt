@@ -50,10 +50,10 @@ results_told : (n at : ℕ) → Told (Opt (Seq (one class.Arrow) g.params_rule))
 results_told zero at = told_none (Seq (one class.Arrow) g.params_rule) g.results_count
 results_told (suc n) at = told_some g.results_count (told_seq (λ (x : Unit {0}) (k : ℕ). k) (arrow_told (at + 1)) (type_count n (at + 1 + 2 + 1)))
 
-abbrev counts : Value g.signature_rule → ℕ × ℕ
+abbrev pub counts : Value g.signature_rule → ℕ × ℕ
 counts v = (g.params_count v.1.0, g.results_count v.1.1.1.0)
 
-signature_told : (f : OneBlock) (at : ℕ) → Told g.signature_rule counts (f.params, f.results) (s_at at (text.signature (signature f)))
+pub signature_told : (f : OneBlock) (at : ℕ) → Told g.signature_rule counts (f.params, f.results) (s_at at (text.signature (signature f)))
 signature_told f at =
     let p = separated text.parameter (replicate f.params i64_param) in
     let r = text.signature_results (replicate f.results i64_param) in
@@ -83,7 +83,7 @@ map_same : (vs : List ℕ) → map (λ (v : ℕ). v) vs ≡ vs
 map_same [] = refl
 map_same (v ∷ vs) = ap (λ (z : List ℕ). v ∷ z) (map_same vs)
 
-params_told : (vs : List ℕ) (at : ℕ) → list_all small vs ≡ true → Told (Opt g.block_params_rule) g.block_params vs (s_at at (written_params vs))
+pub params_told : (vs : List ℕ) (at : ℕ) → list_all small vs ≡ true → Told (Opt g.block_params_rule) g.block_params vs (s_at at (written_params vs))
 params_told [] at h = told_none g.block_params_rule g.block_params
 params_told (v ∷ vs) at h =
     let p = separated param_text (v ∷ vs) in
@@ -103,7 +103,7 @@ operands_told (v ∷ vs) at h =
     let list = separated_told (one class.Value) (λ (l : Lexeme). l.number) value_text (λ (v : ℕ). v) v vs (at + 1) (all_values (v ∷ vs) h) in
     record { tree = Some list.tree; derived = list.derived; says = list.says ∙ ap (λ (z : List ℕ). v ∷ z) (map_same vs) }
 
-return_told : (vs : List ℕ) (at : ℕ) → list_all small vs ≡ true → Told g.return_rule (λ v. g.value_list v.1) vs (s_at at (written_return vs))
+pub return_told : (vs : List ℕ) (at : ℕ) → list_all small vs ≡ true → Told g.return_rule (λ v. g.value_list v.1) vs (s_at at (written_return vs))
 return_told vs at h =
     let at1 = at + 4 + 0 + 0 in
     let at2 = at1 + 6 in

@@ -6,10 +6,14 @@ mod BackPieces
 mod BackRanges
 mod BackSimple
 mod BackSimpleClear
+mod BackSimpleFunctions
 mod BackSimpleLexemes
 mod BackSimpleTold
+mod BackSimpleWhole
 mod BackSimpleMeaning
+mod BackSimpleNames
 mod BackSimpleRules
+mod BackSimpleSmall
 mod BackSimpleText
 mod SimpleDigits
 mod SimpleDrafts

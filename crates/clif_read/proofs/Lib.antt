@@ -8,13 +8,14 @@ mod BackSimple
 mod BackSimpleClear
 mod BackSimpleFunctions
 mod BackSimpleLexemes
-mod BackSimpleTold
-mod BackSimpleWhole
 mod BackSimpleMeaning
 mod BackSimpleNames
 mod BackSimpleRules
 mod BackSimpleSmall
 mod BackSimpleText
+mod BackSimpleTold
+mod BackSimpleWhole
+mod Examples
 mod SimpleDigits
 mod SimpleDrafts
 mod SimpleLoops

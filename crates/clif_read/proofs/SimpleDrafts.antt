@@ -1,5 +1,5 @@
 -- The numbers of values, and functions of one block while they are built.
-use Rattle.std.proofs.Common.{◌≡◌, ℕ, zero, suc, ◌+◌, ◌<◌, ◌≤◌, Bool, true, false, not, ◌&&◌, List, [], ◌∷◌, ◌++◌, map, length, length-append, drop, get_or, leb-true, Option, Some, None, refl, sym, ap, ap₂, subst, ◌∙◌, arith, inl, inr, append_assoc}
+use Rattle.std.proofs.Common.{◌≡◌, ℕ, suc, ◌+◌, ◌<◌, ◌≤◌, Bool, true, false, not, ◌&&◌, List, [], ◌∷◌, ◌++◌, map, length, length-append, drop, get_or, leb-true, Option, Some, None, refl, sym, ap, ap₂, subst, ◌∙◌, arith, inl, inr, append_assoc}
 use Rattle.std.specs.Prelude.{nat_eq, nat_le, position, is_some, unwrap_or}
 use Rattle.std.specs.List.{enumerate_from, list_all}
 use Rattle.std.proofs.lemmas.List.{append-nil, map-append, length-map, length-drop, at_drop_more}
@@ -20,7 +20,7 @@ use Rattle.ir_core.specs.Sound.{LineInRange, Counts, IsWhole}
 use Rattle.clif_read.specs.declared.simple.written.Computation.{Computation}
 use Rattle.clif_read.specs.declared.simple.written.Computation.TheVariants.{Iconst, Iadd}
 use Rattle.clif_read.specs.declared.simple.written.Assignment.{Assignment}
-use Rattle.clif_read.specs.SimpleModule.{typed, numbers, number, is_defined, result_of, line_sizes, size, most_size, may_compute, instruction, controlling, params_differ, lines_fit, line_fits, lines_after, line_after, return_line, of_one_block}
+use Rattle.clif_read.specs.SimpleModule.{typed, numbers, number, is_defined, result_of, line_sizes, size, most_size, may_compute, instruction, controlling, params_differ, line_after, return_line, of_one_block}
 use Rattle.clif_read.specs.SimpleGrammar.{OneBlock}
 use Rattle.clif_read.specs.SimpleDrafts.{drafted, IsDraft, parameters_alone}
 

@@ -1,5 +1,5 @@
 -- Each reading is its rule's.
-use Rattle.std.proofs.Common.{◌≡◌, ℕ, ◌+◌, cond, List, [], ◌∷◌, ◌++◌, map, length, Option, Some, None, refl, sym, ap, ◌∙◌, inl, inr}
+use Rattle.std.proofs.Common.{ℕ, ◌+◌, List, [], ◌∷◌, ◌++◌, map, length, Some, ap, ◌∙◌}
 use Rattle.std.proofs.lemmas.List.{length-map}
 use Rattle.grammar.specs.Rules.{Lexeme, Rule, Tok, Seq, Opt, Many, Value, heads, firsts}
 use Rattle.clif_read.specs.declared.simple.written.Assignment.{Assignment}

@@ -1,5 +1,5 @@
 -- What a rule's reading gives, seen as the values that the code makes.
-use Rattle.std.proofs.Common.{◌≡◌, ℕ, zero, suc, true, false, cond, ◌==◌, List, [], ◌∷◌, map, length, Option, Some, None, Result, Ok, Err, refl, sym, ap, ◌∙◌, inl, inr}
+use Rattle.std.proofs.Common.{◌≡◌, ℕ, zero, suc, true, false, cond, ◌==◌, List, [], ◌∷◌, map, length, Option, Some, None, Ok, Err, refl, sym, ap, ◌∙◌, inl, inr}
 use Rattle.grammar.specs.Rules.{Lexeme, Rule, Tok, Seq, Alt, Opt, Many, Value, heads, firsts, repeat, Syntax}
 use Rattle.grammar.specs.Rules as rules
 use Rattle.clif_read.specs.SimpleReading.{Out, token, each, ◌>>=◌}

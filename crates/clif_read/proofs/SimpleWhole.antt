@@ -1,5 +1,5 @@
 -- Reading all functions, in the words of the grammar.
-use Rattle.std.proofs.Common.{◌≡◌, ℕ, ◌<◌, Bool, true, false, cond, List, [], ◌∷◌, ◌++◌, map, length, drop, Option, Some, None, Result, Ok, Err, refl, sym, ap, subst, ◌∙◌}
+use Rattle.std.proofs.Common.{◌≡◌, ℕ, ◌<◌, Bool, true, false, cond, List, [], ◌∷◌, ◌++◌, map, length, Option, Some, None, Result, Ok, Err, refl, sym, ap, subst, ◌∙◌}
 use Rattle.std.specs.Prelude.{is_some, MatchOption, IfOk, IfErr}
 use Rattle.std.proofs.lemmas.List.{append-nil}
 use Rattle.grammar.specs.Rules.{Lexeme, Value, Derives, heads, heads_any}
@@ -13,7 +13,7 @@ use Rattle.clif_read.specs.declared.simple.lexemes.Class.TheVariants as class
 use Rattle.clif_read.specs.declared.simple.lexemes.Item.{Item}
 use Rattle.clif_read.specs.SimpleGrammar.{OneBlock, module_rule}
 use Rattle.clif_read.specs.SimpleModule.{Means, functions, functions_fit, may_follow, meaning}
-use Rattle.clif_read.specs.SimpleReading.{Out, Gives, Fails, each, only, with_front, finish, function_at, module_at, ◌>>=◌}
+use Rattle.clif_read.specs.SimpleReading.{Out, Gives, Fails, each, only, with_front, finish, function_at, module_at}
 use Rattle.clif_read.specs.SimpleWords.{lexemes, lexeme_of}
 use Rattle.clif_read.proofs.SimpleLoops.{Keeps, goes_on, no_front}
 use Rattle.clif_read.proofs.SimpleNames.{fit_fails}

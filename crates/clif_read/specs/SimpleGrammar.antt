@@ -1,8 +1,8 @@
 -- The grammar of simple texts, and what their trees say. A simple text is the part of CLIF that has functions of one block
 -- over `i64`, with `iconst`, `iadd` and a `return` at the end; its rules are those of CLIF's grammar, each cut down to this part.
-use Rattle.std.specs.Prelude.{ℕ, ◌+◌, List, [], ◌∷◌, map, length, Option, Some, None, ◌⊎◌}
+use Rattle.std.specs.Prelude.{ℕ, ◌+◌, List, [], ◌∷◌, map, length, Some, None}
 use Rattle.std.proofs.Common.{inl, inr}
-use Rattle.grammar.specs.Rules.{Lexeme, Rule, Tok, Seq, Alt, Opt, Many, Value}
+use Rattle.grammar.specs.Rules.{Rule, Tok, Seq, Alt, Opt, Many, Value}
 use Rattle.clif_read.specs.declared.simple.lexemes.Class.{Class}
 use Rattle.clif_read.specs.declared.simple.lexemes.Class.TheVariants as class
 use Rattle.clif_read.specs.declared.simple.written.Assignment.{Assignment}

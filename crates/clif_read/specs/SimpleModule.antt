@@ -1,6 +1,6 @@
 -- Which texts of the grammar are simple texts, and the module that each means. Values are numbered from 0 in order of
 -- definition, the block's parameters first; the block has the number 0.
-use Rattle.std.specs.Prelude.{◌≡◌, ℕ, ◌+◌, Bool, true, not, ◌&&◌, ◌==◌, nat_eq, nat_le, List, [], ◌∷◌, ◌++◌, map, length, replicate, position, unwrap_or, is_some, Option, Some, None, Ok, codes}
+use Rattle.std.specs.Prelude.{◌≡◌, ℕ, ◌+◌, Bool, true, not, ◌&&◌, ◌==◌, nat_eq, nat_le, List, [], ◌∷◌, ◌++◌, map, length, replicate, position, unwrap_or, is_some, Option, Some, None}
 use Rattle.std.specs.List.{list_all, list_any, enumerate_from}
 use Rattle.clk_num.specs.Numbers.{fits, wrapped}
 use Rattle.clk_num.specs.declared.op.Op.TheVariants as op
@@ -15,9 +15,9 @@ use Rattle.ir_core.specs.declared.signatures.Ext.TheVariants as ext
 use Rattle.ir_core.specs.declared.signatures.Purpose.TheVariants.{Normal}
 use Rattle.ir_core.specs.declared.signatures.Param.{Param}
 use Rattle.ir_core.specs.declared.signatures.Sig.{Sig}
-use Rattle.ir_core.specs.Module.{Instruction, Plain, Const, Pure, Return, Line, Block, Function, Module}
+use Rattle.ir_core.specs.Module.{Instruction, Plain, Const, Pure, Return, Line, Function, Module}
 use Rattle.ir_core.specs.Lookup.{same_bytes}
-use Rattle.grammar.specs.Rules.{Lexeme, Value, Derives}
+use Rattle.grammar.specs.Rules.{Value, Derives}
 use Rattle.clif_read.specs.declared.simple.written.Assignment.{Assignment}
 use Rattle.clif_read.specs.declared.simple.written.Computation.{Computation}
 use Rattle.clif_read.specs.declared.simple.written.Computation.TheVariants.{Iconst, Iadd}

@@ -1,12 +1,11 @@
-use Rattle.std.proofs.Common.{◌∷◌, [], ◌++◌, true, map, sym, ap, subst, ◌≡◌, ◌∙◌}
+use Rattle.std.proofs.Common.{◌∷◌, [], ◌++◌, sym, ap, ◌∙◌}
 use Rattle.std.proofs.lemmas.Result.{err_from_is_err_and}
 use Rattle.std.proofs.lemmas.List.{map-append}
 use Rattle.ir_core.specs.Module.{Module}
 use Rattle.clif_read.specs.declared.simple.lexemes.Class.TheVariants as class
-use Rattle.clif_read.specs.declared.simple.errors.SimpleErr.{SimpleErr}
 use Rattle.clif_read.specs.SimpleModule.{meaning}
 use Rattle.clif_read.specs.SimpleAdding.{may_add}
-use Rattle.clif_read.specs.SimpleReading.{Fails, after, only, with_front, finish, function_at, one_block}
+use Rattle.clif_read.specs.SimpleReading.{after, only, with_front, function_at, one_block}
 use Rattle.clif_read.proofs.SimpleLoops.{goes_on, fails, is_done}
 use Rattle.clif_read.proofs.SimpleNames.{may_add_is, fit_push}
 use Rattle.clif_read.proofs.SimpleWhole.{read_all, module_is, fails_finish, refused, some_is_left, none_is_left, more_is_none, all_is_some}

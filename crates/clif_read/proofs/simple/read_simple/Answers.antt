@@ -1,4 +1,3 @@
-use Rattle.std.proofs.Common.{◌≡◌, ap, sym, ◌∙◌}
 use Rattle.clif_read.specs.SimpleWords.{rest}
 use Rattle.clif_read.proofs.SimpleWhole.{found, is_only, not_simple}
 use Rattle.clif_read.proofs.simple.read_simple.Goals as goal

@@ -1,5 +1,4 @@
 use Rattle.std.proofs.Common.{◌≡◌, ◌∷◌, [], List, ℕ, length, ap, ◌∙◌, sym, subst, inl, inr}
-use Rattle.ir_core.specs.Module.{Line}
 use Rattle.ir_core.specs.Lists.{In}
 use Rattle.ir_core.specs.Edits.{lines_of, params_of}
 use Rattle.ir_core.specs.Sound.{LineInRange, counts_of}

@@ -1,4 +1,4 @@
-use Rattle.std.proofs.Common.{◌++◌, map, length, length-append, arith, ap}
+use Rattle.std.proofs.Common.{map, length, length-append, arith, ap}
 use Rattle.std.proofs.lemmas.List.{length-map}
 use Rattle.clif_read.specs.SimpleModule.{result_of}
 use Rattle.clif_read.specs.SimpleReading.{one_block}

@@ -1,4 +1,4 @@
-use Rattle.std.proofs.Common.{◌∷◌, [], ◌≤◌, length}
+use Rattle.std.proofs.Common.{[], ◌≤◌, length}
 use Rattle.clif_read.specs.declared.simple.lexemes.Class.TheVariants as class
 use Rattle.clif_read.specs.SimpleReading.{after, each, only, with_front, line_at}
 use Rattle.clif_read.proofs.SimpleLoops.{Keeps}

@@ -1,4 +1,4 @@
-use Rattle.std.proofs.Common.{◌≡◌, ◌∷◌, [], ◌≤◌, ◌+◌, List, length}
+use Rattle.std.proofs.Common.{◌≡◌, [], ◌≤◌, ◌+◌, List, length}
 use Rattle.grammar.specs.Rules.{Lexeme}
 use Rattle.clif_read.specs.declared.simple.lexemes.Class.TheVariants as class
 use Rattle.clif_read.specs.SimpleReading.{after, each, only, with_front, comma_type_at}

@@ -1,9 +1,4 @@
 use Rattle.std.proofs.Common.{get_or, refl}
-use Rattle.std.proofs.lemmas.Grind.{common_steps}
-use Rattle.std.proofs.lemmas.List.{at_drop_more}
-use Rattle.std.specs.Char.{digit_value}
-use Rattle.std.specs.Str.Parse.{digits_value_after}
-use Rattle.clif_read.specs.SimpleWords.{entity_number}
 use Rattle.clif_read.proofs.SimpleDigits.{too_large}
 use Rattle.clif_read.proofs.simple.lexemes.entity_number.Goals as goal
 

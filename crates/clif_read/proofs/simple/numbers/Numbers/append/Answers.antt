@@ -1,4 +1,4 @@
-use Rattle.std.proofs.Common.{◌≡◌, ◌++◌, ◌∷◌, [], length, nat_eq, position, ℕ, ◌+◌, ◌∙◌}
+use Rattle.std.proofs.Common.{◌≡◌, length, nat_eq, ℕ, ◌∙◌}
 use Rattle.indexmap.specs.IndexMap.{get}
 use Rattle.clif_read.specs.SimpleNumbers as spec
 use Rattle.clif_read.proofs.SimpleRight.{near_written, far_written}

@@ -129,7 +129,7 @@ tri_up a zero h = absurd (omega arith)
 tri_up a (suc b) h =
     elim (cases_eq a b) [ inl q ↦ let e : triangle a ≡ triangle b = ap triangle q in omega (arith, e, q) | inr q ↦ let r : a < b = omega arith in omega (arith, tri_up a b r) ]
 
-pair_same : (c j b k : ℕ) → pair c j ≡ pair b k → (c ≡ b) × (j ≡ k)
+pub pair_same : (c j b k : ℕ) → pair c j ≡ pair b k → (c ≡ b) × (j ≡ k)
 pair_same c j b k h =
     elim (cases_eq (c + j) (b + k)) [
       | inl q ↦ let e : triangle (c + j) ≡ triangle (b + k) = ap triangle q in let e2 : j ≡ k = omega (arith, h, e) in (omega (arith, q, e2), e2)

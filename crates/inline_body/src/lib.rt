@@ -3,6 +3,10 @@
 
 ghost use Rattle.inline_body.specs.Laws.{NumberingKeeps, NumberingKeepsRuns, SpliceKeeps, SpliceKeepsRuns};
 
+mod acceptance;
+
+pub use acceptance::splice_stays_accepted;
+
 /// A direct call of any kind, replaced by the body of its callee, keeps every outcome of a run that lacks nothing and reads
 /// no unwritten byte of a slot, with at most twice as many steps.
 

@@ -23,28 +23,28 @@ use Rattle.inline_pass.specs.Pass.{finish, pass_by, pass}
 use Rattle.inline_pass.specs.Laws.{PassKeepsRuns, PassKeeps}
 
 -- what an optional step found
-then_some : {A B : Type 0} (o : Option A) (go : A → Option B) (b : B) → and_then o go ≡ Some b → (a : A) × (o ≡ Some a) × (go a ≡ Some b)
+pub then_some : {A B : Type 0} (o : Option A) (go : A → Option B) (b : B) → and_then o go ≡ Some b → (a : A) × (o ≡ Some a) × (go a ≡ Some b)
 then_some None go b h = cc
 then_some (Some a) go b h = (a, refl, h)
 
-cut_list : (ls : List Line) (i : ℕ) (l : Line) → slice_get ls i ≡ Some l → ls ≡ take i ls ++ (l ∷ drop (suc i) ls)
+pub cut_list : (ls : List Line) (i : ℕ) (l : Line) → slice_get ls i ≡ Some l → ls ≡ take i ls ++ (l ∷ drop (suc i) ls)
 cut_list [] i l h = cc
 cut_list (x ∷ ls) zero l h = ap (λ z. z ∷ ls) (some_same h)
 cut_list (x ∷ ls) (suc i) l h = ap (λ z. x ∷ z) (cut_list ls i l h)
 
 -- the place of a call
-record Found (b : Function) (at i : ℕ) (x : FuncName) : Type 0 where
-  block : Block
-  line : Line
-  index : ℕ
-  callee : Callee
-  found : find_block at b.blocks ≡ Some block
-  get : slice_get block.lines i ≡ Some line
-  is : callee_of line.inst ≡ Some index
-  has : slice_get b.callees index ≡ Some callee
-  name : callee.name ≡ x
+pub record Found (b : Function) (at i : ℕ) (x : FuncName) : Type 0 where
+  pub block : Block
+  pub line : Line
+  pub index : ℕ
+  pub callee : Callee
+  pub found : find_block at b.blocks ≡ Some block
+  pub get : slice_get block.lines i ≡ Some line
+  pub is : callee_of line.inst ≡ Some index
+  pub has : slice_get b.callees index ≡ Some callee
+  pub name : callee.name ≡ x
 
-found : (b : Function) (at i : ℕ) (x : FuncName) → called b at i ≡ Some x → Found b at i x
+pub found : (b : Function) (at i : ℕ) (x : FuncName) → called b at i ≡ Some x → Found b at i x
 found b at i x h =
     let p = then_some (find_block at b.blocks) (λ k. and_then (slice_get k.lines i) (λ l. and_then (callee_of l.inst) (λ j. and_then (slice_get b.callees j) (λ c. Some c.name)))) x h in
     let q = then_some (slice_get p.0.lines i) (λ l. and_then (callee_of l.inst) (λ j. and_then (slice_get b.callees j) (λ c. Some c.name))) x p.2 in
@@ -53,11 +53,13 @@ found b at i x h =
     record { block = p.0; line = q.0; index = r.0; callee = s.0; found = p.1; get = q.1; is = r.1; has = s.1; name = some_same {x = s.0.name} s.2 }
 
 -- the splice there
-at_place : (b g : Function) (at i : ℕ) (x : FuncName) → Found b at i x → Splicing
+abbrev pub at_place : (b g : Function) (at i : ℕ) (x : FuncName) → Found b at i x → Splicing
 at_place b g at i x h = record { naming = sides; caller = b; callee = g; at = at; before = take i h.block.lines; site = h.line; behind = drop (suc i) h.block.lines }
 
-site_of : (c : Module) (b g : Function) (at i : ℕ) (x : FuncName) → find_function b.name c ≡ Some b → find_function x c ≡ Some g → (h : Found b at i x) → Site c (at_place b g at i x h)
-unfolding at_place
+pub place_naming : (b g : Function) (at i : ℕ) (x : FuncName) (h : Found b at i x) → (at_place b g at i x h).naming ≡ sides
+place_naming b g at i x h = refl
+
+pub site_of : (c : Module) (b g : Function) (at i : ℕ) (x : FuncName) → find_function b.name c ≡ Some b → find_function x c ≡ Some g → (h : Found b at i x) → Site c (at_place b g at i x h)
 site_of c b g at i x there gone h =
     record {
       block = h.block;
@@ -71,30 +73,27 @@ site_of c b g at i x there gone h =
       callee_found = ap (λ z. find_function z c) h.name ∙ gone;
     }
 
-splice_is : (b g : Function) (at i : ℕ) (x : FuncName) (h : Found b at i x) → splice_with sides b at i g ≡ spliced (at_place b g at i x h)
-unfolding at_place
+pub splice_is : (b g : Function) (at i : ℕ) (x : FuncName) (h : Found b at i x) → splice_with sides b at i g ≡ spliced (at_place b g at i x h)
 splice_is b g at i x h =
     ap (λ o. elim o as (λ z. Function) [ None ↦ b | Some k ↦ elim (slice_get k.lines i) as (λ z. Function) [ None ↦ b | Some l ↦ spliced (record { naming = sides; caller = b; callee = g; at = at; before = take i k.lines; site = l; behind = drop (suc i) k.lines }) ] ]) h.found ∙ ap (λ o. elim o as (λ z. Function) [ None ↦ b | Some l ↦ spliced (record { naming = sides; caller = b; callee = g; at = at; before = take i h.block.lines; site = l; behind = drop (suc i) h.block.lines }) ]) h.get
 
 -- a splice keeps runs
 splice_kept : (c : Module) (b g : Function) (at i : ℕ) (x : FuncName) → find_function b.name c ≡ Some b → find_function x c ≡ Some g → (h : Found b at i x) → RunsKept c (replace (splice_with sides b at i g) c)
-unfolding at_place
 splice_kept c b g at i x there gone h =
     subst (λ z. RunsKept c (replace z c)) (sym (splice_is b g at i x h)) (runs_kept c (replace (spliced (at_place b g at i x h)) c) (splice_runs c (at_place b g at i x h) distinct_sides (site_of c b g at i x there gone h)))
 
-spliced_name : (b g : Function) (at i : ℕ) (x : FuncName) → Found b at i x → (splice_with sides b at i g).name ≡ b.name
-unfolding at_place
+pub spliced_name : (b g : Function) (at i : ℕ) (x : FuncName) → Found b at i x → (splice_with sides b at i g).name ≡ b.name
 spliced_name b g at i x h = ap (λ z. z.name) (splice_is b g at i x h)
 
 -- replacing twice, and by itself
 
-replace_hit : (b j : Function) (js : Module) → j.name ≡ b.name → replace b (j ∷ js) ≡ b ∷ js
+pub replace_hit : (b j : Function) (js : Module) → j.name ≡ b.name → replace b (j ∷ js) ≡ b ∷ js
 replace_hit b j js q = ap (λ c. if c then b ∷ js else j ∷ replace b js) (equal_name j.name b.name q)
 
-replace_skip : (b j : Function) (js : Module) → same_name j.name b.name ≡ false → replace b (j ∷ js) ≡ j ∷ replace b js
+pub replace_skip : (b j : Function) (js : Module) → same_name j.name b.name ≡ false → replace b (j ∷ js) ≡ j ∷ replace b js
 replace_skip b j js q = ap (λ c. if c then b ∷ js else j ∷ replace b js) q
 
-replace_twice : (a b : Function) (m : Module) → a.name ≡ b.name → replace b (replace a m) ≡ replace b m
+pub replace_twice : (a b : Function) (m : Module) → a.name ≡ b.name → replace b (replace a m) ≡ replace b m
 replace_twice a b [] h = refl
 replace_twice a b (k ∷ m) h =
     elim (cases_named k.name a.name) [
@@ -102,7 +101,7 @@ replace_twice a b (k ∷ m) h =
       | inr q ↦ ap (replace b) (replace_skip a k m q) ∙ replace_skip b k (replace a m) (ap (same_name k.name) (sym h) ∙ q) ∙ ap (λ z. k ∷ z) (replace_twice a b m h) ∙ sym (replace_skip b k m (ap (same_name k.name) (sym h) ∙ q))
     ]
 
-replace_self : (f : Function) (m : Module) → find_function f.name m ≡ Some f → replace f m ≡ m
+pub replace_self : (f : Function) (m : Module) → find_function f.name m ≡ Some f → replace f m ≡ m
 replace_self f [] h = refl
 replace_self f (k ∷ m) h =
     elim (cases_named k.name f.name) [
@@ -111,7 +110,7 @@ replace_self f (k ∷ m) h =
     ]
 
 -- no function is apart from itself
-apart_self : (m : Module) (x y : FuncName) → apart m x y ≡ true → x ≡ y → ⊥
+pub apart_self : (m : Module) (x y : FuncName) → apart m x y ≡ true → x ≡ y → ⊥
 apart_self m x y h q =
     let e : one_piece m x y ≡ true = ap (λ z. z || (reaches m x y && reaches m y x)) (equal_name x y q) in
     let e2 : false ≡ true = sym (ap not e) ∙ h in

@@ -1,6 +1,7 @@
 pub mod Acceptance
 pub mod Adding
 pub mod Changing
+pub mod Copying
 pub mod Counting
 pub mod Equal
 pub mod Indexing

@@ -1,4 +1,5 @@
 pub mod Accepted
+pub mod Alike
 pub mod Available
 pub mod Canon
 pub mod Edits

@@ -3,6 +3,7 @@
 //! Contracts see a function as lists over natural numbers (`specs/Module.antt`).
 #![tactic(auto)]
 
+mod copies;
 mod declarations;
 mod func;
 mod instructions;
@@ -15,6 +16,8 @@ mod places;
 mod room;
 mod signatures;
 mod size;
+#[cfg(test)]
+mod tests;
 
 pub use declarations::{Callee, SlotDecl};
 pub use func::{Blocks, Func, Insts};

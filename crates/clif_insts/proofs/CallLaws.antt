@@ -1,20 +1,18 @@
 -- Each form is read as its rule of the grammar says.
-use Rattle.std.proofs.Common.{List, [], Option, Some, None, Ok}
-use Rattle.grammar.specs.Rules.{Lexeme, Rule, Opt, Value, Out, ◌>>=◌}
+use Rattle.std.proofs.Common.{[], None, Ok}
+use Rattle.grammar.specs.Rules.{Opt, ◌>>=◌}
 use Rattle.clif_insts.specs.declared.class.Class.TheVariants as classes
 use Rattle.clif_insts.specs.declared.parts.Place.TheVariants as places
-use Rattle.clif_insts.specs.declared.raw.RawInst.{RawInst}
 use Rattle.clif_insts.specs.declared.raw.RawOperands.TheVariants as operands
-use Rattle.clif_insts.specs.Terminals.{◌then◌, signed, value, comma, condition, slot, sig, callee, iconst, binary, unary, icmp, select, convert, binary_imm, icmp_imm, load, load_wide, store, stack_load, stack_store, func_addr, nullary, jump, brif, br_table, return_word, trap, trap_if, call, try_call, call_indirect, try_call_indirect}
-use Rattle.clif_insts.specs.Grammar.{commas, number, suffix, suffix_i64, any_trap, flags, target, normal_target, table, args, target_list}
+use Rattle.clif_insts.specs.Terminals.{◌then◌, value, comma, sig, callee, br_table, return_word, trap, trap_if, call, try_call, call_indirect, try_call_indirect}
+use Rattle.clif_insts.specs.Grammar.{suffix, suffix_i64, any_trap, target, normal_target, table, args, target_list}
 use Rattle.clif_insts.specs.Reading.{name, name_at}
-use Rattle.clif_insts.specs.Parts.{suffix_at, opt_suffix_at, suffix_i64_at, opt_suffix_i64_at, condition_at, trap_at, number_at, offset_at, flags_at, args_at, target_at, target_list_at, table_at}
-use Rattle.clif_insts.specs.Values.{perhaps, commas_value, suffix_value, opt_suffix_value, number_value, offset_value, condition_value, trap_value, args_value, flags_value, branch_value, normal_value, target_list_value, table_value}
+use Rattle.clif_insts.specs.Parts.{opt_suffix_at, opt_suffix_i64_at, trap_at, args_at, target_at, target_list_at, table_at}
+use Rattle.clif_insts.specs.Values.{opt_suffix_value, trap_value, args_value, branch_value, normal_value, target_list_value, table_value}
 use Rattle.clif_insts.specs.InstValues.{raw, br_table_value, return_inst_value, trap_inst_value, trap_if_value, call_value, try_call_value, call_indirect_value, try_call_indirect_value}
 use Rattle.clif_insts.specs.Forms.{br_table_at, return_inst_at, trap_inst_at, trap_if_at, call_at, try_call_at, call_indirect_at, try_call_indirect_at}
 use Rattle.clif_insts.proofs.Seen.{Is, then_is, map_is, name_is}
-use Rattle.clif_insts.proofs.PartLaws.{i64_value, opt_i64_value, suffix_is, opt_suffix_is, suffix_i64_is, opt_suffix_i64_is, condition_is, trap_is, number_is, offset_is, args_is, branch_is, normal_is, target_list_is, table_is}
-use Rattle.clif_insts.proofs.FlagLaws.{flags_is}
+use Rattle.clif_insts.proofs.PartLaws.{opt_suffix_is, opt_suffix_i64_is, trap_is, args_is, branch_is, normal_is, target_list_is, table_is}
 
 pub br_table_is : Is (br_table then value then comma then target then comma then target_list) br_table_value br_table_at
 unfolding br_table_at

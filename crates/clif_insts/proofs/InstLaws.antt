@@ -1,10 +1,10 @@
 -- An instruction is read as the grammar says.
-use Rattle.std.proofs.Common.{◌≡◌, Bool, true, false, cond, List, [], ◌∷◌, Option, Some, None, Ok, Err, refl, ◌∙◌}
-use Rattle.grammar.specs.Rules.{Lexeme, Rule, Opt, Value, UnknownOpcode, Unsupported, Syntax, Kind, Out, ◌>>=◌}
+use Rattle.std.proofs.Common.{◌≡◌, Bool, true, false, cond, List, [], ◌∷◌, None, Ok, Err, refl, ◌∙◌}
+use Rattle.grammar.specs.Rules.{Lexeme, Opt, UnknownOpcode, Unsupported, Syntax, Out, ◌>>=◌}
 use Rattle.clif_insts.specs.declared.class.Class.TheVariants as classes
 use Rattle.clif_insts.specs.declared.raw.RawInst.{RawInst}
 use Rattle.clif_insts.specs.declared.raw.RawOperands.TheVariants as operands
-use Rattle.clif_insts.specs.Terminals.{◌then◌, ◌or◌, refused, words, value, return_word}
+use Rattle.clif_insts.specs.Terminals.{◌or◌, refused, words, value}
 use Rattle.clif_insts.specs.Grammar.{commas, inst, return_values, whole_inst}
 use Rattle.clif_insts.specs.Reading.{next_is, name}
 use Rattle.clif_insts.specs.Parts.{refuse}

@@ -1,5 +1,5 @@
 -- One instruction, in the words of the grammar: what reading finds, or where it stops.
-use Rattle.std.proofs.Common.{◌≡◌, ℕ, ◌≤◌, true, cond, List, [], ◌∷◌, ◌++◌, length, take, drop, None, Result, Ok, Err, refl, sym, ap, subst, ◌∙◌, inl, inr, arith, append_assoc}
+use Rattle.std.proofs.Common.{◌≡◌, ℕ, ◌≤◌, cond, List, [], ◌∷◌, ◌++◌, length, take, drop, None, Ok, Err, refl, sym, ap, subst, ◌∙◌, inl, inr, arith, append_assoc}
 use Rattle.std.proofs.lemmas.List.{append-nil}
 use Rattle.grammar.specs.Rules.{Lexeme, Rule, Value, Kind, Cut, Derives, Begins, StopsAt, Answers, Out, good, read, read_all, heads_any, ◌>>=◌}
 use Rattle.grammar.specs.Rules as rules
@@ -17,10 +17,10 @@ use Rattle.clif_insts.specs.Reading.{name, name_at, Stops}
 use Rattle.clif_insts.specs.Values.{seen}
 use Rattle.clif_insts.specs.InstValues.{raw, whole_value}
 use Rattle.clif_insts.specs.Forms.{opt_values_at, return_values_at, whole_at, one_at}
-use Rattle.clif_insts.specs.Insts.{Own, IsInst, NoMore, place_or, place_behind, Found, Missing, Stopped, error_at}
+use Rattle.clif_insts.specs.Insts.{Own, NoMore, place_or, place_behind, Found, Missing, Stopped, error_at}
 use Rattle.clif_insts.proofs.Firm.{no_text}
 use Rattle.clif_insts.proofs.InstLaws.{whole_is}
-use Rattle.clif_insts.proofs.Alone.{Alone, Whole, alone_or_whole}
+use Rattle.clif_insts.proofs.Alone.{Alone, alone_or_whole}
 
 -- ---- reading by the grammar's value
 

@@ -1,5 +1,5 @@
 -- The place of a reader's next token.
-use Rattle.std.proofs.Common.{◌≡◌, ℕ, List, [], ◌∷◌, Option, Some, None, refl}
+use Rattle.std.proofs.Common.{◌≡◌, ℕ, List, [], ◌∷◌, Some, None, refl}
 use Rattle.clif_lex.specs.declared.spans.Token.{Token}
 use Rattle.clif_insts.specs.declared.items.Meaning.{Meaning}
 use Rattle.clif_insts.specs.Lexemes.{lexemes, Upcoming}

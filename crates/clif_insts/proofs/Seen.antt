@@ -1,15 +1,12 @@
 -- What a rule's reading gives, seen as the values that the code makes. One lemma for each way to make a rule of others.
-use Rattle.std.proofs.Common.{◌≡◌, ℕ, zero, suc, Bool, true, false, cond, List, [], ◌∷◌, ◌++◌, length, map, Option, Some, None, Ok, Err, refl, sym, ap, ◌∙◌, inl, inr}
-use Rattle.grammar.specs.Rules.{Lexeme, Kind, Syntax, Rule, Empty, Tok, Seq, Alt, Opt, Many, Refuse, Value, Out, heads, member, firsts, token, read, repeat, ◌>>=◌}
+use Rattle.std.proofs.Common.{◌≡◌, ℕ, zero, suc, true, false, cond, List, [], ◌∷◌, length, map, Option, Some, None, Ok, Err, refl, sym, ap, ◌∙◌, inl, inr}
+use Rattle.grammar.specs.Rules.{Lexeme, Kind, Syntax, Rule, Tok, Seq, Alt, Opt, Many, Value, Out, heads, member, firsts, token, read, repeat, ◌>>=◌}
 use Rattle.clif_insts.specs.declared.class.Class.{Class}
-use Rattle.clif_insts.specs.declared.raw.RawName.{RawName}
-use Rattle.clif_insts.specs.declared.raw.RawNumber.{RawNumber}
 use Rattle.clif_insts.specs.Classes.{code}
 use Rattle.clif_insts.specs.Terminals.{one, refused, codes_of}
-use Rattle.clif_insts.specs.Reading.{name, amount, name_at, amount_at, each, with_front}
+use Rattle.clif_insts.specs.Reading.{name, amount, name_at, amount_at, each}
 use Rattle.clif_insts.specs.Parts.{refuse}
 use Rattle.clif_insts.specs.Values.{either, perhaps, seen}
-use Rattle.std.specs.Prelude.{◌⊎◌}
 
 -- the reading p is that of the rule r, seen through f
 pub record Is {A : Type 0} (r : Rule) (f : Value r → A) (p : List Lexeme → Out A) : Type 0 where

@@ -1,6 +1,6 @@
 -- What an instruction is, one definition a form.
 use Rattle.std.specs.Prelude.{List, [], Option, Some, None}
-use Rattle.grammar.specs.Rules.{Lexeme, Rule, Opt, Value}
+use Rattle.grammar.specs.Rules.{Rule, Opt, Value}
 use Rattle.ir_core.specs.declared.signatures.Ty.{Ty}
 use Rattle.clif_insts.specs.declared.class.Class.{Class}
 use Rattle.clif_insts.specs.declared.raw.RawName.{RawName}
@@ -8,7 +8,7 @@ use Rattle.clif_insts.specs.declared.raw.RawInst.{RawInst}
 use Rattle.clif_insts.specs.declared.raw.RawOperands.{RawOperands}
 use Rattle.clif_insts.specs.declared.raw.RawOperands.TheVariants as operands
 use Rattle.clif_insts.specs.Terminals.{◌then◌, signed, value, comma, condition, slot, sig, callee, iconst, binary, unary, icmp, select, convert, binary_imm, icmp_imm, load, load_wide, store, stack_load, stack_store, func_addr, nullary, jump, brif, br_table, return_word, trap, trap_if, call, try_call, call_indirect, try_call_indirect}
-use Rattle.clif_insts.specs.Grammar.{commas, number, suffix, suffix_i64, any_trap, flags, target, normal_target, table, args, target_list, instruction, inst, return_values, whole_inst}
+use Rattle.clif_insts.specs.Grammar.{number, suffix, suffix_i64, any_trap, flags, target, normal_target, table, args, target_list, instruction, inst, return_values, whole_inst}
 use Rattle.clif_insts.specs.Reading.{name}
 use Rattle.clif_insts.specs.Values.{◌otherwise◌, perhaps, never, commas_value, suffix_value, opt_suffix_value, number_value, offset_value, condition_value, trap_value, args_value, flags_value, branch_value, normal_value, target_list_value, table_value}
 

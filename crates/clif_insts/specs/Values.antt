@@ -5,8 +5,6 @@ use Rattle.grammar.specs.Rules.{Lexeme, Rule, Opt, Many, Value, Out}
 use Rattle.clk_num.specs.declared.op.Cc.{Cc}
 use Rattle.ir_core.specs.declared.signatures.Ty.{Ty}
 use Rattle.ir_core.specs.declared.signatures.Ty.TheVariants as ty_words
-use Rattle.clif_insts.specs.declared.class.Class.{Class}
-use Rattle.clif_insts.specs.declared.class.Class.TheVariants as classes
 use Rattle.clif_insts.specs.declared.raw.RawName.{RawName}
 use Rattle.clif_insts.specs.declared.raw.RawNumber.{RawNumber}
 use Rattle.clif_insts.specs.declared.raw.RawArg.{RawArg}
@@ -17,11 +15,8 @@ use Rattle.clif_insts.specs.declared.raw.RawFlag.{RawFlag}
 use Rattle.clif_insts.specs.declared.raw.RawFlag.TheVariants as flag_words
 use Rattle.clif_insts.specs.declared.raw.RawTrap.{RawTrap}
 use Rattle.clif_insts.specs.declared.raw.RawTrap.TheVariants as traps
-use Rattle.clif_insts.specs.declared.raw.RawInst.{RawInst}
-use Rattle.clif_insts.specs.declared.raw.RawOperands.{RawOperands}
-use Rattle.clif_insts.specs.declared.raw.RawOperands.TheVariants as operands
-use Rattle.clif_insts.specs.Terminals.{◌then◌, ◌or◌, one, value, ret, exn, ty_i64, big, little, signed}
-use Rattle.clif_insts.specs.Grammar.{commas, number, refused_type, any_type, suffix, suffix_i64, any_trap, plain_flag, flags, call_to, target, normal_target, handler, entry_name, entry, table, args, target_list}
+use Rattle.clif_insts.specs.Terminals.{◌then◌, ◌or◌, value, ret, exn, big, little, signed}
+use Rattle.clif_insts.specs.Grammar.{commas, number, any_type, suffix, any_trap, plain_flag, flags, call_to, target, normal_target, handler, entry_name, entry, table, args, target_list}
 use Rattle.clif_insts.specs.Reading.{name, amount}
 use Rattle.clif_insts.specs.Parts.{type_of, condition_of, trap_of, flag_of}
 

@@ -1,6 +1,5 @@
-use Rattle.std.proofs.Common.{◌≡◌, drop, length, sym, ◌∙◌}
+use Rattle.std.proofs.Common.{drop, length}
 use Rattle.clif_insts.specs.Lexemes.{lexemes}
-use Rattle.clif_insts.specs.Insts.{Stopped}
 use Rattle.clif_insts.proofs.One.{found_at, stopped_at}
 use Rattle.clif_insts.proofs.insts.inst.Goals as goal
 

@@ -11,6 +11,8 @@ mod parts;
 mod raw;
 mod reader;
 mod stop;
+#[cfg(test)]
+mod tests;
 mod words;
 
 pub use class::Class;

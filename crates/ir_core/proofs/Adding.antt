@@ -1,16 +1,14 @@
 -- What the adding calls make of the fields.
-use Rattle.std.proofs.Common.{◌≡◌, ℕ, ◌+◌, ◌-◌, ◌<◌, ◌≤◌, ◌^◌, List, [], ◌∷◌, ◌++◌, map, length, get_or, Option, Some, None, refl, sym, ap, ap₂, ◌∙◌, subst, arith}
+use Rattle.std.proofs.Common.{◌≡◌, ℕ, ◌+◌, ◌<◌, List, [], ◌∷◌, ◌++◌, length, get_or, Some, sym, ap, ◌∙◌, subst}
 use Rattle.std.specs.Prelude.{slice_get, Result, Ok, Err, OnErr}
 use Rattle.std.proofs.Math.ListN.{set}
-use Rattle.ir_core.specs.Module.{Block, Function}
 use Rattle.ir_core.specs.Lookup.{definitions, block_numbers}
-use Rattle.ir_core.specs.declared.instructions.InstData.{InstData}
 use Rattle.ir_core.specs.declared.func.BlockData.{BlockData}
 use Rattle.ir_core.specs.declared.func.Func.TheInside.{Inside}
 use Rattle.ir_core.specs.Lists.{In}
 use Rattle.ir_core.specs.Sound.{IsSound}
 use Rattle.ir_core.specs.Edits.{Body, at_block, put_param}
-use Rattle.ir_core.specs.Layout.{order, blocks_in, Laid, IsLaidOut, body_of, function_of}
+use Rattle.ir_core.specs.Layout.{blocks_in, Laid, IsLaidOut, body_of, function_of}
 use Rattle.ir_core.proofs.Keeping.{with_blocks, sound_param, length_param}
 use Rattle.ir_core.proofs.Changing.{found, param_laid, param_blocks, held_laid, held_blocks}
 
@@ -24,9 +22,10 @@ module _ (s : Inside) (w : Body) (laid : IsLaidOut s) (is : body_of s ≡ w) (a 
 
   module _ (params : k'.params.items ≡ k.params.items) where
     pub held_invariant : (bs : List BlockData) → bs ≡ set s.blocks.items a k' → Laid s.insts.items bs s.first s.last × (blocks_in s.insts.items bs s.first ≡ (function_of s).blocks)
-    held_invariant bs e =
-        (subst (λ z. Laid s.insts.items z s.first s.last) (sym e) (held_laid s.insts.items s.blocks.items s.first s.last a k k' laid.laid old start len cap next params),
-        ap (λ z. blocks_in s.insts.items z s.first) e ∙ held_blocks s.insts.items s.blocks.items s.first s.last a k k' laid.laid old start len cap next params)
+    held_invariant bs e = (
+      subst (λ z. Laid s.insts.items z s.first s.last) (sym e) (held_laid s.insts.items s.blocks.items s.first s.last a k k' laid.laid old start len cap next params),
+      ap (λ z. blocks_in s.insts.items z s.first) e ∙ held_blocks s.insts.items s.blocks.items s.first s.last a k k' laid.laid old start len cap next params,
+    )
 
   module _ (params : k'.params.items ≡ k.params.items ++ (v ∷ [])) (declared : v < length w.function.types) (undefined : In v (definitions w.function.blocks) → ⊥) where
     pub param_put : blocks_in s.insts.items (set s.blocks.items a k') s.first ≡ at_block a (put_param v) (function_of s).blocks

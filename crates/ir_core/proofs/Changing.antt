@@ -1,10 +1,10 @@
 -- A block's range changed.
 use Rattle.std.proofs.Common.{◌≡◌, ℕ, zero, suc, ◌+◌, ◌-◌, ◌<◌, ◌≤◌, ◌⊎◌, inl, inr, List, [], ◌∷◌, ◌++◌, map, length, take, drop, get_or, Option, Some, None, refl, sym, ap, ap₂, ◌∙◌, subst, arith, eq-eqb, ne_eqb, length-append}
-use Rattle.std.specs.Prelude.{slice_get, if◌then◌else◌, nat_eq, Result, IsOk, is_ok}
+use Rattle.std.specs.Prelude.{slice_get, if◌then◌else◌, Result, IsOk, is_ok}
 use Rattle.std.proofs.lemmas.Bool.{cases_eq}
 use Rattle.std.proofs.Math.ListN.{set}
 use Rattle.std.proofs.lemmas.Option.{slice_get_within, slice_get_read}
-use Rattle.ir_core.specs.Module.{Block, Line, Function}
+use Rattle.ir_core.specs.Module.{Block, Line}
 use Rattle.ir_core.specs.Lookup.{block_numbers}
 use Rattle.ir_core.specs.declared.instructions.InstData.{InstData}
 use Rattle.ir_core.specs.declared.func.BlockData.{BlockData}
@@ -12,7 +12,7 @@ use Rattle.ir_core.specs.declared.func.Func.TheInside.{Inside}
 use Rattle.ir_core.specs.Lists.{In, Different}
 use Rattle.ir_core.specs.Viewed.{line_of}
 use Rattle.ir_core.specs.Edits.{Body, at_block, put_param, put_line, but_last, change_last, with_lines, lines_of, params_of, first_number, number_after}
-use Rattle.ir_core.specs.Layout.{walk, Linked, nexts, range, params_at, lines_at, block_by, block_at, order, Apart, Laid, IsLaidOut, body_of, function_of, last_of}
+use Rattle.ir_core.specs.Layout.{walk, Linked, nexts, range, params_at, lines_at, block_by, block_at, order, Apart, Laid, IsLaidOut, body_of, last_of}
 use Rattle.ir_core.proofs.Ranges.{sub_push, sub_end, sub_set_out, sub_set_end, sub_last, sub_take, sub_drop, map_take, map_drop, map_append}
 use Rattle.ir_core.proofs.Order.{linked_below, get_set_same, get_set_other}
 use Rattle.ir_core.proofs.Laying.{names_blocks, length_nexts, nexts_set, nexts_get, set_same, length_set, blocks_at}

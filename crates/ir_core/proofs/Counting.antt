@@ -1,5 +1,5 @@
 -- How many values are defined, and when all are.
-use Rattle.std.proofs.Common.{◌≡◌, ℕ, zero, suc, ◌+◌, ◌<◌, ◌≤◌, ◌⊎◌, inl, inr, List, [], ◌∷◌, ◌++◌, length, refl, sym, ap, ◌∙◌, subst, arith, length-append}
+use Rattle.std.proofs.Common.{◌≡◌, ℕ, zero, suc, ◌<◌, ◌≤◌, ◌⊎◌, inl, inr, List, [], ◌∷◌, ◌++◌, length, refl, sym, ap, subst, arith, length-append}
 use Rattle.std.proofs.lemmas.Bool.{cases_eq}
 use Rattle.ir_core.specs.Module.{Block, Line, Function}
 use Rattle.ir_core.specs.Lookup.{definitions, line_definitions}
@@ -26,11 +26,11 @@ subset_length [] xs d h = omega arith
 subset_length (y ∷ ys) xs d h =
     let p : Parted y xs = parted y xs (h y (inl refl)) in
     let rest : length ys ≤ length (p.before ++ p.behind) =
-      subset_length ys (p.before ++ p.behind) d.1
-      (λ n i. elim (in_cases n p.before (y ∷ p.behind) (subst (In n) p.is (h n (inr i)))) [
-        | inl q ↦ in_left n p.before p.behind q
-        | inr q ↦ elim q [ inl e ↦ absurd (d.0 (subst (λ z. In z ys) e i)) | inr r ↦ in_right n p.before p.behind r ]
-      ])
+    subset_length ys (p.before ++ p.behind) d.1
+    (λ n i. elim (in_cases n p.before (y ∷ p.behind) (subst (In n) p.is (h n (inr i)))) [
+      | inl q ↦ in_left n p.before p.behind q
+      | inr q ↦ elim q [ inl e ↦ absurd (d.0 (subst (λ z. In z ys) e i)) | inr r ↦ in_right n p.before p.behind r ]
+    ])
     in
     omega (arith, rest, ap length p.is, length-append p.before (y ∷ p.behind), length-append p.before p.behind)
 
@@ -85,11 +85,11 @@ all_defined f s e v h =
       | inl q ↦ q
       | inr q ↦
           let most : length (v ∷ definitions f.blocks) ≤ length (upto (length f.types)) =
-            subset_length (v ∷ definitions f.blocks) (upto (length f.types)) (q, s.defined_once)
-            (λ w i. elim i [
-              | inl p ↦ in_upto w (length f.types) (omega (arith, p, h))
-              | inr p ↦ in_upto w (length f.types) (below_in (length f.types) (definitions f.blocks) w (definitions_below (counts_of f) f.blocks s.blocks) p)
-            ])
+          subset_length (v ∷ definitions f.blocks) (upto (length f.types)) (q, s.defined_once)
+          (λ w i. elim i [
+            | inl p ↦ in_upto w (length f.types) (omega (arith, p, h))
+            | inr p ↦ in_upto w (length f.types) (below_in (length f.types) (definitions f.blocks) w (definitions_below (counts_of f) f.blocks s.blocks) p)
+          ])
           in
           absurd (omega (arith, most, e, length_upto (length f.types)))
     ]

@@ -1,23 +1,22 @@
 -- A block put into a function.
-use Rattle.std.proofs.Common.{◌≡◌, ℕ, zero, suc, ◌+◌, ◌-◌, ◌<◌, ◌≤◌, ◌^◌, ◌⊎◌, inl, inr, List, [], ◌∷◌, ◌++◌, map, length, take, drop, get_or, Option, Some, None, refl, sym, ap, ap₂, ◌∙◌, subst, arith, append_assoc, length-append}
+use Rattle.std.proofs.Common.{◌≡◌, ℕ, ◌+◌, ◌-◌, ◌<◌, ◌≤◌, ◌^◌, inl, inr, List, [], ◌∷◌, ◌++◌, map, length, take, drop, get_or, Option, Some, None, refl, sym, ap, ap₂, ◌∙◌, subst, arith, append_assoc, length-append}
 use Rattle.std.specs.Prelude.{slice_get, is_some, true, false}
 use Rattle.std.proofs.lemmas.Option.{slice_get_read}
 use Rattle.std.proofs.Math.ListN.{set}
-use Rattle.ir_core.specs.declared.instructions.InstData.{InstData}
 use Rattle.ir_core.specs.declared.func.BlockData.{BlockData}
 use Rattle.ir_core.specs.declared.func.Func.TheInside.{Inside}
-use Rattle.ir_core.specs.Module.{Block, Line, Function}
-use Rattle.ir_core.specs.Lookup.{definitions, line_definitions, block_numbers}
+use Rattle.ir_core.specs.Module.{Block, Function}
+use Rattle.ir_core.specs.Lookup.{definitions, block_numbers}
 use Rattle.ir_core.specs.Lists.{In, Different, Below, Each}
-use Rattle.ir_core.specs.Sound.{Counts, counts_of, BlockInRange, instruction_count, CanAdd, IsSound}
+use Rattle.ir_core.specs.Sound.{Counts, counts_of, BlockInRange, CanAdd, IsSound}
 use Rattle.ir_core.specs.Viewed.{line_of}
 use Rattle.ir_core.specs.Edits.{Body, insert_after}
 use Rattle.ir_core.specs.Layout.{order, nexts, range, blocks_in, Laid, IsLaidOut, body_of, function_of, last_of}
-use Rattle.ir_core.proofs.Members.{in_left, in_right, different_changed, each_left, each_right, each_join, below_more, below_join, below_left, below_right, below_in}
-use Rattle.ir_core.proofs.Splitting.{Split, split, block_definitions, definitions_split, count_split}
+use Rattle.ir_core.proofs.Members.{different_changed, each_left, each_right, each_join, below_more, below_join, below_left, below_right, below_in}
+use Rattle.ir_core.proofs.Splitting.{split, block_definitions, definitions_split, count_split}
 use Rattle.ir_core.proofs.Keeping.{with_blocks, AtMost, callees_more, blocks_more}
-use Rattle.ir_core.proofs.Order.{linked_below, put_after, last_put_end, last_put_within}
-use Rattle.ir_core.proofs.Laying.{names_blocks, length_nexts, nexts_get, inserted_laid, inserted_blocks, length_seen}
+use Rattle.ir_core.proofs.Order.{put_after, last_put_end, last_put_within}
+use Rattle.ir_core.proofs.Laying.{nexts_get, inserted_laid, inserted_blocks, length_seen}
 use Rattle.ir_core.proofs.Changing.{present, below, found}
 use Rattle.ir_core.proofs.Counting.{defined_bound}
 

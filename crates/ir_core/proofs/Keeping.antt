@@ -1,6 +1,5 @@
 -- What keeps a function sound.
-use Rattle.std.proofs.Common.{◌≡◌, ℕ, zero, suc, ◌+◌, ◌-◌, ◌<◌, ◌≤◌, ◌^◌, ◌⊎◌, inl, inr, List, [], ◌∷◌, ◌++◌, map, length, refl, sym, ap, ap₂, ◌∙◌, subst, arith, append_assoc, length-append}
-use Rattle.std.specs.Prelude.{Option, Some, None}
+use Rattle.std.proofs.Common.{◌≡◌, ℕ, suc, ◌+◌, ◌-◌, ◌<◌, ◌≤◌, ◌^◌, ◌⊎◌, inl, inr, List, [], ◌∷◌, ◌++◌, map, length, refl, sym, ap, ◌∙◌, subst, arith, append_assoc, length-append}
 use Rattle.std.specs.List.{enumerate_from}
 use Rattle.ir_core.specs.declared.signatures.Ty.{Ty}
 use Rattle.ir_core.specs.declared.signatures.Sig.{Sig}
@@ -9,10 +8,10 @@ use Rattle.ir_core.specs.declared.declarations.Callee.{Callee}
 use Rattle.ir_core.specs.Module.{Block, Line, Function}
 use Rattle.ir_core.specs.Lookup.{definitions, line_definitions, block_numbers}
 use Rattle.ir_core.specs.Lists.{In, Different, Below, Each}
-use Rattle.ir_core.specs.Sound.{Counts, counts_of, LineInRange, BlockInRange, CalleeInRange, instruction_count, CanAdd, IsSmall, IsSound}
-use Rattle.ir_core.specs.Edits.{at_block, insert_after, put_param, put_line, lines_of}
-use Rattle.ir_core.proofs.Members.{in_left, in_right, in_cases, different_join, different_left, different_right, different_apart, different_changed, each_left, each_right, each_join, each_more, below_more, below_join, below_left, below_right, below_in}
-use Rattle.ir_core.proofs.Splitting.{Split, split, block_definitions, line_definitions_join, definitions_join, definitions_split, count_join, count_split, numbers_split, length_split}
+use Rattle.ir_core.specs.Sound.{Counts, counts_of, LineInRange, BlockInRange, CalleeInRange, instruction_count, CanAdd, IsSound}
+use Rattle.ir_core.specs.Edits.{at_block, put_param}
+use Rattle.ir_core.proofs.Members.{in_left, in_right, in_cases, different_left, different_right, different_changed, each_left, each_right, each_join, each_more, below_more, below_join}
+use Rattle.ir_core.proofs.Splitting.{Split, split, block_definitions, definitions_split, count_split, numbers_split, length_split}
 
 pub record AtMost (n m : Counts) : Type 0 where
   pub values : n.values ≤ m.values

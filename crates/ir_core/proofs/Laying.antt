@@ -1,18 +1,17 @@
 -- What the calls make of the arenas.
-use Rattle.std.proofs.Common.{◌≡◌, ℕ, zero, suc, ◌+◌, ◌<◌, ◌≤◌, ◌⊎◌, inl, inr, List, [], ◌∷◌, ◌++◌, map, length, take, drop, Option, Some, None, refl, sym, ap, ap₂, ◌∙◌, subst, arith, eq-eqb, ne_eqb, length-append}
-use Rattle.std.specs.Prelude.{if◌then◌else◌, nat_eq, slice_get}
+use Rattle.std.proofs.Common.{◌≡◌, ℕ, zero, suc, ◌+◌, ◌<◌, ◌≤◌, ◌⊎◌, inl, inr, List, [], ◌∷◌, ◌++◌, map, length, Option, Some, None, refl, sym, ap, ap₂, ◌∙◌, subst, arith, eq-eqb, ne_eqb, length-append}
+use Rattle.std.specs.Prelude.{if◌then◌else◌, slice_get}
 use Rattle.std.proofs.lemmas.Bool.{cases_eq}
 use Rattle.std.proofs.Math.ListN.{set}
-use Rattle.std.proofs.lemmas.Option.{slice_get_within, slice_get_past}
-use Rattle.ir_core.specs.Module.{Block, Line, Function}
+use Rattle.std.proofs.lemmas.Option.{slice_get_within}
+use Rattle.ir_core.specs.Module.{Block}
 use Rattle.ir_core.specs.Lookup.{block_numbers}
 use Rattle.ir_core.specs.Lists.{In, Different}
 use Rattle.ir_core.specs.declared.instructions.InstData.{InstData}
 use Rattle.ir_core.specs.declared.func.BlockData.{BlockData}
-use Rattle.ir_core.specs.Edits.{Body, at_block, insert_after}
-use Rattle.ir_core.specs.Viewed.{line_of}
-use Rattle.ir_core.specs.Layout.{walk, Linked, nexts, range, params_at, lines_at, block_by, block_at, blocks_in, order, Apart, Laid, last_of}
-use Rattle.ir_core.proofs.Order.{get_set_same, get_set_other, get_push_old, get_push_new, get_push_below, get_push_cases, length_walk, walk_linked, linked_below, put_after, put_after_hit, put_after_miss, length_put_after, in_put_after, different_put_after, linked_insert, last_put_end, last_put_within}
+use Rattle.ir_core.specs.Edits.{at_block, insert_after}
+use Rattle.ir_core.specs.Layout.{Linked, nexts, range, block_by, block_at, order, Laid, last_of}
+use Rattle.ir_core.proofs.Order.{get_set_same, get_set_other, get_push_old, get_push_new, get_push_below, get_push_cases, length_walk, walk_linked, linked_below, put_after, put_after_hit, put_after_miss, length_put_after, different_put_after, linked_insert}
 
 -- next blocks
 

@@ -1,18 +1,17 @@
 -- An instruction put between the ranges of others.
-use Rattle.std.proofs.Common.{◌≡◌, ℕ, zero, suc, ◌+◌, ◌-◌, ◌<◌, ◌≤◌, ◌⊎◌, inl, inr, List, [], ◌∷◌, ◌++◌, map, length, take, drop, get_or, Option, Some, None, refl, sym, ap, ap₂, ◌∙◌, subst, arith, length-append}
+use Rattle.std.proofs.Common.{◌≡◌, ℕ, zero, suc, ◌+◌, ◌-◌, ◌<◌, ◌≤◌, ◌⊎◌, inl, inr, List, [], ◌∷◌, ◌++◌, map, length, take, drop, get_or, Option, Some, None, refl, sym, ap, ap₂, ◌∙◌, subst, arith}
 use Rattle.std.specs.Prelude.{slice_get, if◌then◌else◌, nat_le, true, false, Bool}
 use Rattle.std.proofs.lemmas.Bool.{cases_eq, leb-true, leb-false}
 use Rattle.std.proofs.Math.ListN.{set}
 use Rattle.std.proofs.lemmas.Option.{slice_get_within, slice_get_read}
 use Rattle.std.proofs.lemmas.List.{get_or-set_same, get_or-set_other, get_or_default}
-use Rattle.ir_core.specs.Module.{Block, Line}
 use Rattle.ir_core.specs.declared.instructions.InstData.{InstData}
 use Rattle.ir_core.specs.declared.func.BlockData.{BlockData}
-use Rattle.ir_core.specs.Lists.{In, Different}
+use Rattle.ir_core.specs.Lists.{Different}
 use Rattle.ir_core.specs.Viewed.{line_of}
 use Rattle.ir_core.specs.Shift.{shifted}
 use Rattle.ir_core.specs.Edits.{at_block, put_line}
-use Rattle.ir_core.specs.Layout.{walk, Linked, nexts, range, params_at, lines_at, block_by, block_at, order, Apart, Laid, last_of}
+use Rattle.ir_core.specs.Layout.{walk, Linked, nexts, range, block_by, block_at, order, Apart, Laid, last_of}
 use Rattle.ir_core.proofs.Ranges.{map_append}
 use Rattle.ir_core.proofs.Order.{get_set_same, get_set_other}
 use Rattle.ir_core.proofs.Laying.{nexts_set, nexts_get, set_same, length_set, blocks_at}

@@ -1,12 +1,12 @@
 -- A list of blocks split at one of them.
-use Rattle.std.proofs.Common.{◌≡◌, ℕ, zero, suc, ◌+◌, ◌<◌, ◌≤◌, ◌⊎◌, inl, inr, List, [], ◌∷◌, ◌++◌, length, refl, sym, ap, ap₂, ◌∙◌, subst, arith, eq-eqb, ne_eqb, append_assoc, length-append}
-use Rattle.std.specs.Prelude.{if◌then◌else◌, nat_eq, Option, Some, None}
+use Rattle.std.proofs.Common.{◌≡◌, ℕ, suc, ◌+◌, inl, inr, List, [], ◌∷◌, ◌++◌, length, refl, sym, ap, ap₂, ◌∙◌, subst, arith, eq-eqb, ne_eqb, append_assoc}
+use Rattle.std.specs.Prelude.{if◌then◌else◌}
 use Rattle.std.proofs.lemmas.Bool.{cases_eq}
 use Rattle.ir_core.specs.Module.{Block, Line}
 use Rattle.ir_core.specs.Lookup.{definitions, line_definitions, block_numbers}
 use Rattle.ir_core.specs.Lists.{In, Different}
 use Rattle.ir_core.specs.Sound.{instruction_count}
-use Rattle.ir_core.specs.Edits.{at_block, insert_after, lines_of, params_of}
+use Rattle.ir_core.specs.Edits.{at_block, insert_after, lines_of}
 
 -- a block of the list, and what the edits make of the list
 pub record Split (a : ℕ) (bs : List Block) : Type 0 where

@@ -1,15 +1,15 @@
 -- Steps through the blocks of a function, and what is found by a block's number or a value's.
-use Rattle.std.proofs.Common.{◌≡◌, ℕ, zero, suc, ◌+◌, ◌-◌, ◌<◌, ◌≤◌, List, [], ◌∷◌, ◌++◌, map, length, Option, Some, None, refl, sym, ap, ap₂, ◌∙◌, subst, arith, eq-eqb, ne_eqb}
-use Rattle.std.specs.Prelude.{slice_get, nat_eq, if◌then◌else◌, is_some, true, false}
+use Rattle.std.proofs.Common.{◌≡◌, ℕ, zero, suc, ◌+◌, ◌<◌, ◌≤◌, List, [], ◌∷◌, ◌++◌, length, Option, Some, None, refl, sym, ap, ap₂, ◌∙◌, subst, arith, eq-eqb, ne_eqb}
+use Rattle.std.specs.Prelude.{slice_get, if◌then◌else◌, is_some, true, false}
 use Rattle.std.specs.List.{enumerate_from}
-use Rattle.std.proofs.lemmas.Option.{slice_get_within, slice_get_past}
+use Rattle.std.proofs.lemmas.Option.{slice_get_past}
 use Rattle.ir_core.specs.declared.signatures.Ty.{Ty}
 use Rattle.ir_core.specs.declared.func.BlockData.{BlockData}
 use Rattle.ir_core.specs.Module.{Block}
 use Rattle.ir_core.specs.Lookup.{type_in, block_numbers}
 use Rattle.ir_core.specs.Lists.{In, Different}
 use Rattle.ir_core.specs.Edits.{insert_after}
-use Rattle.ir_core.specs.Layout.{walk, Linked, nexts, order, last_of}
+use Rattle.ir_core.specs.Layout.{walk, Linked, nexts, last_of}
 use Rattle.ir_core.proofs.Laying.{nexts_get, length_nexts}
 use Rattle.ir_core.proofs.Order.{last_in}
 

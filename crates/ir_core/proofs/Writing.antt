@@ -1,11 +1,11 @@
 -- What keeps a function sound where instructions are put, taken away or moved.
-use Rattle.std.proofs.Common.{◌≡◌, ℕ, zero, suc, ◌+◌, ◌-◌, ◌<◌, ◌≤◌, ◌^◌, ◌⊎◌, inl, inr, List, [], ◌∷◌, ◌++◌, map, length, take, drop, Bool, true, false, refl, sym, ap, ap₂, ◌∙◌, subst, arith, eq-eqb, ne_eqb, append_assoc, length-append}
+use Rattle.std.proofs.Common.{◌≡◌, ℕ, ◌+◌, inl, inr, List, [], ◌∷◌, ◌++◌, length, take, drop, Bool, true, false, refl, sym, ap, ap₂, ◌∙◌, subst, arith, eq-eqb, ne_eqb, append_assoc, length-append}
 use Rattle.std.specs.Prelude.{nat_eq, if◌then◌else◌}
 use Rattle.std.proofs.lemmas.Bool.{cases_eq}
 use Rattle.std.proofs.lemmas.List.{append-nil, take-append-drop}
 use Rattle.ir_core.specs.Module.{Block, Line, Function}
 use Rattle.ir_core.specs.Lookup.{definitions, line_definitions, block_numbers}
-use Rattle.ir_core.specs.Lists.{In, Different, Below, Each}
+use Rattle.ir_core.specs.Lists.{In, Different, Each}
 use Rattle.ir_core.specs.Sound.{Counts, counts_of, LineInRange, BlockInRange, instruction_count, CanAdd, IsSound}
 use Rattle.ir_core.specs.Edits.{at_block, put_line, with_lines, lines_of}
 use Rattle.ir_core.proofs.Members.{in_left, in_right, in_cases, different_join, different_left, different_right, different_apart, each_left, each_right, each_join}
@@ -201,8 +201,25 @@ module _ (f : Function) (a c i : ℕ) (sound : IsSound f) (there : In a (block_n
 
   pub length_cut : length (definitions (at_block c (with_lines gone) first_blocks)) ≡ length (definitions f.blocks)
   length_cut =
-      omega (arith, ap (λ z. length (definitions z)) (at_second.at (with_lines gone)), ap length (definitions_split at_second.before at_second.behind (with_lines gone at_second.here)), ap (λ z. length (definitions z)) at_second.is, ap length (definitions_split at_second.before at_second.behind at_second.here), ap length defined_second, ap length first_definitions, ap (λ z. length (definitions z)) at_first.is, ap length (definitions_split at_first.before at_first.behind at_first.here), ap length parts,
-      length-append (definitions at_second.before) (block_definitions (with_lines gone at_second.here) ++ definitions at_second.behind), length-append (block_definitions (with_lines gone at_second.here)) (definitions at_second.behind), length-append at_second.here.params (line_definitions gone),
-      length-append (definitions at_second.before) (block_definitions at_second.here ++ definitions at_second.behind), length-append (block_definitions at_second.here) (definitions at_second.behind),
-      length-append (definitions at_first.before) (block_definitions (with_lines kept at_first.here) ++ definitions at_first.behind), length-append (block_definitions (with_lines kept at_first.here)) (definitions at_first.behind),
-      length-append (definitions at_first.before) (block_definitions at_first.here ++ definitions at_first.behind), length-append (block_definitions at_first.here) (definitions at_first.behind), length-append (block_definitions (with_lines kept at_first.here)) (line_definitions gone))
+      omega (
+        arith,
+        ap (λ z. length (definitions z)) (at_second.at (with_lines gone)),
+        ap length (definitions_split at_second.before at_second.behind (with_lines gone at_second.here)),
+        ap (λ z. length (definitions z)) at_second.is,
+        ap length (definitions_split at_second.before at_second.behind at_second.here),
+        ap length defined_second,
+        ap length first_definitions,
+        ap (λ z. length (definitions z)) at_first.is,
+        ap length (definitions_split at_first.before at_first.behind at_first.here),
+        ap length parts,
+        length-append (definitions at_second.before) (block_definitions (with_lines gone at_second.here) ++ definitions at_second.behind),
+        length-append (block_definitions (with_lines gone at_second.here)) (definitions at_second.behind),
+        length-append at_second.here.params (line_definitions gone),
+        length-append (definitions at_second.before) (block_definitions at_second.here ++ definitions at_second.behind),
+        length-append (block_definitions at_second.here) (definitions at_second.behind),
+        length-append (definitions at_first.before) (block_definitions (with_lines kept at_first.here) ++ definitions at_first.behind),
+        length-append (block_definitions (with_lines kept at_first.here)) (definitions at_first.behind),
+        length-append (definitions at_first.before) (block_definitions at_first.here ++ definitions at_first.behind),
+        length-append (block_definitions at_first.here) (definitions at_first.behind),
+        length-append (block_definitions (with_lines kept at_first.here)) (line_definitions gone),
+      )

@@ -1,6 +1,9 @@
 -- Where the parts of a module are found by their names and numbers.
-use Rattle.std.specs.Prelude.{ℕ, List, [], ◌∷◌, ◌++◌, Bool, true, false, ◌&&◌, Option, Some, None, nat_eq, if◌then◌else◌, slice_get, map}
+use Rattle.std.specs.Prelude.{◌≡◌, ◌⊎◌, ⊤, ℕ, List, [], ◌∷◌, ◌++◌, Bool, true, false, ◌&&◌, Option, Some, None, nat_eq, if◌then◌else◌, slice_get, map}
+use Rattle.clk_num.specs.declared.width.Width.{Width}
+use Rattle.clk_num.specs.declared.width.Width.TheVariants.{W8, W16, W32, W64, W128}
 use Rattle.ir_core.specs.declared.signatures.Ty.{Ty}
+use Rattle.ir_core.specs.declared.signatures.Ty.TheVariants as ty
 use Rattle.ir_core.specs.declared.signatures.Sig.{Sig}
 use Rattle.ir_core.specs.declared.signatures.Param.{Param}
 use Rattle.ir_core.specs.declared.names.FuncName.{FuncName}
@@ -63,3 +66,34 @@ definitions (b ∷ bs) = b.params ++ (line_definitions b.lines ++ definitions bs
 
 abbrev pub block_numbers : List Block → List ℕ
 block_numbers bs = map (λ b. b.number) bs
+
+-- the width of a type, as clk_num has it
+abbrev pub width_of : Ty → Width
+width_of ty.I8 = W8
+width_of ty.I16 = W16
+width_of ty.I32 = W32
+width_of ty.I64 = W64
+width_of ty.I128 = W128
+
+-- the type of a width
+abbrev pub ty_of : Width → Ty
+ty_of W8 = ty.I8
+ty_of W16 = ty.I16
+ty_of W32 = ty.I32
+ty_of W64 = ty.I64
+ty_of W128 = ty.I128
+
+-- a stands in the list
+abbrev pub In : {A : Type 0} → A → List A → Type 0
+In a [] = ⊥
+In a (b ∷ bs) = (a ≡ b) ⊎ In a bs
+
+-- P holds of each
+abbrev pub Each : {A : Type 0} → (A → Type 0) → List A → Type 0
+Each P [] = ⊤
+Each P (a ∷ as') = P a × Each P as'
+
+-- no number stands in the list twice
+abbrev pub Different : List ℕ → Type 0
+Different [] = ⊤
+Different (n ∷ ns) = (In n ns → ⊥) × Different ns

@@ -6,7 +6,7 @@ use Rattle.ir_core.specs.declared.instructions.Arg.{Arg}
 use Rattle.ir_core.specs.declared.instructions.Arg.TheVariants.{Value, Ret, Exn}
 use Rattle.ir_core.specs.declared.instructions.BlockCall.{BlockCall}
 use Rattle.ir_core.specs.Module.{Simple, Nop, Const, Pure, PureImm, Load, Store, StackLoad, StackStore, FuncAddr, Trap, Trapz, Trapnz}
-use Rattle.ir_core.specs.Module.{Branch, Jump, Brif, BrTable, CallTarget, Direct, Indirect}
+use Rattle.ir_core.specs.Module.{Jump, Brif, BrTable, CallTarget, Direct, Indirect}
 use Rattle.ir_core.specs.Module.{Instruction, Plain, Branches, SequencePoint, Return, Call, ReturnCall, TryCall}
 use Rattle.ir_core.specs.Lists.{joined}
 

@@ -26,7 +26,6 @@ pub data Text : Type 0 where
   Then : Text → Text → Text
 
 infixr 4 ◌▹◌
-
 abbrev pub ◌▹◌ : Text → Text → Text
 a ▹ b = Then a b
 

@@ -5,7 +5,7 @@
 use Rattle.std.specs.Prelude.{ℕ, ◌+◌, List, [], ◌∷◌, length, min}
 use Rattle.ir_core.specs.declared.signatures.Sig.{Sig}
 use Rattle.ir_core.specs.declared.instructions.BlockCall.{BlockCall}
-use Rattle.ir_core.specs.Module.{Branch, Jump, Brif, BrTable, Instruction, Plain, Branches, SequencePoint, Return, Call, ReturnCall, TryCall, Line, Block, Function}
+use Rattle.ir_core.specs.Module.{BrTable, Instruction, Branches, TryCall, Line, Block, Function}
 use Rattle.ir_core.specs.Operands.{own_values, targets}
 use Rattle.ir_core.specs.Edits.{params_of, lines_of}
 

@@ -1,9 +1,8 @@
 -- What every function keeps while it is built: each number in it names an entity of the function, and each value is
 -- defined at most once, by a block parameter or as a result. It is whole once each declared value is defined and it has a
 -- block.
-use Rattle.std.specs.Prelude.{◌≡◌, ℕ, ◌+◌, ◌-◌, ◌<◌, ◌≤◌, ◌^◌, List, [], ◌∷◌, length, map}
+use Rattle.std.specs.Prelude.{◌≡◌, ℕ, ◌+◌, ◌-◌, ◌<◌, ◌^◌, List, [], ◌∷◌, length, map}
 use Rattle.std.specs.List.{enumerate_from}
-use Rattle.ir_core.specs.declared.signatures.Ty.{Ty}
 use Rattle.ir_core.specs.declared.declarations.Callee.{Callee}
 use Rattle.ir_core.specs.Module.{Line, Block, Function}
 use Rattle.ir_core.specs.Lookup.{definitions, block_numbers}

@@ -6,10 +6,9 @@ ghost use Rattle.ir_core.specs.Sound.{CanAdd, LineInRange, counts_of, instructio
 ghost use Rattle.ir_core.specs.Edits.{at_block, put_param, put_line};
 ghost use Rattle.ir_core.specs.Viewed.{line_of};
 
+mod copying;
 mod reading;
 mod splicing;
-
-pub use reading::{Blocks, Insts};
 
 use crate::declarations::{Callee, SlotDecl};
 use crate::instructions::InstData;
@@ -17,6 +16,7 @@ use crate::lists::List;
 use crate::names::FuncName;
 use crate::numbers::{Block, FuncRef, SigRef, Slot, Value};
 use crate::signatures::{Sig, Ty};
+pub use reading::{Blocks, Insts};
 use std::alloc::{AllocError, Global};
 use std::marker::Model;
 

@@ -3,9 +3,11 @@
 //! Contracts see a function as lists over natural numbers (`specs/Module.antt`).
 #![tactic(auto)]
 
+mod copies;
 mod declarations;
 mod func;
 mod instructions;
+mod laws;
 mod lists;
 mod module;
 mod names;
@@ -14,10 +16,13 @@ mod places;
 mod room;
 mod signatures;
 mod size;
+#[cfg(test)]
+mod tests;
 
 pub use declarations::{Callee, SlotDecl};
 pub use func::{Blocks, Func, Insts};
 pub use instructions::{Access, Arg, BlockCall, Flags, Inst, InstData};
+pub use laws::accepted_never_sticks;
 pub use lists::List;
 pub use module::Module;
 pub use names::FuncName;

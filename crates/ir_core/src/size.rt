@@ -66,7 +66,9 @@ impl Inst {
                     .saturating_add(no.args.as_slice().len())
             }
             Inst::BrTable {
-                default, entries, ..
+                default,
+                entries,
+                ..
             } => {
                 let default = default.args.as_slice().len();
                 1usize

@@ -137,8 +137,8 @@ impl Func {
     {
         let entry = &mut self.blocks[block.number() as usize];
         entry.len -= 1;
-        let end = entry.start + entry.len;
-        let taken = mem::replace(&mut self.insts[end], nop(self.alloc));
+        let last = entry.start + entry.len;
+        let taken = mem::replace(&mut self.insts[last], nop(self.alloc));
         self.defined -= taken.results.as_slice().len();
         taken
     }
@@ -178,8 +178,7 @@ fn append_reserved<T: Drop>(items: &mut Vec<T>, more: List<T>)
 }
 
 /// An instruction that does nothing.
-fn nop(alloc: Global) -> InstData
-{
+fn nop(alloc: Global) -> InstData {
     InstData {
         inst: Inst::Nop,
         ty: None,

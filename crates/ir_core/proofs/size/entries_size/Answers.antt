@@ -1,4 +1,4 @@
-use Rattle.std.proofs.Common.{arith, length, sym, ap}
+use Rattle.std.proofs.Common.{arith, length, ap}
 use Rattle.ir_core.specs.Size.{argument_count}
 use Rattle.ir_core.proofs.Sizing.{total_more}
 use Rattle.ir_core.proofs.size.entries_size.Goals as goal

@@ -1,7 +1,6 @@
-use Rattle.std.proofs.Common.{arith, ◌≡◌, ℕ, ◌+◌, ◌<◌, ◌++◌, List, [], ◌∷◌, length, map, Some, None, refl, sym, ap, ap₂, subst, ◌∙◌}
-use Rattle.ir_core.specs.Module.{Block}
+use Rattle.std.proofs.Common.{◌≡◌, ◌++◌, [], ◌∷◌, length, map, None, sym, ap, ap₂, subst, ◌∙◌}
 use Rattle.ir_core.specs.Lookup.{block_numbers}
-use Rattle.ir_core.specs.Lists.{In, Different}
+use Rattle.ir_core.specs.Lists.{In}
 use Rattle.ir_core.specs.Layout.{function_of, block_at, blocks_in, order, last_of}
 use Rattle.ir_core.specs.Edits.{insert_after}
 use Rattle.ir_core.proofs.Keeping.{with_blocks}

@@ -1,4 +1,4 @@
-use Rattle.std.proofs.Common.{arith, ◌≡◌, ℕ, ◌+◌, ◌<◌, ◌++◌, List, [], ◌∷◌, length, refl, sym, ap, subst, ◌∙◌, slice_index_or}
+use Rattle.std.proofs.Common.{arith, length, refl, sym, ap, subst, ◌∙◌}
 use Rattle.ir_core.specs.Lookup.{block_numbers, definitions}
 use Rattle.ir_core.specs.Lists.{In}
 use Rattle.ir_core.specs.Sound.{IsSound}

@@ -1,4 +1,4 @@
-use Rattle.std.proofs.Common.{◌<◌, length, sym, subst}
+use Rattle.std.proofs.Common.{length, sym, subst}
 use Rattle.ir_core.specs.Sound.{CanAdd, IsSound}
 use Rattle.ir_core.specs.Layout.{function_of}
 use Rattle.ir_core.proofs.Keeping.{sound_slot}

@@ -1,6 +1,5 @@
-use Rattle.std.proofs.Common.{arith, ◌≡◌, ◌+◌, ◌-◌, ◌<◌, ◌^◌, ◌++◌, List, length, refl, sym, ap, ap₂, subst, ◌∙◌}
+use Rattle.std.proofs.Common.{arith, ◌≡◌, ◌+◌, ◌-◌, ◌<◌, ◌^◌, ◌++◌, length, refl, sym, ap, ap₂, subst, ◌∙◌}
 use Rattle.std.specs.List.{enumerate_from}
-use Rattle.ir_core.specs.Module.{Function}
 use Rattle.ir_core.specs.Lists.{Each}
 use Rattle.ir_core.specs.Sound.{IsSound}
 use Rattle.ir_core.specs.Layout.{function_of}

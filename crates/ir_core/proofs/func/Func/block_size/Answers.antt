@@ -1,4 +1,4 @@
-use Rattle.std.proofs.Common.{arith, ◌≡◌, ◌+◌, length, map, take, sym, ap, ◌∙◌}
+use Rattle.std.proofs.Common.{arith, ◌+◌, length, sym, ap, ◌∙◌}
 use Rattle.std.proofs.lemmas.List.{take_all}
 use Rattle.ir_core.specs.Edits.{params_of}
 use Rattle.ir_core.specs.Viewed.{line_of}

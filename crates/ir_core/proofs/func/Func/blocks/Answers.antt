@@ -1,4 +1,4 @@
-use Rattle.std.proofs.Common.{length, sym, ap, ap₂, ◌∙◌}
+use Rattle.std.proofs.Common.{sym, ap, ap₂, ◌∙◌}
 use Rattle.ir_core.specs.Lookup.{block_numbers}
 use Rattle.ir_core.specs.Layout.{walk, nexts, order}
 use Rattle.ir_core.proofs.Laying.{names_blocks}

@@ -1,18 +1,10 @@
-use Rattle.std.proofs.Common.{arith, ◌≡◌, ℕ, ◌+◌, ◌-◌, ◌<◌, ◌≤◌, ◌++◌, List, [], ◌∷◌, length, take, drop, map, get_or, Option, Some, None, refl, sym, ap, ap₂, subst, ◌∙◌}
-use Rattle.std.specs.Prelude.{slice_get, not}
-use Rattle.std.proofs.Math.ListN.{set}
-use Rattle.std.proofs.lemmas.Option.{slice_get_read}
-use Rattle.ir_core.specs.declared.func.BlockData.{BlockData}
-use Rattle.ir_core.specs.Module.{Block}
-use Rattle.ir_core.specs.Lookup.{block_numbers, definitions}
-use Rattle.ir_core.specs.Lists.{In, Different, Below}
-use Rattle.ir_core.specs.Sound.{CanAdd, IsSound}
+use Rattle.std.proofs.Common.{arith, ◌+◌, [], length, Some, refl, ap, ◌∙◌}
+use Rattle.std.specs.Prelude.{not}
 use Rattle.ir_core.specs.Edits.{insert_after}
-use Rattle.ir_core.specs.Layout.{function_of, blocks_in, order, last_of}
+use Rattle.ir_core.specs.Layout.{function_of}
 use Rattle.ir_core.proofs.Keeping.{with_blocks}
-use Rattle.ir_core.proofs.Counting.{defined_bound}
-use Rattle.ir_core.proofs.Changing.{found, below, named}
-use Rattle.ir_core.proofs.Inserting.{sound_insert, length_insert, linked_laid, linked_blocks, linked_sound, linked_defined, insert_fits, last_linked, last_kept, if_none, fresh_number}
+use Rattle.ir_core.proofs.Changing.{below, named}
+use Rattle.ir_core.proofs.Inserting.{linked_laid, linked_blocks, linked_sound, linked_defined, insert_fits, last_linked, last_kept, if_none, fresh_number}
 use Rattle.ir_core.proofs.func.Func.insert_block.Goals as goal
 
 pub overflow_add-self : goal.overflow_add-self

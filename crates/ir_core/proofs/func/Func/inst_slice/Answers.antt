@@ -1,4 +1,4 @@
-use Rattle.std.proofs.Common.{arith, ◌≡◌, ◌+◌, ◌-◌, ◌<◌, ◌≤◌, length, map, take, drop, sym, ap, ◌∙◌}
+use Rattle.std.proofs.Common.{arith, ◌≡◌, ◌+◌, ◌-◌, ◌≤◌, length, map, take, drop, sym, ap, ◌∙◌}
 use Rattle.ir_core.specs.Edits.{lines_of}
 use Rattle.ir_core.specs.Viewed.{line_of}
 use Rattle.ir_core.proofs.Changing.{found, below, named, inside_arena, lines_seen}

@@ -1,4 +1,4 @@
-use Rattle.std.proofs.Common.{arith, ◌≡◌, ◌<◌, sym, ap, subst, ◌∙◌}
+use Rattle.std.proofs.Common.{arith, sym, ap, subst, ◌∙◌}
 use Rattle.ir_core.specs.Lookup.{block_numbers}
 use Rattle.ir_core.specs.Lists.{In}
 use Rattle.ir_core.specs.Edits.{params_of}

@@ -1,11 +1,8 @@
-use Rattle.std.proofs.Common.{arith, ◌≡◌, ℕ, ◌+◌, ◌-◌, ◌<◌, ◌≤◌, ◌++◌, List, [], ◌∷◌, length, take, drop, map, get_or, Some, refl, sym, ap, ap₂, subst, ◌∙◌}
-use Rattle.std.specs.Prelude.{slice_get, insert}
+use Rattle.std.proofs.Common.{arith, ◌≡◌, ◌+◌, length, map, get_or, refl, sym, ap, ap₂, subst, ◌∙◌}
+use Rattle.std.specs.Prelude.{insert}
 use Rattle.std.specs.Vec.{with_item, with_items}
 use Rattle.std.proofs.Math.ListN.{set}
 use Rattle.std.proofs.lemmas.List.{with_items_is}
-use Rattle.std.proofs.lemmas.Option.{slice_get_read}
-use Rattle.ir_core.specs.declared.func.BlockData.{BlockData}
-use Rattle.ir_core.specs.Lookup.{definitions}
 use Rattle.ir_core.specs.Shift.{shifted}
 use Rattle.ir_core.specs.Layout.{Laid, blocks_in}
 use Rattle.ir_core.proofs.Laying.{length_set}

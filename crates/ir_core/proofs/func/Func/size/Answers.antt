@@ -1,8 +1,8 @@
-use Rattle.std.proofs.Common.{arith, ◌≡◌, ◌+◌, length, take, List, [], ◌∷◌, refl, sym, ap, subst, ◌∙◌}
+use Rattle.std.proofs.Common.{arith, ◌≡◌, length, take, sym, ap, subst, ◌∙◌}
 use Rattle.std.proofs.lemmas.List.{take_all}
 use Rattle.ir_core.specs.Lookup.{block_numbers}
 use Rattle.ir_core.specs.Lists.{In, Each}
-use Rattle.ir_core.specs.Size.{total, sig_size, block_size, size_at, size_of, capped}
+use Rattle.ir_core.specs.Size.{total, sig_size, block_size, size_at}
 use Rattle.ir_core.proofs.Sizing.{total_more, total_numbers, each_in}
 use Rattle.ir_core.proofs.func.Func.size.Goals as goal
 
@@ -16,10 +16,10 @@ pub loop-block-init : goal.loop-block-init
 loop-block-init c =
     let numbers : c.into_iter-block-iterator.result ≡ block_numbers c.args.self.now.function.blocks = c.into_iter-block-iterator.ensures.into_iter_gives ∙ c.blocks-block-items.ensures.numbers in
     let sigs : total sig_size (take c.loop-sig.sig-index c.deref-sig-items.result.now) ≡ total sig_size c.args.self.now.function.sigs =
-      ap (total sig_size) (take_all c.loop-sig.sig-index c.deref-sig-items.result.now c.loop-sig-test.false ∙ (c.deref-sig-items.ensures.value ∙ ap (λ z. z.function.sigs) c.self.view_is))
+    ap (total sig_size) (take_all c.loop-sig.sig-index c.deref-sig-items.result.now c.loop-sig-test.false ∙ (c.deref-sig-items.ensures.value ∙ ap (λ z. z.function.sigs) c.self.view_is))
     in
     let blocks : total (size_at c.args.self.now.function.blocks) c.into_iter-block-iterator.result ≡ total block_size c.args.self.now.function.blocks =
-      ap (total (size_at c.args.self.now.function.blocks)) numbers ∙ total_numbers c.args.self.now.function.blocks c.blocks-block-items.ensures.sound.blocks_differ
+    ap (total (size_at c.args.self.now.function.blocks)) numbers ∙ total_numbers c.args.self.now.function.blocks c.blocks-block-items.ensures.sound.blocks_differ
     in
     record {
       sum = omega (arith, sigs, blocks, c.loop-sig.invariant);

@@ -1,7 +1,5 @@
-use Rattle.std.proofs.Common.{arith, ◌≡◌, ℕ, ◌+◌, ◌-◌, ◌<◌, ◌≤◌, length, refl, sym, ap, subst, ◌∙◌}
+use Rattle.std.proofs.Common.{arith, ◌+◌, ◌-◌, length, refl, sym, ap, ◌∙◌}
 use Rattle.std.proofs.lemmas.Option.{slice_get_read}
-use Rattle.ir_core.specs.declared.instructions.InstData.{InstData}
-use Rattle.ir_core.specs.Lookup.{definitions}
 use Rattle.ir_core.specs.Edits.{lines_of}
 use Rattle.ir_core.proofs.Changing.{found, below, named, inside_arena, lines_seen, some_len, less_laid, less_blocks}
 use Rattle.ir_core.proofs.Putting.{taken_sound, taken_defined, taken_function}
@@ -13,8 +11,8 @@ index_mut-entry-requires c = omega (arith, below c.self.inside c.args.self.now c
 pub overflow_sub-entry : goal.overflow_sub-entry
 overflow_sub-entry c = omega (arith, (some_len c.self.inside.insts.items c.index_mut-entry.result.now (λ e. c.requires.some (ap (λ z. lines_of z c.args.self.now.function.blocks) (sym c.number.ensures) ∙ (lines_seen c.self.inside c.args.self.now c.number.result c.index_mut-entry.result.now c.self.invariant c.self.view_is (named c.args.self.now c.number.result c.args.block c.number.ensures c.requires.there) (found c.self.inside c.args.self.now c.number.result c.index_mut-entry.result.now c.self.invariant c.self.view_is (named c.args.self.now c.number.result c.args.block c.number.ensures c.requires.there) c.index_mut-entry.ensures.value) ∙ e)))))
 
-pub overflow_add-end : goal.overflow_add-end
-overflow_add-end c = omega (arith, (some_len c.self.inside.insts.items c.index_mut-entry.result.now (λ e. c.requires.some (ap (λ z. lines_of z c.args.self.now.function.blocks) (sym c.number.ensures) ∙ (lines_seen c.self.inside c.args.self.now c.number.result c.index_mut-entry.result.now c.self.invariant c.self.view_is (named c.args.self.now c.number.result c.args.block c.number.ensures c.requires.there) (found c.self.inside c.args.self.now c.number.result c.index_mut-entry.result.now c.self.invariant c.self.view_is (named c.args.self.now c.number.result c.args.block c.number.ensures c.requires.there) c.index_mut-entry.ensures.value) ∙ e)))), (inside_arena c.self.inside c.args.self.now c.number.result c.index_mut-entry.result.now c.self.invariant c.self.view_is (named c.args.self.now c.number.result c.args.block c.number.ensures c.requires.there) c.index_mut-entry.ensures.value), c.self.inside.insts.ok.0, c.self.inside.insts.ok.1)
+pub overflow_add-last : goal.overflow_add-last
+overflow_add-last c = omega (arith, (some_len c.self.inside.insts.items c.index_mut-entry.result.now (λ e. c.requires.some (ap (λ z. lines_of z c.args.self.now.function.blocks) (sym c.number.ensures) ∙ (lines_seen c.self.inside c.args.self.now c.number.result c.index_mut-entry.result.now c.self.invariant c.self.view_is (named c.args.self.now c.number.result c.args.block c.number.ensures c.requires.there) (found c.self.inside c.args.self.now c.number.result c.index_mut-entry.result.now c.self.invariant c.self.view_is (named c.args.self.now c.number.result c.args.block c.number.ensures c.requires.there) c.index_mut-entry.ensures.value) ∙ e)))), (inside_arena c.self.inside c.args.self.now c.number.result c.index_mut-entry.result.now c.self.invariant c.self.view_is (named c.args.self.now c.number.result c.args.block c.number.ensures c.requires.there) c.index_mut-entry.ensures.value), c.self.inside.insts.ok.0, c.self.inside.insts.ok.1)
 
 pub index_mut-requires : goal.index_mut-requires
 index_mut-requires c = omega (arith, (some_len c.self.inside.insts.items c.index_mut-entry.result.now (λ e. c.requires.some (ap (λ z. lines_of z c.args.self.now.function.blocks) (sym c.number.ensures) ∙ (lines_seen c.self.inside c.args.self.now c.number.result c.index_mut-entry.result.now c.self.invariant c.self.view_is (named c.args.self.now c.number.result c.args.block c.number.ensures c.requires.there) (found c.self.inside c.args.self.now c.number.result c.index_mut-entry.result.now c.self.invariant c.self.view_is (named c.args.self.now c.number.result c.args.block c.number.ensures c.requires.there) c.index_mut-entry.ensures.value) ∙ e)))), (inside_arena c.self.inside c.args.self.now c.number.result c.index_mut-entry.result.now c.self.invariant c.self.view_is (named c.args.self.now c.number.result c.args.block c.number.ensures c.requires.there) c.index_mut-entry.ensures.value), c.self.inside.insts.ok.0, c.self.inside.insts.ok.1)

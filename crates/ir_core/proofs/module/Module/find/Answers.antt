@@ -1,4 +1,4 @@
-use Rattle.std.proofs.Common.{◌≡◌, sym, ap, ◌∙◌}
+use Rattle.std.proofs.Common.{sym, ap, ◌∙◌}
 use Rattle.ir_core.specs.declared.names.FuncName.TheVariants as name
 use Rattle.ir_core.specs.Named.{place_of, functions_of}
 use Rattle.ir_core.proofs.Indexing.{place_cases}

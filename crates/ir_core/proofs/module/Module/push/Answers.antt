@@ -1,9 +1,8 @@
-use Rattle.std.proofs.Common.{arith, ◌≡◌, ℕ, ◌+◌, ◌<◌, ◌++◌, List, [], ◌∷◌, map, length, None, refl, sym, ap, ap₂, subst, ◌∙◌}
+use Rattle.std.proofs.Common.{◌≡◌, ◌++◌, [], ◌∷◌, map, length, None, sym, ap, subst, ◌∙◌}
 use Rattle.std.proofs.lemmas.List.{length-map, map_push}
 use Rattle.std.specs.Map.{lookup}
 use Rattle.std.specs.BTreeMap.{get_by, is_at}
 use Rattle.ir_core.specs.declared.names.FuncName.TheVariants as name
-use Rattle.ir_core.specs.Module.{Function}
 use Rattle.ir_core.specs.Lookup.{find_function}
 use Rattle.ir_core.specs.Lists.{Each}
 use Rattle.ir_core.specs.Sound.{IsWhole}
@@ -31,14 +30,14 @@ invariant_of-self-2 c =
           record {
             whole = subst (Each IsWhole) (sym fs) (each_join IsWhole (functions_of c.self.inside) (c.args.func.function ∷ []) c.self.invariant.whole (c.requires.whole, tt));
             texts = λ text.
-              ap (λ z. get_by (compare_texts text) z.texts) w.self-inside-is
-              ∙ (ap (lookup (is_at (compare_texts text))) w.in_ok-insert-in-Text.ensures.entries
-              ∙ (text_more (functions_of c.self.inside) c.args.func.function w.in_ok-text-in-Text.text c.len-place.result c.self.inside.texts.entries (named ∙ ap (λ z. name.Text z) (sym (w.in_ok-text-in-Text.ensures.items ∙ w.as_slice.ensures))) (new c) (place c) text (c.self.invariant.texts text)
-              ∙ ap (place_of (name.Text text)) (sym fs)));
+                ap (λ z. get_by (compare_texts text) z.texts) w.self-inside-is
+                ∙ (ap (lookup (is_at (compare_texts text))) w.in_ok-insert-in-Text.ensures.entries
+                ∙ (text_more (functions_of c.self.inside) c.args.func.function w.in_ok-text-in-Text.text c.len-place.result c.self.inside.texts.entries (named ∙ ap (λ z. name.Text z) (sym (w.in_ok-text-in-Text.ensures.items ∙ w.as_slice.ensures))) (new c) (place c) text (c.self.invariant.texts text)
+                ∙ ap (place_of (name.Text text)) (sym fs)));
             users = λ first second.
-              ap (λ z. get_by (compare_users (first, second)) z.users) w.self-inside-is
-              ∙ (c.self.invariant.users first second
-              ∙ (sym (users_stay (functions_of c.self.inside) c.args.func.function w.in-Text.text named first second) ∙ ap (place_of (name.User first second)) (sym fs)));
+                ap (λ z. get_by (compare_users (first, second)) z.users) w.self-inside-is
+                ∙ (c.self.invariant.users first second
+                ∙ (sym (users_stay (functions_of c.self.inside) c.args.func.function w.in-Text.text named first second) ∙ ap (place_of (name.User first second)) (sym fs)));
           }
       | in-User+in_ok-insert-in-User w ↦
           let fs : map function_in c.push_reserved.new.self.items ≡ functions_of c.self.inside ++ (c.args.func.function ∷ []) = grown c (ap (λ z. z.funcs.items) w.self-inside-is ∙ c.in_ok-reserve.ensures.items) in
@@ -46,13 +45,13 @@ invariant_of-self-2 c =
           record {
             whole = subst (Each IsWhole) (sym fs) (each_join IsWhole (functions_of c.self.inside) (c.args.func.function ∷ []) c.self.invariant.whole (c.requires.whole, tt));
             texts = λ text.
-              ap (λ z. get_by (compare_texts text) z.texts) w.self-inside-is
-              ∙ (c.self.invariant.texts text
-              ∙ (sym (texts_stay (functions_of c.self.inside) c.args.func.function w.in-User.first w.in-User.second named text) ∙ ap (place_of (name.Text text)) (sym fs)));
+                ap (λ z. get_by (compare_texts text) z.texts) w.self-inside-is
+                ∙ (c.self.invariant.texts text
+                ∙ (sym (texts_stay (functions_of c.self.inside) c.args.func.function w.in-User.first w.in-User.second named text) ∙ ap (place_of (name.Text text)) (sym fs)));
             users = λ first second.
-              ap (λ z. get_by (compare_users (first, second)) z.users) w.self-inside-is
-              ∙ (ap (lookup (is_at (compare_users (first, second)))) w.in_ok-insert-in-User.ensures.entries
-              ∙ (user_more (functions_of c.self.inside) c.args.func.function (w.in-User.first, w.in-User.second) c.len-place.result c.self.inside.users.entries named (new c) (place c) first second (c.self.invariant.users first second)
-              ∙ ap (place_of (name.User first second)) (sym fs)));
+                ap (λ z. get_by (compare_users (first, second)) z.users) w.self-inside-is
+                ∙ (ap (lookup (is_at (compare_users (first, second)))) w.in_ok-insert-in-User.ensures.entries
+                ∙ (user_more (functions_of c.self.inside) c.args.func.function (w.in-User.first, w.in-User.second) c.len-place.result c.self.inside.users.entries named (new c) (place c) first second (c.self.invariant.users first second)
+                ∙ ap (place_of (name.User first second)) (sym fs)));
           }
     ]

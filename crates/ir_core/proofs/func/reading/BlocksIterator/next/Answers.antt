@@ -1,4 +1,4 @@
-use Rattle.std.proofs.Common.{arith, ◌≡◌, ℕ, suc, ◌+◌, ◌-◌, ◌<◌, List, [], ◌∷◌, length, Option, Some, None, refl, sym, ap, subst, ◌∙◌}
+use Rattle.std.proofs.Common.{arith, ◌≡◌, suc, ◌∷◌, length, Some, refl, sym, ap, subst, ◌∙◌}
 use Rattle.std.specs.Iterator.{YieldsFirst}
 use Rattle.std.proofs.lemmas.Option.{slice_get_read}
 use Rattle.ir_core.specs.Layout.{walk, nexts}
@@ -8,9 +8,10 @@ use Rattle.ir_core.proofs.func.reading.BlocksIterator.next.Goals as goal
 pub returns-in_err-entry-clause-steps : goal.returns-in_err-entry-clause-steps
 returns-in_err-entry-clause-steps c =
     let number : c.self.inside.next ≡ Some c.number.result = c.in_ok-block.was ∙ ap (λ z. Some z) (sym c.number.ensures) in
-    subst (λ r. YieldsFirst (λ left. left) c.args.self.now r (walk (nexts c.self.inside.blocks.now) c.in_ok-self-inside.field-0 c.self.inside.next)) (sym c.from_residual-in_err-entry.ensures)
-    (sym c.self.view_is ∙ walk_past c.self.inside.blocks.now c.self.inside.left c.self.inside.next c.number.result number c.in_err-entry.ensures.lookup.3,
-    walk_past c.self.inside.blocks.now c.in_ok-self-inside.field-0 c.self.inside.next c.number.result number c.in_err-entry.ensures.lookup.3)
+    subst (λ r. YieldsFirst (λ left. left) c.args.self.now r (walk (nexts c.self.inside.blocks.now) c.in_ok-self-inside.field-0 c.self.inside.next)) (sym c.from_residual-in_err-entry.ensures) (
+      sym c.self.view_is ∙ walk_past c.self.inside.blocks.now c.self.inside.left c.self.inside.next c.number.result number c.in_err-entry.ensures.lookup.3,
+      walk_past c.self.inside.blocks.now c.in_ok-self-inside.field-0 c.self.inside.next c.number.result number c.in_err-entry.ensures.lookup.3,
+    )
 
 pub returns-clause-steps : goal.returns-clause-steps
 returns-clause-steps c =

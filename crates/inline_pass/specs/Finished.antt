@@ -1,0 +1,40 @@
+-- Finished bodies. The finished body of a function begins with its own text. At each site of its text, in order, whose callee
+-- is a function of the module in another piece, the callee's finished body is inlined into the body as it is then, where the
+-- policy takes it. Calls that came in with a body are no sites.
+use Rattle.std.specs.Prelude.{ℕ, zero, suc, List, [], ◌∷◌, length, map, Option, Some, None, if◌then◌else◌}
+use Rattle.ir_core.specs.declared.names.FuncName.{FuncName}
+use Rattle.ir_core.specs.Module.{Function, Module}
+use Rattle.ir_core.specs.Lookup.{and_then, find_function}
+use Rattle.ir_core.specs.Splice.{sides, splice_with}
+use Rattle.call_graph.specs.Reach.{apart}
+use Rattle.inline_pass.specs.Policy.{Policy, takes}
+use Rattle.inline_pass.specs.Sites.{Place, own_sites, moved, called}
+
+-- the sites in turn; `now` says where each stands in the body b, and `bodies` has the bodies of other pieces
+abbrev pub inline_by : (FuncName → Option Function) → Policy → (Place → Place) → List Place → Function → Function
+inline_by bodies p now [] b = b
+inline_by bodies p now (s ∷ ss) b =
+    elim (and_then (called b (now s).0 (now s).1) bodies) [
+      | None ↦ inline_by bodies p now ss b
+      | Some g ↦ if takes p g (splice_with sides b (now s).0 (now s).1 g) then inline_by bodies p (λ q. moved (now s).0 (now s).1 (now q)) ss (splice_with sides b (now s).0 (now s).1 g) else inline_by bodies p now ss b
+    ]
+
+abbrev pub finish_by : (FuncName → Option Function) → Policy → Function → Function
+finish_by bodies p f = inline_by bodies p (λ q. q) (own_sites f.blocks) f
+
+-- the body that a name has in a module, where it is in another piece than x; `pieces` is the module whose pieces count
+abbrev pub body_of : Module → Module → FuncName → FuncName → Option Function
+body_of pieces m x y = if apart pieces x y then find_function y m else None
+
+-- what a function in another piece reaches is less than what the caller reaches, so as many turns as the module has
+-- functions are enough
+abbrev pub finished_in : ℕ → Policy → Module → Function → Function
+finished_in zero p m f = f
+finished_in (suc n) p m f = finish_by (λ y. and_then (body_of m m f.name y) (λ g. Some (finished_in n p m g))) p f
+
+abbrev pub finished : Policy → Module → Function → Function
+finished p m f = finished_in (length m) p m f
+
+-- all finished bodies, in the module's order
+abbrev pub passed : Policy → Module → Module
+passed p m = map (finished p m) m

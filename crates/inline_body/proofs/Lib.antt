@@ -25,6 +25,8 @@ pub mod KeptCounts
 pub mod KeptValues
 pub mod KeptWhole
 pub mod KeptModules
+pub mod KeptForms
+pub mod KeptWritable
 pub mod Linking
 pub mod Numbering
 pub mod Laws

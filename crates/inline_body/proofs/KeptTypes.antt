@@ -65,7 +65,7 @@ pub type_off : (r : Renaming) (u : ℕ) → ((v : ℕ) → r.value v ≡ u → �
 type_off r u off [] = refl
 type_off r u off (x ∷ xs) = type_skip (typed_under r x) (map (typed_under r) xs) u (off x.0) ∙ type_off r u off xs
 
-with_off : (v u : ℕ) → (v ≡ u → ⊥) → (o : Option Ty) → type_in (with_type v o) u ≡ None
+pub with_off : (v u : ℕ) → (v ≡ u → ⊥) → (o : Option Ty) → type_in (with_type v o) u ≡ None
 with_off v u off None = refl
 with_off v u off (Some t) = type_skip (v, t) [] u off
 

@@ -27,6 +27,7 @@ pub mod KeptWhole
 pub mod KeptModules
 pub mod KeptForms
 pub mod KeptWritable
+pub mod KeptNumbers
 pub mod Linking
 pub mod Numbering
 pub mod Laws

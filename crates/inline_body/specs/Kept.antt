@@ -1,0 +1,9 @@
+-- Acceptance does not depend on the numbers of values and blocks.
+use Rattle.ir_core.specs.Module.{Module}
+use Rattle.ir_core.specs.Whole.{IsModule}
+use Rattle.ir_core.specs.Accepted.{Accepted}
+use Rattle.ir_core.specs.Canon.{SameUpToNumbering}
+
+-- of two modules that are the same up to numbering, one is accepted where the other is
+abbrev pub NumberingAccepted : Type 0
+NumberingAccepted = (m r : Module) → SameUpToNumbering m r → IsModule m → Accepted m → IsModule r × Accepted r

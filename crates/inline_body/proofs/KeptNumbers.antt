@@ -201,7 +201,7 @@ order_in new inj ts (d ∷ ds) v t h p =
     ]
 
 -- what has a type in that order is a number of the list
-order_from : (new : ℕ → ℕ) (ts : List (ℕ × Ty)) (ds : List ℕ) (u : ℕ) (t : Ty) → type_in (types_in_order new ts ds) u ≡ Some t → (v : ℕ) × In v ds × (u ≡ new v)
+pub order_from : (new : ℕ → ℕ) (ts : List (ℕ × Ty)) (ds : List ℕ) (u : ℕ) (t : Ty) → type_in (types_in_order new ts ds) u ≡ Some t → (v : ℕ) × In v ds × (u ≡ new v)
 order_from new ts [] u t h = cc
 order_from new ts (d ∷ ds) u t h =
     elim (cases_eq (new d) u) [
@@ -210,14 +210,14 @@ order_from new ts (d ∷ ds) u t h =
     ]
 
 -- what is not defined has no type
-undefined : (f : Function) → Whole f → (v : ℕ) → (In v (definitions f.blocks) → ⊥) → type_of f v ≡ None
+pub undefined : (f : Function) → Whole f → (v : ℕ) → (In v (definitions f.blocks) → ⊥) → type_of f v ≡ None
 undefined f w v off = by (type_of f v) refl
   where
     by : (o : Option Ty) → type_of f v ≡ o → type_of f v ≡ None
     by None q = q
     by (Some t) q = absurd (off (w.defined v (typed_declared f.types v t q)))
 
-canonical_typed : (f : Function) → Whole f → (v : ℕ) → type_of (canonical f) ((canonical_names f).value v) ≡ type_of f v
+pub canonical_typed : (f : Function) → Whole f → (v : ℕ) → type_of (canonical f) ((canonical_names f).value v) ≡ type_of f v
 canonical_typed f w v = by (type_of f v) refl
   where
     new : ℕ → ℕ

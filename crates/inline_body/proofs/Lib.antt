@@ -28,6 +28,7 @@ pub mod KeptModules
 pub mod KeptForms
 pub mod KeptWritable
 pub mod KeptNumbers
+pub mod KeptCanon
 pub mod Linking
 pub mod Numbering
 pub mod Laws

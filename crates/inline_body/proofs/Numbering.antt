@@ -142,7 +142,7 @@ place_injective (x ∷ xs) a b h =
     ]
 
 -- past the end a number that is not in the list
-pub back : List ℕ → ℕ → ℕ → ℕ
+unfoldable pub back : List ℕ → ℕ → ℕ → ℕ
 back [] base u = base + u
 back (x ∷ xs) base zero = x
 back (x ∷ xs) base (suc u) = back xs base u

@@ -30,7 +30,7 @@ not_above [] base v n p h = elim p [ ]
 not_above (x ∷ xs) base v n (inl p) h = absurd (let z = n.0 in omega (arith, z, p, h))
 not_above (x ∷ xs) base v n (inr p) h = not_above xs base v n.1 p h
 
-back_typed : (f : Function) → Whole f → (u : ℕ) → type_of f ((back_names f).value u) ≡ type_of (canonical f) u
+pub back_typed : (f : Function) → Whole f → (u : ℕ) → type_of f ((back_names f).value u) ≡ type_of (canonical f) u
 back_typed f w u = ap (type_of f) (back_value f u) ∙ by (back_is (definitions f.blocks) (above (definitions f.blocks)) u)
   where
     by : In (back (definitions f.blocks) (above (definitions f.blocks)) u) (definitions f.blocks) ⊎ (above (definitions f.blocks) ≤ back (definitions f.blocks) (above (definitions f.blocks)) u) → type_of f (back (definitions f.blocks) (above (definitions f.blocks)) u) ≡ type_of (canonical f) u

@@ -71,7 +71,7 @@ pub called_used_under : (r : Renaming) (t : CallTarget) (args : List ℕ) → ca
 called_used_under r (Direct k) args = refl
 called_used_under r (Indirect s a) args = refl
 
-operands_under : (r : Renaming) (i : Instruction) → operands (instruction_under r i) ≡ map r.value (operands i)
+pub operands_under : (r : Renaming) (i : Instruction) → operands (instruction_under r i) ≡ map r.value (operands i)
 operands_under r (Plain p) = simple_used_under r p
 operands_under r (Branches (Jump t)) = refl
 operands_under r (Branches (Brif v t u)) = refl

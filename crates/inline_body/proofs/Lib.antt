@@ -29,6 +29,7 @@ pub mod KeptForms
 pub mod KeptWritable
 pub mod KeptNumbers
 pub mod KeptCanon
+pub mod KeptSizes
 pub mod Linking
 pub mod Numbering
 pub mod Laws

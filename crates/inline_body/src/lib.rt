@@ -3,7 +3,7 @@
 
 mod acceptance;
 
-pub use acceptance::{numbering_keeps_acceptance, splice_stays_accepted, splice_stays_writable};
+pub use acceptance::{numbering_keeps_acceptance, numbering_keeps_writable, splice_stays_accepted, splice_stays_writable};
 
 ghost use Rattle.inline_body.specs.Laws.{NumberingKeepsRuns, SpliceKeepsRuns};
 

@@ -60,6 +60,10 @@ pub place_naming : (b g : Function) (at i : ℕ) (x : FuncName) (h : Found b at 
 unfolding at_place
 place_naming b g at i x h = refl
 
+pub place_callee : (b g : Function) (at i : ℕ) (x : FuncName) (h : Found b at i x) → (at_place b g at i x h).callee ≡ g
+unfolding at_place
+place_callee b g at i x h = refl
+
 pub site_of : (c : Module) (b g : Function) (at i : ℕ) (x : FuncName) → find_function b.name c ≡ Some b → find_function x c ≡ Some g → (h : Found b at i x) → Site c (at_place b g at i x h)
 unfolding at_place
 site_of c b g at i x there gone h =

@@ -1,7 +1,22 @@
 //! Laws of acceptance: functions without a body, each of which has its law as its contract.
-ghost use Rattle.inline_pass.specs.Kept.{PassAccepted};
+ghost use Rattle.inline_pass.specs.Kept.{PassAccepted, PassWritable, RenumberedPassAccepted, RenumberedPassWritable};
 
 /// The pass of an accepted module is accepted, and a module again, for every policy and in every order of functions.
 pub fn pass_stays_accepted()
     ensures { PassAccepted }
+{}
+
+/// A module that is the pass of an accepted module up to the numbers of values and blocks is accepted.
+pub fn renumbered_pass_stays_accepted()
+    ensures { RenumberedPassAccepted }
+{}
+
+/// The pass of an accepted and writable module is writable, where the policy's caller size is within the limit of a text.
+pub fn pass_stays_writable()
+    ensures { PassWritable }
+{}
+
+/// A module that is such a pass up to the numbers of values and blocks is writable.
+pub fn renumbered_pass_stays_writable()
+    ensures { RenumberedPassWritable }
 {}

@@ -3,7 +3,7 @@
 
 mod acceptance;
 
-pub use acceptance::pass_stays_accepted;
+pub use acceptance::{pass_stays_accepted, pass_stays_writable, renumbered_pass_stays_accepted, renumbered_pass_stays_writable};
 
 ghost use Rattle.inline_pass.specs.Laws.{PassKeepsRuns};
 

@@ -1,13 +1,12 @@
 -- Modules that are the same up to numbering: one is accepted where the other is.
-use Rattle.std.proofs.Common.{◌≡◌, ℕ, zero, suc, ◌≤◌, ◌<◌, inl, inr, ◌⊎◌, List, [], ◌∷◌, map, Option, Some, None, refl, sym, ap, ◌∙◌, subst, arith}
-use Rattle.std.proofs.lemmas.Bool.{cases_eq}
+use Rattle.std.proofs.Common.{◌≡◌, ℕ, zero, suc, ◌≤◌, inl, inr, ◌⊎◌, List, [], ◌∷◌, Option, Some, None, refl, sym, ap, ◌∙◌, subst, arith}
 use Rattle.ir_core.specs.declared.names.FuncName.{FuncName}
 use Rattle.ir_core.specs.declared.signatures.Ty.{Ty}
 use Rattle.ir_core.specs.Module.{Function, Module}
 use Rattle.ir_core.specs.Lookup.{In, Each, Different, find_function, type_of, definitions, block_numbers}
 use Rattle.ir_core.specs.Accepted.{FunctionAccepted, Accepted}
-use Rattle.ir_core.specs.Canon.{place, canonical_names, canonical, canonical_module, SameUpToNumbering}
-use Rattle.ir_core.specs.Whole.{Whole, DifferentNames, IsModule}
+use Rattle.ir_core.specs.Canon.{place, canonical_names, canonical, canonical_module}
+use Rattle.ir_core.specs.Whole.{Whole, DifferentNames}
 use Rattle.inline_body.specs.Kept.{NumberingAccepted}
 use Rattle.inline_body.proofs.Local.{some_same}
 use Rattle.inline_body.proofs.Numbering.{place_hit, place_skip, place_injective, Under, back, back_is, back_place, above, under_above, name_kept, function_map, function_none, back_names, back_is_injective, back_value, back_rest, canonical_back}

@@ -1,6 +1,6 @@
 -- A function under other numbers of values and blocks is accepted where it was, and so is a module.
-use Rattle.std.proofs.Common.{◌≡◌, ◌≢◌, ℕ, zero, suc, ◌≤◌, ◌<◌, ◌+◌, inl, inr, ◌⊎◌, List, [], ◌∷◌, ◌++◌, length, map, Option, Some, None, Bool, false, true, refl, sym, ap, ap₂, ◌∙◌, subst, arith}
-use Rattle.std.specs.Prelude.{slice_get, if◌then◌else◌}
+use Rattle.std.proofs.Common.{◌≡◌, ◌≢◌, ℕ, suc, inl, inr, List, [], ◌∷◌, ◌++◌, length, map, Option, Some, None, false, refl, sym, ap, ◌∙◌, subst}
+use Rattle.std.specs.Prelude.{slice_get}
 use Rattle.std.proofs.lemmas.Bool.{cases_eq}
 use Rattle.ir_core.specs.declared.names.FuncName.{FuncName}
 use Rattle.ir_core.specs.declared.signatures.Ty.{Ty}
@@ -8,37 +8,32 @@ use Rattle.ir_core.specs.declared.declarations.Callee.{Callee}
 use Rattle.ir_core.specs.declared.instructions.BlockCall.{BlockCall}
 use Rattle.ir_core.specs.declared.places.Item.TheVariants as item
 use Rattle.ir_core.specs.Module.{Function, Module, Line, Block}
-use Rattle.ir_core.specs.Lookup.{In, Each, find_block, find_function, type_in, type_of, param_types, definitions, block_numbers}
+use Rattle.ir_core.specs.Lookup.{In, find_block, find_function, type_in, type_of, param_types, definitions}
 use Rattle.ir_core.specs.Uses.{targets}
 use Rattle.ir_core.specs.Available.{terminates, Reach, begin, next, branch, Available}
-use Rattle.ir_core.specs.Accepted.{FunctionAccepted, Accepted, Rule, no_terminator, entry_target, count_mismatch, type_mismatch, convention, signature_mismatch, slot_range, tag_place, not_available, KeptAtLine, KeptAtBlock, KeptAtCallee, IsFirst, types_of, each_some, EntryIsNoTarget}
-use Rattle.ir_core.specs.Canon.{place, canonical_names, canonical, canonical_module, types_in_order}
-use Rattle.ir_core.specs.Whole.{Whole, DifferentNames, IsModule, declared}
+use Rattle.ir_core.specs.Accepted.{FunctionAccepted, Rule, no_terminator, entry_target, count_mismatch, type_mismatch, convention, signature_mismatch, slot_range, tag_place, not_available, KeptAtLine, KeptAtBlock, KeptAtCallee, IsFirst, types_of, each_some, EntryIsNoTarget}
+use Rattle.ir_core.specs.Canon.{place, canonical_names, canonical, types_in_order}
+use Rattle.ir_core.specs.Whole.{Whole}
 use Rattle.ir_core.specs.Renaming.{Renaming, block_under, line_under, tag_under}
 use Rattle.ir_core.specs.Splice.{first_number, with_type}
-use Rattle.inline_body.specs.Kept.{NumberingAccepted}
-use Rattle.inline_body.proofs.Local.{Injective, some_same}
+use Rattle.inline_body.proofs.Local.{Injective}
 use Rattle.inline_body.proofs.Frames.{Embeds}
 use Rattle.inline_body.proofs.Related.{RestOf}
-use Rattle.inline_body.proofs.Places.{find_hit}
-use Rattle.inline_body.proofs.Numbering.{Renumbers, renumber_embeds, place_hit, place_skip, place_injective, Under, back, back_is, back_place, above, under_above, name_kept, function_map, function_none, back_names, back_is_injective, back_value, back_rest, canonical_back}
-use Rattle.inline_body.proofs.KeptLists.{each_in, in_each, map_in, in_map, length_map, in_split, Sub, sub_front, target_from, map_get, get_map, none_map}
+use Rattle.inline_body.proofs.Numbering.{Renumbers, renumber_embeds, place_injective}
+use Rattle.inline_body.proofs.KeptLists.{each_in, in_each, in_map, length_map, Sub, sub_front, target_from, map_get, get_map, none_map}
 use Rattle.inline_body.proofs.Points.{RenamedFrom, renamed_find, ends_under, Ending, to_ending, of_ending}
-use Rattle.inline_body.proofs.KeptTypes.{type_skip, type_hit, type_append_none, type_append_some, with_off}
+use Rattle.inline_body.proofs.KeptTypes.{type_hit, type_append_none, with_off}
 use Rattle.inline_body.proofs.KeptRules.{vals_typed}
 use Rattle.inline_body.proofs.KeptSite.{LineKept, line_kept_at, rule_at, declared_type}
 use Rattle.inline_body.proofs.KeptLines.{under_kept}
 use Rattle.inline_body.proofs.KeptSplice.{tags_under}
-use Rattle.inline_body.proofs.KeptFunctions.{is_filled, get_in}
+use Rattle.inline_body.proofs.KeptFunctions.{is_filled}
 use Rattle.inline_body.proofs.KeptWhole.{typed_declared}
 
 block_head : {x y : Block} {xs ys : List Block} → x ∷ xs ≡ y ∷ ys → x ≡ y
 block_head e = cc
 
--- m' has a function's signature where m has it
-abbrev Declares : Module → Module → Type 0
-Declares m m' = (name : FuncName) (h' : Function) → find_function name m' ≡ Some h' → (h : Function) × (find_function name m ≡ Some h) × (h.sig ≡ h'.sig)
-
+-- m' has the signatures of m, and G is F under other numbers
 module _ (m m' : Module) (declares : (name : FuncName) (h' : Function) → find_function name m' ≡ Some h' → (h : Function) × (find_function name m ≡ Some h) × (h.sig ≡ h'.sig)) (F G : Function) (r : Renaming) (value : Injective r.value) (block : Injective r.block) (rest : (k : ℕ) → (r.slot k ≡ k) × (r.sig k ≡ k) × (r.callee k ≡ k)) (same : Renumbers r F G) (typed : (v : ℕ) → type_of G (r.value v) ≡ type_of F v) (accepted : FunctionAccepted m F) where
   emb : Embeds F G r (RestOf r)
   emb = renumber_embeds r F G value block (λ k. (rest k).0) (λ k. (rest k).1) (λ k. (rest k).2) same
@@ -220,9 +215,6 @@ undefined f w v off = by (type_of f v) refl
 pub canonical_typed : (f : Function) → Whole f → (v : ℕ) → type_of (canonical f) ((canonical_names f).value v) ≡ type_of f v
 canonical_typed f w v = by (type_of f v) refl
   where
-    new : ℕ → ℕ
-    new = place (definitions f.blocks)
-
     by : (o : Option Ty) → type_of f v ≡ o → type_of (canonical f) ((canonical_names f).value v) ≡ type_of f v
     by (Some t) q = order_in (place (definitions f.blocks)) (place_injective (definitions f.blocks)) f.types (definitions f.blocks) v t q (w.defined v (typed_declared f.types v t q)) ∙ sym q
     by None q = order_off (place (definitions f.blocks)) (place_injective (definitions f.blocks)) f.types (definitions f.blocks) v (λ p. let t = declared_type f.types v (w.definitions_declared v p) in let z : None ≡ Some t.0 = sym q ∙ t.1 in cc) ∙ sym q

@@ -1,14 +1,13 @@
 -- A function under other numbers of values and blocks has the same size, and is writable where it was.
-use Rattle.std.proofs.Common.{◌≡◌, ℕ, ◌≤◌, ◌+◌, inl, inr, List, [], ◌∷◌, ◌++◌, length, map, Option, Some, None, refl, sym, ap, ap₂, ◌∙◌, subst, arith}
+use Rattle.std.proofs.Common.{◌≡◌, ℕ, ◌≤◌, ◌+◌, List, [], ◌∷◌, length, map, refl, sym, ap, ap₂, ◌∙◌, subst, arith}
 use Rattle.std.specs.Prelude.{sum_by}
 use Rattle.std.proofs.lemmas.List.Sums.{sum_by-cons}
-use Rattle.exn_tables.specs.declared.table.Entry.{Entry}
 use Rattle.ir_core.specs.declared.declarations.Callee.{Callee}
 use Rattle.ir_core.specs.declared.instructions.BlockCall.{BlockCall}
 use Rattle.ir_core.specs.Module.{Function, Module, Jump, Brif, BrTable, Branches, Call, Instruction, Line, Block, Plain, Return, ReturnCall, SequencePoint, TryCall}
-use Rattle.ir_core.specs.Lookup.{In, Each, type_of, definitions, block_numbers}
+use Rattle.ir_core.specs.Lookup.{Each, type_of, definitions, block_numbers}
 use Rattle.ir_core.specs.Uses.{targets, operands}
-use Rattle.ir_core.specs.Canon.{canonical_names, canonical, canonical_module, SameUpToNumbering}
+use Rattle.ir_core.specs.Canon.{canonical_names, canonical, canonical_module}
 use Rattle.ir_core.specs.Renaming.{Renaming, arg_under, entry_under, target_under, instruction_under, line_under, block_under, tag_under}
 use Rattle.ir_core.specs.Size.{size_of, block_size, line_size, sig_size, instruction_size, entries}
 use Rattle.ir_core.specs.Whole.{Whole}
@@ -88,9 +87,9 @@ to_canonical : (m : Module) → Each Whole m → Writable m → Writable (canoni
 to_canonical m whole w =
     record {
       functions = in_each FunctionWritable (canonical_module m) (λ h p.
-      let u = map_in canonical h m p in
-      let f = u.0 in
-      subst FunctionWritable (sym u.2) (renumbered_writable f (canonical f) (canonical_names f) (place_injective (definitions f.blocks)) (place_injective (block_numbers f.blocks)) (λ k. (refl, refl, refl)) (record { sig = refl; slots = refl; sigs = refl; callees = refl; blocks = refl }) refl (canonical_typed f (each_in Whole m whole f u.1)) (each_in FunctionWritable m w.functions f u.1)));
+          let u = map_in canonical h m p in
+          let f = u.0 in
+          subst FunctionWritable (sym u.2) (renumbered_writable f (canonical f) (canonical_names f) (place_injective (definitions f.blocks)) (place_injective (block_numbers f.blocks)) (λ k. (refl, refl, refl)) (record { sig = refl; slots = refl; sigs = refl; callees = refl; blocks = refl }) refl (canonical_typed f (each_in Whole m whole f u.1)) (each_in FunctionWritable m w.functions f u.1)));
       count = subst (λ n. n ≤ 65536) (sym (length_map canonical m)) w.count;
     }
 
@@ -98,9 +97,9 @@ from_canonical : (m : Module) → Each Whole m → Writable (canonical_module m)
 from_canonical m whole w =
     record {
       functions = in_each FunctionWritable m (λ f p.
-      let wf = each_in Whole m whole f p in
-      let inj = back_is_injective f wf in
-      renumbered_writable (canonical f) f (back_names f) inj.0 inj.1 (back_rest f) (record { sig = refl; slots = refl; sigs = refl; callees = refl; blocks = sym (canonical_back f wf) }) refl (back_typed f wf) (each_in FunctionWritable (canonical_module m) w.functions (canonical f) (in_map canonical f m p)));
+          let wf = each_in Whole m whole f p in
+          let inj = back_is_injective f wf in
+          renumbered_writable (canonical f) f (back_names f) inj.0 inj.1 (back_rest f) (record { sig = refl; slots = refl; sigs = refl; callees = refl; blocks = sym (canonical_back f wf) }) refl (back_typed f wf) (each_in FunctionWritable (canonical_module m) w.functions (canonical f) (in_map canonical f m p)));
       count = subst (λ n. n ≤ 65536) (length_map canonical m) w.count;
     }
 

@@ -1,41 +1,35 @@
 -- A splice of writable functions is writable, where its size is within the limit.
-use Rattle.std.proofs.Common.{◌≡◌, ℕ, zero, suc, ◌≤◌, ◌<◌, ◌+◌, inl, inr, List, [], ◌∷◌, ◌++◌, length, map, Option, Some, None, Bool, false, true, refl, sym, ap, ap₂, ◌∙◌, subst, arith}
-use Rattle.std.specs.Prelude.{slice_get, IsSomeAnd, sum_by, if◌then◌else◌}
+use Rattle.std.proofs.Common.{◌≡◌, ℕ, zero, suc, ◌≤◌, ◌<◌, ◌+◌, inl, inr, List, [], ◌∷◌, length, map, Some, Bool, false, true, refl, sym, ap, ◌∙◌, subst, arith}
+use Rattle.std.specs.Prelude.{slice_get, sum_by, if◌then◌else◌}
 use Rattle.std.proofs.lemmas.List.Sums.{sum_by-cons}
 use Rattle.exn_tables.specs.declared.table.Entry.{Entry}
-use Rattle.debug_tags.specs.declared.tags.Tag.{Tag}
 use Rattle.ir_core.specs.declared.signatures.Ty.{Ty}
-use Rattle.ir_core.specs.declared.signatures.Ty.TheVariants.{I64}
-use Rattle.ir_core.specs.declared.signatures.Sig.{Sig}
 use Rattle.ir_core.specs.declared.declarations.Callee.{Callee}
 use Rattle.ir_core.specs.declared.instructions.Arg.{Arg}
 use Rattle.ir_core.specs.declared.instructions.Arg.TheVariants as arg
 use Rattle.ir_core.specs.declared.instructions.BlockCall.{BlockCall}
 use Rattle.ir_core.specs.Module.{CallTarget, Function, Module, Branches, Call, Instruction, Line, Block, Plain, Return, ReturnCall, SequencePoint, TryCall}
 use Rattle.ir_core.specs.Lookup.{In, Each, find_block, same_name, signature_of, param_types, type_of}
-use Rattle.ir_core.specs.Accepted.{InstructionTypes, CallTypes, HaveTypes, ArgCounts, types_of, each_some, Accepted}
-use Rattle.ir_core.specs.Import.{callee_with, callees_with, callees_after, same_callee, sigs_after}
-use Rattle.ir_core.specs.Renaming.{called_under, target_under, entry_under, line_under, tag_under}
-use Rattle.ir_core.specs.Size.{size_of, block_size, line_size, sig_size}
-use Rattle.ir_core.specs.Site.{Site}
-use Rattle.ir_core.specs.Splice.{Kind, Last, Splicing, Tries, Within, args_of, callee_line, callee_names, caller_names, first_number, from, joined_tags, jump_to, kind_of, line_with, new_results, or_ret, replace, returned_arg, spliced, to_normal}
-use Rattle.ir_core.specs.Whole.{IsModule}
-use Rattle.ir_core.specs.Writable.{InstructionForm, LineWritable, FunctionWritable, Writable, NameWritable, SlotWritable, ResultTypes, TargetWritable, ValueArg, NormalArg, TableWritable, TagWritable, greatest_number}
+use Rattle.ir_core.specs.Accepted.{InstructionTypes, CallTypes, HaveTypes, ArgCounts}
+use Rattle.ir_core.specs.Import.{callees_with, callees_after, same_callee, sigs_after}
+use Rattle.ir_core.specs.Renaming.{called_under, entry_under, line_under, tag_under}
+use Rattle.ir_core.specs.Size.{size_of, block_size, line_size}
+use Rattle.ir_core.specs.Splice.{Kind, Last, Splicing, Tries, Within, args_of, callee_line, callee_names, caller_names, first_number, from, joined_tags, jump_to, kind_of, line_with, new_results, or_ret, replace, returned_arg, spliced}
+use Rattle.ir_core.specs.Writable.{InstructionForm, LineWritable, FunctionWritable, NameWritable, SlotWritable, ResultTypes, TargetWritable, ValueArg, NormalArg, TableWritable, TagWritable}
 use Rattle.ir_core.specs.Kept.{SpliceWritable}
-use Rattle.inline_body.proofs.Frames.{Embeds}
 use Rattle.inline_body.proofs.Related.{RestF, RestG}
 use Rattle.inline_body.proofs.Linking.{embeds_f, embeds_g}
 use Rattle.inline_body.proofs.Points.{Trans}
-use Rattle.inline_body.proofs.KeptLists.{some_and, each_in, in_each, each_append, length_map}
-use Rattle.inline_body.proofs.KeptPaths.{SpotG, LineFrom, pf, pj, pg, px, known, site_get}
+use Rattle.inline_body.proofs.KeptLists.{each_in, in_each, each_append, length_map}
+use Rattle.inline_body.proofs.KeptPaths.{LineFrom, pf, pj, pg, px, known, site_get}
 use Rattle.inline_body.proofs.KeptTypes.{caller_typed, callee_typed}
 use Rattle.inline_body.proofs.KeptRules.{some_map}
 use Rattle.inline_body.proofs.KeptSite.{LineKept, line_kept_at, TriesFacts, facts}
 use Rattle.inline_body.proofs.KeptLines.{Setting}
 use Rattle.inline_body.proofs.KeptSplice.{line_kept}
 use Rattle.inline_body.proofs.KeptFunctions.{get_in, in_get, in_items, in_with, in_replace}
-use Rattle.inline_body.proofs.KeptModules.{find_in, find_function_in, setting, splice_accepted}
-use Rattle.inline_body.proofs.KeptForms.{results_of, results_none, tags_written, joined_written, normal_written, table_written, form_under}
+use Rattle.inline_body.proofs.KeptModules.{find_in, find_function_in, setting}
+use Rattle.inline_body.proofs.KeptForms.{results_of, tags_written, joined_written, normal_written, table_written, form_under}
 use Rattle.inline_body.proofs.Unique.{in_find, out_different}
 
 -- ---- a part is no more than the whole
@@ -184,10 +178,10 @@ module _ (m : Module) (S : Splicing) (E : Setting m S) (fw : FunctionWritable S.
         slots = each_append SlotWritable S.caller.slots S.callee.slots fw.slots gw.slots;
         callees = in_each (λ (c : Callee). NameWritable c.name) (callees_after S.caller S.callee) callee_name;
         lines = in_each (λ (b : Block). Each (LineWritable (spliced S)) b.lines) (spliced S).blocks (λ k p. in_each (LineWritable (spliced S)) k.lines (λ l q.
-        let g = in_get k.lines l q in
-        let found = in_find k (spliced S).blocks (out_different S E.names E.f_ok.numbers E.g_ok.numbers) p in
-        let o = (known m S E.names E.site E.f_ok E.g_ok k.number k found g.0 l g.1).which in
-        line_written k.number g.0 l o (line_kept m S E k.number g.0 l o)));
+            let g = in_get k.lines l q in
+            let found = in_find k (spliced S).blocks (out_different S E.names E.f_ok.numbers E.g_ok.numbers) p in
+            let o = (known m S E.names E.site E.f_ok E.g_ok k.number k found g.0 l g.1).which in
+            line_written k.number g.0 l o (line_kept m S E k.number g.0 l o)));
         size = size;
       }
 

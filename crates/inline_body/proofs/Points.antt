@@ -1,5 +1,5 @@
 -- Which line of the source a line of the result comes from.
-use Rattle.std.proofs.Common.{◌≡◌, ℕ, zero, suc, ◌+◌, ◌<◌, ◌⊎◌, inl, inr, List, [], ◌∷◌, ◌++◌, length, map, Option, Some, None, Bool, true, false, refl, sym, ap, ◌∙◌, subst, arith, eq-eqb, ne_eqb}
+use Rattle.std.proofs.Common.{◌≡◌, ℕ, zero, suc, ◌+◌, ◌⊎◌, inl, inr, List, [], ◌∷◌, ◌++◌, length, map, Option, Some, None, Bool, true, false, refl, sym, ap, ◌∙◌, subst, arith, eq-eqb, ne_eqb}
 use Rattle.std.specs.Prelude.{slice_get, if◌then◌else◌}
 use Rattle.std.proofs.lemmas.Bool.{cases_eq}
 use Rattle.exn_tables.specs.declared.table.Entry.{Entry}
@@ -390,5 +390,3 @@ module _ (S : Splicing) (names : Distinct S.naming) where
           lifted e (of_cut name is) = of_cut name is
           lifted e (of_g o) = of_g o
           lifted e (of_after w name is) = of_after w name is
-
-

@@ -3,9 +3,12 @@
 
 mod acceptance;
 
-pub use acceptance::{pass_stays_accepted, pass_stays_writable, renumbered_pass_stays_accepted, renumbered_pass_stays_writable};
-
 ghost use Rattle.inline_pass.specs.Laws.{PassKeepsRuns};
+
+pub use acceptance::{
+    pass_stays_accepted, pass_stays_writable, renumbered_pass_stays_accepted,
+    renumbered_pass_stays_writable,
+};
 
 /// The pass keeps every outcome of a run that lacks nothing and reads no unwritten byte of a slot, for every policy and in
 /// every order of functions.

@@ -23,22 +23,22 @@ way (by_way {y = y} i l) = let w = way l in record { by = y ∷ w.by; walk = (i,
 
 -- ---- tests of lists of names
 
-or_cases : (a b : Bool) → (a || b) ≡ true → (a ≡ true) ⊎ (b ≡ true)
+pub or_cases : (a b : Bool) → (a || b) ≡ true → (a ≡ true) ⊎ (b ≡ true)
 or_cases true b h = inl refl
 or_cases false b h = inr h
 
-or_left : (a b : Bool) → a ≡ true → (a || b) ≡ true
+pub or_left : (a b : Bool) → a ≡ true → (a || b) ≡ true
 or_left a b h = ap (λ x. x || b) h
 
-or_right : (a b : Bool) → b ≡ true → (a || b) ≡ true
+pub or_right : (a b : Bool) → b ≡ true → (a || b) ≡ true
 or_right true b h = refl
 or_right false b h = h
 
-some_of : (test : FuncName → Bool) (ns : List FuncName) → some_name test ns ≡ true → (n : FuncName) × In n ns × (test n ≡ true)
+pub some_of : (test : FuncName → Bool) (ns : List FuncName) → some_name test ns ≡ true → (n : FuncName) × In n ns × (test n ≡ true)
 some_of test [] h = cc
 some_of test (n ∷ ns) h = elim (or_cases (test n) (some_name test ns) h) [ inl q ↦ (n, inl refl, q) | inr q ↦ let r = some_of test ns q in (r.0, inr r.1, r.2) ]
 
-of_some : (test : FuncName → Bool) (ns : List FuncName) (n : FuncName) → In n ns → test n ≡ true → some_name test ns ≡ true
+pub of_some : (test : FuncName → Bool) (ns : List FuncName) (n : FuncName) → In n ns → test n ≡ true → some_name test ns ≡ true
 of_some test [] n i h = elim i [ ]
 of_some test (k ∷ ns) n (inl q) h = or_left (test k) (some_name test ns) (ap test (sym q) ∙ h)
 of_some test (k ∷ ns) n (inr q) h = or_right (test k) (some_name test ns) (of_some test ns n q h)
@@ -60,14 +60,14 @@ walk_reaches m (suc n) x (z ∷ zs) y h w =
 
 -- ---- without repetitions
 
-abbrev AllDifferent : List FuncName → Type 0
+abbrev pub AllDifferent : List FuncName → Type 0
 AllDifferent [] = Unit {0}
 AllDifferent (n ∷ ns) = (In n ns → ⊥) × AllDifferent ns
 
-different_names : (a b : FuncName) → same_name a b ≡ false → a ≡ b → ⊥
+pub different_names : (a b : FuncName) → same_name a b ≡ false → a ≡ b → ⊥
 different_names a b h q = let e : false ≡ true = sym h ∙ equal_name a b q in cc
 
-in_or_not : (n : FuncName) (ns : List FuncName) → In n ns ⊎ (In n ns → ⊥)
+pub in_or_not : (n : FuncName) (ns : List FuncName) → In n ns ⊎ (In n ns → ⊥)
 in_or_not n [] = inr (λ p. p)
 in_or_not n (k ∷ ns) =
     elim (cases_name n k) [

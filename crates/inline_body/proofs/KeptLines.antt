@@ -227,7 +227,7 @@ module _ (m : Module) (S : Splicing) (E : Setting m S) where
         let both = λ (z : Sig) (q : signature_of S.callee t ≡ Some z). let a : u.0 ≡ z = some_same (sym u.1 ∙ q) in let b : w.0 ≡ z = some_same (sym w.1 ∙ q) in go z q (subst C a u.2.1) (subst T b w.2.1) in
         let one = both u.0 u.1 in
         record {
-          counts = call_counts S.callee (spliced S) (callee_names S) (RestG S (kind_of S.site.inst)) eg g_typed t args C (λ z. (0 ≡ 0) × Each (TargetCounts (spliced S) (Some (length z.results))) (normal ∷ table_targets table)) (λ z q p. (refl, (both z q).counts)) counts;
+          counts = call_counts S.callee (spliced S) (callee_names S) (RestG S (kind_of S.site.inst)) eg g_typed t args C (λ z. (0 ≡ 0) × Each (TargetCounts (spliced S) (Some (length z.results))) (normal ∷ table_targets table)) (λ z q p. (refl {a = 0}, (both z q).counts)) counts;
           types = call_types S.callee (spliced S) (callee_names S) (RestG S (kind_of S.site.inst)) eg g_typed li (try_with S li (called_under (callee_names S) t) sg args normal table) (refl {a = li.ty}) t args T (λ z. TargetTypes (spliced S) (param_types z.results) [] normal × Each (TargetTypes (spliced S) [] (I64 ∷ I64 ∷ [])) (table_targets table)) (λ z q p. ((both z q).normal_types, (both z q).table_types)) types;
           convention = tt;
           signature = named;

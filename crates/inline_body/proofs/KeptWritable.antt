@@ -1,7 +1,6 @@
 -- A splice of writable functions is writable, where its size is within the limit.
 use Rattle.std.proofs.Common.{◌≡◌, ℕ, zero, suc, ◌≤◌, ◌<◌, ◌+◌, inl, inr, List, [], ◌∷◌, length, map, Some, Bool, false, true, refl, sym, ap, ◌∙◌, subst, arith}
-use Rattle.std.specs.Prelude.{slice_get, sum_by, if◌then◌else◌}
-use Rattle.std.proofs.lemmas.List.Sums.{sum_by-cons}
+use Rattle.std.specs.Prelude.{slice_get, if◌then◌else◌}
 use Rattle.exn_tables.specs.declared.table.Entry.{Entry}
 use Rattle.ir_core.specs.declared.signatures.Ty.{Ty}
 use Rattle.ir_core.specs.declared.declarations.Callee.{Callee}
@@ -13,7 +12,7 @@ use Rattle.ir_core.specs.Lookup.{In, Each, find_block, same_name, signature_of, 
 use Rattle.ir_core.specs.Accepted.{InstructionTypes, CallTypes, HaveTypes, ArgCounts}
 use Rattle.ir_core.specs.Import.{callees_with, callees_after, same_callee, sigs_after}
 use Rattle.ir_core.specs.Renaming.{called_under, entry_under, line_under, tag_under}
-use Rattle.ir_core.specs.Size.{size_of, block_size, line_size}
+use Rattle.ir_core.specs.Size.{size_of, block_size, line_size, total}
 use Rattle.ir_core.specs.Splice.{Kind, Last, Splicing, Tries, Within, args_of, callee_line, callee_names, caller_names, first_number, from, joined_tags, jump_to, kind_of, line_with, new_results, or_ret, replace, returned_arg, spliced}
 use Rattle.ir_core.specs.Writable.{InstructionForm, LineWritable, FunctionWritable, NameWritable, SlotWritable, ResultTypes, TargetWritable, ValueArg, NormalArg, TableWritable, TagWritable}
 use Rattle.ir_core.specs.Kept.{SpliceWritable}
@@ -34,10 +33,10 @@ use Rattle.inline_body.proofs.Unique.{in_find, out_different}
 
 -- ---- a part is no more than the whole
 
-part_of : {A : Type 0} (h : A → ℕ) (a : A) (xs : List A) → In a xs → h a ≤ sum_by h xs
+part_of : {A : Type 0} (h : A → ℕ) (a : A) (xs : List A) → In a xs → h a ≤ total h xs
 part_of h a [] p = elim p [ ]
-part_of h a (x ∷ xs) (inl p) = let e = sum_by-cons h x xs in let q = ap h p in omega (arith, e, q)
-part_of h a (x ∷ xs) (inr p) = let e = sum_by-cons h x xs in let q = part_of h a xs p in omega (arith, e, q)
+part_of h a (x ∷ xs) (inl p) = let q = ap h p in omega (arith, q)
+part_of h a (x ∷ xs) (inr p) = let q = part_of h a xs p in omega (arith, q)
 
 results_within : (f : Function) (b : ℕ) (k : Block) (i : ℕ) (l : Line) → find_block b f.blocks ≡ Some k → slice_get k.lines i ≡ Some l → length l.results ≤ size_of f
 results_within f b k i l found get =

@@ -1,9 +1,9 @@
 //! The splice: a call replaced by the body of its callee. It keeps what every run does.
 #![tactic(auto)]
 
-mod acceptance;
+ghost use Rattle.inline_body.specs.Laws.{NumberingKeeps, NumberingKeepsRuns, SpliceKeeps, SpliceKeepsRuns};
 
-ghost use Rattle.inline_body.specs.Laws.{NumberingKeepsRuns, SpliceKeepsRuns};
+mod acceptance;
 
 pub use acceptance::{
     numbering_keeps_acceptance, numbering_keeps_writable, splice_stays_accepted,
@@ -22,3 +22,18 @@ pub fn splice_keeps_runs()
 pub fn numbering_keeps_runs()
     ensures { NumberingKeepsRuns }
 {}
+
+/// In an accepted module a direct call of any kind, replaced by the body of its callee, keeps every outcome of every entry
+/// call whose run reads no unwritten byte of a slot, with at most twice as many steps, and adds none.
+pub fn splice_keeps()
+    ensures { SpliceKeeps }
+{
+    ir_core::accepted_never_sticks();
+}
+
+/// A module that is the same as an accepted one up to the numbers of values and blocks has the same outcomes.
+pub fn numbering_keeps()
+    ensures { NumberingKeeps }
+{
+    ir_core::accepted_never_sticks();
+}

@@ -1,3 +1,9 @@
+pub mod Finishing
+pub mod Holding
+pub mod InOrder
+pub mod Outcomes
 pub mod Passing
+pub mod Renumbered
 pub mod Rows
-pub mod PassKept
+pub mod Tracking
+pub mod Kept

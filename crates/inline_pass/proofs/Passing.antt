@@ -27,7 +27,7 @@ pub then_some : {A B : Type 0} (o : Option A) (go : A → Option B) (b : B) → 
 then_some None go b h = cc
 then_some (Some a) go b h = (a, refl, h)
 
-cut_list : (ls : List Line) (i : ℕ) (l : Line) → slice_get ls i ≡ Some l → ls ≡ take i ls ++ (l ∷ drop (suc i) ls)
+pub cut_list : (ls : List Line) (i : ℕ) (l : Line) → slice_get ls i ≡ Some l → ls ≡ take i ls ++ (l ∷ drop (suc i) ls)
 cut_list [] i l h = cc
 cut_list (x ∷ ls) zero l h = ap (λ z. z ∷ ls) (some_same h)
 cut_list (x ∷ ls) (suc i) l h = ap (λ z. x ∷ z) (cut_list ls i l h)
@@ -53,19 +53,13 @@ found b at i x h =
     record { block = p.0; line = q.0; index = r.0; callee = s.0; found = p.1; get = q.1; is = r.1; has = s.1; name = some_same {x = s.0.name} s.2 }
 
 -- the splice there
-pub at_place : (b g : Function) (at i : ℕ) (x : FuncName) → Found b at i x → Splicing
+abbrev pub at_place : (b g : Function) (at i : ℕ) (x : FuncName) → Found b at i x → Splicing
 at_place b g at i x h = record { naming = sides; caller = b; callee = g; at = at; before = take i h.block.lines; site = h.line; behind = drop (suc i) h.block.lines }
 
 pub place_naming : (b g : Function) (at i : ℕ) (x : FuncName) (h : Found b at i x) → (at_place b g at i x h).naming ≡ sides
-unfolding at_place
 place_naming b g at i x h = refl
 
-pub place_callee : (b g : Function) (at i : ℕ) (x : FuncName) (h : Found b at i x) → (at_place b g at i x h).callee ≡ g
-unfolding at_place
-place_callee b g at i x h = refl
-
 pub site_of : (c : Module) (b g : Function) (at i : ℕ) (x : FuncName) → find_function b.name c ≡ Some b → find_function x c ≡ Some g → (h : Found b at i x) → Site c (at_place b g at i x h)
-unfolding at_place
 site_of c b g at i x there gone h =
     record {
       block = h.block;
@@ -80,26 +74,23 @@ site_of c b g at i x there gone h =
     }
 
 pub splice_is : (b g : Function) (at i : ℕ) (x : FuncName) (h : Found b at i x) → splice_with sides b at i g ≡ spliced (at_place b g at i x h)
-unfolding at_place
 splice_is b g at i x h =
     ap (λ o. elim o as (λ z. Function) [ None ↦ b | Some k ↦ elim (slice_get k.lines i) as (λ z. Function) [ None ↦ b | Some l ↦ spliced (record { naming = sides; caller = b; callee = g; at = at; before = take i k.lines; site = l; behind = drop (suc i) k.lines }) ] ]) h.found ∙ ap (λ o. elim o as (λ z. Function) [ None ↦ b | Some l ↦ spliced (record { naming = sides; caller = b; callee = g; at = at; before = take i h.block.lines; site = l; behind = drop (suc i) h.block.lines }) ]) h.get
 
 -- a splice keeps runs
 splice_kept : (c : Module) (b g : Function) (at i : ℕ) (x : FuncName) → find_function b.name c ≡ Some b → find_function x c ≡ Some g → (h : Found b at i x) → RunsKept c (replace (splice_with sides b at i g) c)
-unfolding at_place
 splice_kept c b g at i x there gone h =
     subst (λ z. RunsKept c (replace z c)) (sym (splice_is b g at i x h)) (runs_kept c (replace (spliced (at_place b g at i x h)) c) (splice_runs c (at_place b g at i x h) distinct_sides (site_of c b g at i x there gone h)))
 
 pub spliced_name : (b g : Function) (at i : ℕ) (x : FuncName) → Found b at i x → (splice_with sides b at i g).name ≡ b.name
-unfolding at_place
 spliced_name b g at i x h = ap (λ z. z.name) (splice_is b g at i x h)
 
 -- replacing twice, and by itself
 
-replace_hit : (b j : Function) (js : Module) → j.name ≡ b.name → replace b (j ∷ js) ≡ b ∷ js
+pub replace_hit : (b j : Function) (js : Module) → j.name ≡ b.name → replace b (j ∷ js) ≡ b ∷ js
 replace_hit b j js q = ap (λ c. if c then b ∷ js else j ∷ replace b js) (equal_name j.name b.name q)
 
-replace_skip : (b j : Function) (js : Module) → same_name j.name b.name ≡ false → replace b (j ∷ js) ≡ j ∷ replace b js
+pub replace_skip : (b j : Function) (js : Module) → same_name j.name b.name ≡ false → replace b (j ∷ js) ≡ j ∷ replace b js
 replace_skip b j js q = ap (λ c. if c then b ∷ js else j ∷ replace b js) q
 
 pub replace_twice : (a b : Function) (m : Module) → a.name ≡ b.name → replace b (replace a m) ≡ replace b m

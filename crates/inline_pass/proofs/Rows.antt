@@ -1,6 +1,6 @@
 -- Worked examples of sizes, policies and the pass.
 use Rattle.std.specs.Prelude.{◌≡◌, [], ◌∷◌, map, None}
-use Rattle.std.proofs.Common.{refl}
+use Rattle.std.proofs.Common.{inl, refl}
 use Rattle.clk_num.specs.declared.width.Width.TheVariants.{W32}
 use Rattle.ir_core.specs.declared.names.FuncName.{FuncName}
 use Rattle.ir_core.specs.declared.names.FuncName.TheVariants.{Text}
@@ -13,6 +13,7 @@ use Rattle.ir_core.specs.Splice.{sides, splice_with}
 use Rattle.ir_core.specs.Canon.{canonical}
 use Rattle.ir_core.specs.Size.{size_of}
 use Rattle.ir_core.proofs.Written.{signature, declares, f, g}
+use Rattle.call_graph.specs.Order.{BottomUp, bottom_up, piece_number}
 use Rattle.inline_pass.specs.Finished.{passed}
 use Rattle.inline_pass.specs.Pass.{pass}
 
@@ -322,3 +323,18 @@ one_piece_of_two = refl
 in_order : map canonical (pass (record { callee_size = 64; caller_size = 4096 }) (a ∷ b ∷ c ∷ []) (in_a ∷ in_b ∷ in_c ∷ [])) ≡ in_a ∷ in_b ∷ in_c_result ∷ []
 unfolding same_sig
 in_order = refl
+
+-- the order from callees to callers: the piece of the two, then the caller
+order_of_pieces : bottom_up (in_a ∷ in_b ∷ in_c ∷ []) ≡ a ∷ b ∷ c ∷ []
+order_of_pieces = refl
+
+numbers_of_pieces : map (piece_number (in_a ∷ in_b ∷ in_c ∷ [])) (a ∷ b ∷ c ∷ []) ≡ 0 ∷ 0 ∷ 2 ∷ []
+numbers_of_pieces = refl
+
+-- a callee that stands behind its caller in the module
+caller_first : bottom_up (one_call ∷ constant ∷ []) ≡ f0 ∷ f1 ∷ []
+caller_first = refl
+
+-- a caller before its callee is no bottom-up order
+caller_not_first : BottomUp pair_of (f1 ∷ f0 ∷ []) → ⊥
+caller_not_first order = order.callees_before.1 f0 (inl refl) refl (inl refl)

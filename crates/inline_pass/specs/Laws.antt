@@ -5,6 +5,7 @@ use Rattle.ir_core.specs.Module.{Module}
 use Rattle.ir_core.specs.Same.{Same}
 use Rattle.ir_core.specs.Whole.{IsModule}
 use Rattle.ir_core.specs.Accepted.{Accepted}
+use Rattle.ir_core.specs.Canon.{SameUpToNumbering}
 use Rattle.inline_body.specs.Laws.{RunsKept}
 use Rattle.inline_pass.specs.Policy.{Policy}
 use Rattle.inline_pass.specs.Pass.{pass}
@@ -15,3 +16,7 @@ PassKeepsRuns = (p : Policy) (order : List FuncName) (m : Module) → RunsKept m
 -- the same of accepted modules and entry calls
 abbrev pub PassKeeps : Type 0
 PassKeeps = (p : Policy) (order : List FuncName) (m : Module) → IsModule m → Accepted m → Same m (pass p order m)
+
+-- a module that is the pass up to numbering, as a tool answers it
+abbrev pub RenumberedPassKeeps : Type 0
+RenumberedPassKeeps = (p : Policy) (order : List FuncName) (m r : Module) → IsModule m → Accepted m → SameUpToNumbering (pass p order m) r → Same m r

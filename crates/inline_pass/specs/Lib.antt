@@ -1,4 +1,5 @@
 pub mod Finished
+pub mod FinishedLaws
 pub mod Kept
 pub mod Laws
 pub mod Pass

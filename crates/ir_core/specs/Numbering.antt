@@ -1,6 +1,6 @@
 -- The canonical numbers of a function: values are numbered from 0 in order of definition in the text, parameters of a block
 -- before the results of its instructions, and blocks by their place.
-use Rattle.std.specs.Prelude.{ℕ, suc, List, [], ◌∷◌, length, map, nat_eq, if◌then◌else◌}
+use Rattle.std.specs.Prelude.{ℕ, suc, List, [], ◌∷◌, map, nat_eq, if◌then◌else◌}
 use Rattle.ir_core.specs.Module.{Function, Module}
 use Rattle.ir_core.specs.Lookup.{definitions, block_numbers}
 
@@ -9,14 +9,13 @@ abbrev pub place : List ℕ → ℕ → ℕ
 place [] v = 0
 place (x ∷ xs) v = if nat_eq x v then 0 else suc (place xs v)
 
--- new numbers for the values and blocks of a function, and how many values have one
+-- values and blocks in their canonical order: the canonical number of each is its place
 pub record Numbering : Type 0 where
-  pub value : ℕ → ℕ
-  pub block : ℕ → ℕ
-  pub values : ℕ
+  pub values : List ℕ
+  pub blocks : List ℕ
 
 abbrev pub numbering_of : Function → Numbering
-numbering_of f = record { value = place (definitions f.blocks); block = place (block_numbers f.blocks); values = length (definitions f.blocks) }
+numbering_of f = record { values = definitions f.blocks; blocks = block_numbers f.blocks }
 
 abbrev pub numberings_of : Module → List Numbering
 numberings_of m = map numbering_of m

@@ -1,35 +1,46 @@
--- The size of a function, on which the limit of a text and the policy of inlining rest: the number of its blocks, block
--- parameters, instructions, results, operands (each value, `ret` or `exn` in the place of an operand or a target's
--- argument), entries of `br_table` lists and of exception tables, debug tags, slots and callee declarations, and for each
--- signature of its list 1 plus its parameters plus its results. Its own signature is not counted.
-use Rattle.std.specs.Prelude.{ℕ, ◌+◌, length, sum_by}
+-- The size of a function: the sum of its blocks, block parameters, instructions, results of instructions, operands
+-- (each value, result or payload in an operand place or as an argument of a target, and the address of an indirect call),
+-- entries of `br_table` lists and of exception tables, debug tags, slots, callee declarations, and for each signature of
+-- its list one, its parameters and its results. The function's own signature isn't counted.
+use Rattle.std.specs.Prelude.{ℕ, ◌+◌, List, [], ◌∷◌, length, min}
 use Rattle.ir_core.specs.declared.signatures.Sig.{Sig}
 use Rattle.ir_core.specs.declared.instructions.BlockCall.{BlockCall}
-use Rattle.ir_core.specs.Module.{Branch, Jump, Brif, BrTable, Instruction, Branches, TryCall, Line, Block, Function}
-use Rattle.ir_core.specs.Uses.{operands, targets}
+use Rattle.ir_core.specs.Module.{BrTable, Instruction, Branches, TryCall, Line, Block, Function}
+use Rattle.ir_core.specs.Operands.{own_values, targets}
+use Rattle.ir_core.specs.Edits.{params_of, lines_of}
 
-abbrev pub branch_entries : Branch → ℕ
-branch_entries (Jump t) = 0
-branch_entries (Brif v t u) = 0
-branch_entries (BrTable v default ts) = length ts
+-- the sum of a number for each element
+abbrev pub total : {A : Type 0} → (A → ℕ) → List A → ℕ
+total f [] = 0
+total f (x ∷ xs) = f x + total f xs
 
--- entries of a `br_table` list or of an exception table
-abbrev pub entries : Instruction → ℕ
-entries (Branches b) = branch_entries b
-entries (TryCall t sig args normal table) = length table
-entries _ = 0
+abbrev pub argument_count : BlockCall → ℕ
+argument_count target = length target.args
 
-abbrev pub instruction_size : Instruction → ℕ
-instruction_size i = length (operands i) + sum_by (λ (t : BlockCall). length t.args) (targets i) + entries i
+abbrev pub operand_count : Instruction → ℕ
+operand_count i = length (own_values i) + total argument_count (targets i)
+
+abbrev pub entry_count : Instruction → ℕ
+entry_count (Branches (BrTable index default entries)) = length entries
+entry_count (TryCall callee sig args normal table) = length table
+entry_count i = 0
 
 abbrev pub line_size : Line → ℕ
-line_size l = 1 + length l.results + instruction_size l.inst + length l.tags
+line_size l = (1 + length l.results) + (operand_count l.inst + entry_count l.inst) + length l.tags
 
 abbrev pub block_size : Block → ℕ
-block_size b = 1 + length b.params + sum_by line_size b.lines
+block_size b = (1 + length b.params) + total line_size b.lines
 
 abbrev pub sig_size : Sig → ℕ
-sig_size s = 1 + length s.params + length s.results
+sig_size s = (1 + length s.params) + length s.results
 
 abbrev pub size_of : Function → ℕ
-size_of f = sum_by block_size f.blocks + length f.slots + length f.callees + sum_by sig_size f.sigs
+size_of f = (length f.slots + length f.callees) + total sig_size f.sigs + total block_size f.blocks
+
+-- the number, or the greatest number of 64 bits where it is greater
+abbrev pub capped : ℕ → ℕ
+capped n = min n 18446744073709551615
+
+-- the size of the block that has the number
+abbrev pub size_at : List Block → ℕ → ℕ
+size_at bs n = (1 + length (params_of n bs)) + total line_size (lines_of n bs)

@@ -34,7 +34,7 @@ use Rattle.ir_core.specs.declared.signatures.Ty.TheVariants.{I8, I16, I32, I64, 
 use Rattle.ir_core.specs.Lookup.{type_of, line_definitions}
 use Rattle.ir_core.specs.Module.{Simple, Branch, CallTarget, Instruction, Line, Block, Function, Module}
 use Rattle.ir_core.specs.Module.{Nop, Const, Pure, PureImm, Load, Store, StackLoad, StackStore, FuncAddr, Trap, Trapz, Trapnz, Jump, Brif, BrTable, Direct, Indirect, Plain, Branches, SequencePoint, Return, Call, ReturnCall, TryCall}
-use Rattle.ir_core.specs.Numbering.{Numbering, numbering_of}
+use Rattle.ir_core.specs.Numbering.{Numbering, numbering_of, place}
 use Rattle.ir_core.specs.Pieces.{Text, Nothing, Blanks, Word, Numbered, Name, Number, Signed, Offset, Mark, Arrow, Then, ◌▹◌, spelled, space, line_end, indent, comma, colon, equals, more, separated, in_parentheses, in_brackets}
 use Rattle.ir_core.specs.Words.{op_word, condition_word, type_word, type_of_width, convention_word}
 
@@ -68,7 +68,7 @@ signature s = in_parentheses (separated parameter s.params) ▹ signature_result
 -- ---- declarations: the number of the first, and the declarations
 
 abbrev pub alignment : ℕ → Text
-alignment bytes = if bytes == 1 then Nothing else comma ▹ Word (codes "align") ▹ equals ▹ Number bytes
+alignment bytes = if bytes == 1 then Nothing else (comma ▹ Word (codes "align") ▹ equals ▹ Number bytes)
 
 abbrev pub slot_line : ℕ → SlotDecl → Text
 slot_line k s = indent ▹ Numbered (codes "ss") k ▹ equals ▹ Word (codes "explicit_slot") ▹ space ▹ Number s.size ▹ alignment s.align ▹ line_end
@@ -149,16 +149,20 @@ abbrev pub debug_tags : List Tag → Text
 debug_tags [] = Nothing
 debug_tags (t ∷ ts) = Mark 60 ▹ separated debug_tag (t ∷ ts) ▹ Mark 62 ▹ space
 
+abbrev pub entry_tag : Option ℕ → Text
+entry_tag None = Word (codes "default")
+entry_tag (Some k) = Numbered (codes "tag") k
+
 -- n has the numbers of values and blocks
 module _ (n : Numbering) where
   abbrev pub value : ℕ → Text
-  value v = Numbered (codes "v") (n.value v)
+  value v = Numbered (codes "v") (place n.values v)
 
   abbrev pub values : List ℕ → Text
   values vs = separated value vs
 
   abbrev pub block_reference : ℕ → Text
-  block_reference b = Numbered (codes "block") (n.block b)
+  block_reference b = Numbered (codes "block") (place n.blocks b)
 
   abbrev pub address : ℕ → ℤ → Text
   address p offset = value p ▹ offset_text offset
@@ -175,10 +179,6 @@ module _ (n : Numbering) where
 
   abbrev pub target : BlockCall → Text
   target t = block_reference t.block ▹ target_arguments t.args
-
-  abbrev pub entry_tag : Option ℕ → Text
-  entry_tag None = Word (codes "default")
-  entry_tag (Some k) = Numbered (codes "tag") k
 
   abbrev pub entry : Entry BlockCall → Text
   entry e = entry_tag e.tag ▹ colon ▹ space ▹ target e.target
@@ -225,6 +225,11 @@ abbrev pub store_opcode : Option ℕ → Text
 store_opcode None = Word (codes "store")
 store_opcode (Some bytes) = Numbered (codes "istore") (8 * bytes)
 
+-- the opcode of an indirect call
+abbrev pub call_opcode : CallTarget → List ℕ → Text
+call_opcode (Direct callee) word = Word word
+call_opcode (Indirect sig p) word = Word (word ++ codes "_indirect")
+
 -- ---- instructions, each by its form; s is the suffix that is printed where a form may leave it out
 
 module _ (n : Numbering) where
@@ -256,11 +261,6 @@ module _ (n : Numbering) where
   abbrev pub tried : CallTarget → List ℕ → Text
   tried (Direct callee) args = callee_reference callee ▹ call_arguments n args
   tried (Indirect sig p) args = value n p ▹ call_arguments n args
-
-  -- the opcode of an indirect call
-  abbrev pub call_opcode : CallTarget → List ℕ → Text
-  call_opcode (Direct callee) word = Word word
-  call_opcode (Indirect sig p) word = Word (word ++ codes "_indirect")
 
   abbrev pub instruction : Option Ty → Instruction → Text
   instruction s (Plain i) = simple s i
@@ -313,12 +313,20 @@ has_type f v t = option_map_or (λ own. same_type own t) (type_of f v) false
 -- A reader knows the type from the operand where this is defined before: its number is below the next value's.
 abbrev pub is_known : Function → Numbering → ℕ → Ty → Option ℕ → Bool
 is_known f n next t None = false
-is_known f n next t (Some v) = nat_lt (n.value v) next && has_type f v t
+is_known f n next t (Some v) = nat_lt (place n.values v) next && has_type f v t
 
 -- the suffix that is printed where a form may leave it out
 abbrev pub shown_suffix : Function → Numbering → ℕ → Option Ty → Option ℕ → Option Ty
 shown_suffix f n next None operand = None
 shown_suffix f n next (Some t) operand = if is_known f n next t operand then None else Some t
+
+abbrev pub type_text : Option Ty → Text
+type_text None = Nothing
+type_text (Some t) = Word (type_word t)
+
+-- the number of the next value behind a block
+abbrev pub next_after : ℕ → Block → ℕ
+next_after next b = next + length b.params + length (line_definitions b.lines)
 
 -- ---- lines, blocks, functions: `next` is the number of the next value that is defined
 
@@ -334,10 +342,6 @@ module _ (f : Function) (n : Numbering) where
   lines next [] = Nothing
   lines next (l ∷ ls) = line next l ▹ lines (next + length l.results) ls
 
-  abbrev pub type_text : Option Ty → Text
-  type_text None = Nothing
-  type_text (Some t) = Word (type_word t)
-
   -- `v0: i64`
   abbrev pub block_parameter : ℕ → Text
   block_parameter v = value n v ▹ colon ▹ space ▹ type_text (type_of f v)
@@ -348,10 +352,6 @@ module _ (f : Function) (n : Numbering) where
 
   abbrev pub block : ℕ → Block → Text
   block next b = block_reference n b.number ▹ block_parameters b.params ▹ colon ▹ line_end ▹ lines (next + length b.params) b.lines
-
-  -- the number of the next value behind a block
-  abbrev pub next_after : ℕ → Block → ℕ
-  next_after next b = next + length b.params + length (line_definitions b.lines)
 
   -- further blocks, each behind an empty line
   abbrev pub more_blocks : ℕ → List Block → Text
@@ -384,3 +384,7 @@ canonical_text (f ∷ fs) = canonical_function f ▹ more_functions fs
 -- the bytes of the canonical text
 abbrev pub text_of : Module → List ℕ
 text_of m = spelled (canonical_text m)
+
+-- the bytes of one function's text
+abbrev pub function_text_of : Function → List ℕ
+function_text_of f = spelled (canonical_function f)

@@ -1,6 +1,9 @@
 //! Declarations of a function.
+ghost use Rattle.std.specs.Prelude.{◌≡◌};
+
 use crate::names::FuncName;
 use crate::numbers::SigRef;
+use std::alloc::AllocError;
 
 /// An explicit stack slot: its size and alignment in bytes.
 #[derive(Clone, Copy, Debug, PartialEq, Eq)]
@@ -15,4 +18,16 @@ pub struct Callee {
     pub name: FuncName,
     pub colocated: bool,
     pub sig: SigRef,
+}
+
+impl Clone for Callee {
+    ghost is_clone = { λ callee copy. copy ≡ callee };
+
+    fn clone(&self) -> Result<Callee, AllocError> {
+        Ok(Callee {
+            name: self.name.clone()?,
+            colocated: self.colocated,
+            sig: self.sig,
+        })
+    }
 }

@@ -3,18 +3,30 @@
 //! Contracts see a function as lists over natural numbers (`specs/Module.antt`).
 #![tactic(auto)]
 
+mod copies;
 mod declarations;
+mod func;
 mod instructions;
+mod laws;
 mod lists;
+mod module;
 mod names;
 mod numbers;
 mod places;
+mod room;
 mod signatures;
+mod size;
+#[cfg(test)]
+mod tests;
 
 pub use declarations::{Callee, SlotDecl};
+pub use func::{Blocks, Func, Insts};
 pub use instructions::{Access, Arg, BlockCall, Flags, Inst, InstData};
+pub use laws::accepted_never_sticks;
 pub use lists::List;
+pub use module::Module;
 pub use names::FuncName;
 pub use numbers::{Block, FuncRef, SigRef, Slot, Value};
 pub use places::{Item, Point};
+pub use room::Room;
 pub use signatures::{Conv, Ext, Param, Purpose, Sig, Ty};

@@ -1,6 +1,8 @@
 //! Lists, as contracts see them.
 ghost use Rattle.std.specs.Prelude.{◌≡◌, List};
+ghost use Rattle.exn_tables.specs.Table.{ClonesAreEqual};
 
+use std::alloc::AllocError;
 use std::marker::Model;
 
 /// A list. Contracts see its items in order.
@@ -36,5 +38,15 @@ impl<T> List<T> {
     {
         let List { items } = self;
         items
+    }
+}
+
+impl<T: Clone> Clone for List<T> {
+    ghost is_clone = { λ l copy. ClonesAreEqual T.is_clone → copy ≡ l };
+
+    fn clone(&self) -> Result<List<T>, AllocError> {
+        Ok(List {
+            items: self.items.clone()?,
+        })
     }
 }

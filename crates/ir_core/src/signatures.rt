@@ -1,5 +1,8 @@
 //! Types and signatures.
+ghost use Rattle.std.specs.Prelude.{◌≡◌};
+
 use crate::lists::List;
+use std::alloc::AllocError;
 
 /// The type of a value: an integer of 8, 16, 32, 64 or 128 bits.
 #[derive(Clone, Copy, Debug, PartialEq, Eq)]
@@ -54,4 +57,16 @@ pub struct Sig {
     pub params: List<Param>,
     pub results: List<Param>,
     pub conv: Conv,
+}
+
+impl Clone for Sig {
+    ghost is_clone = { λ sig copy. copy ≡ sig };
+
+    fn clone(&self) -> Result<Sig, AllocError> {
+        Ok(Sig {
+            params: self.params.clone()?,
+            results: self.results.clone()?,
+            conv: self.conv,
+        })
+    }
 }

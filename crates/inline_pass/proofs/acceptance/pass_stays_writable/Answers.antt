@@ -1,5 +1,5 @@
 -- The lemma is the law.
-use Rattle.inline_pass.proofs.PassKept.{pass_writable}
+use Rattle.inline_pass.proofs.Kept.{pass_writable}
 use Rattle.inline_pass.proofs.acceptance.pass_stays_writable.Goals as goal
 
 pub returns : goal.returns

@@ -1,5 +1,5 @@
 -- The lemma is the law.
-use Rattle.inline_pass.proofs.PassKept.{renumbered_pass_writable}
+use Rattle.inline_pass.proofs.Kept.{renumbered_pass_writable}
 use Rattle.inline_pass.proofs.acceptance.renumbered_pass_stays_writable.Goals as goal
 
 pub returns : goal.returns

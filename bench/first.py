@@ -1,0 +1,79 @@
+#!/usr/bin/env python3
+"""The first path's speed and memory: `inline` on functions of one block, beside `wc -w` on the same text.
+
+    python3 bench/first.py PATH/clifinl [MEGABYTES]
+
+Makes a text of about 60 MB (functions of 1 to 300 lines), runs both in turn, five times each, and takes the least time
+of each. Prints megabytes a second, peak memory a byte of text, and how the times compare; then the same for half the
+text, and how much longer the whole takes. (Twice 60 MB is more than a text may have, so the half stands for the one text
+and the whole for twice of it.)"""
+import os
+import random
+import resource
+import subprocess
+import sys
+import tempfile
+import time
+
+TURNS = 5
+
+
+def text_of(size, seed=1):
+    """A simple text of about `size` bytes."""
+    chance = random.Random(seed)
+    parts = []
+    length = 0
+    while length < size:
+        lines = chance.randint(1, 300)
+        part = ['function %%f%d(i64, i64) -> i64 {\nblock0(v0: i64, v1: i64):\n' % len(parts)]
+        for value in range(2, lines + 1):
+            if chance.random() < 0.3:
+                part.append('    v%d = iconst.i64 %d\n' % (value, chance.randint(-1000, 1000)))
+            else:
+                part.append('    v%d = iadd v%d, v%d\n' % (value, chance.randrange(value), chance.randrange(value)))
+        part.append('    return v%d\n}\n\n' % lines)
+        parts.append(''.join(part))
+        length += len(parts[-1])
+    return ''.join(parts)
+
+
+def run(words, path):
+    """Seconds and peak memory in bytes of one run over the file."""
+    with open(path, 'rb') as text, open(os.devnull, 'wb') as out:
+        begin = time.monotonic()
+        process = subprocess.Popen(words, stdin=text, stdout=out)
+        _, status, usage = os.wait4(process.pid, 0)
+        seconds = time.monotonic() - begin
+    if status != 0:
+        sys.exit('%s ended with %d' % (' '.join(words), os.waitstatus_to_exitcode(status)))
+    return seconds, usage.ru_maxrss * 1024
+
+
+def measure(program, path):
+    """The least time of each program in turn, and the memory of the first."""
+    own = []
+    words = []
+    for _ in range(TURNS):
+        own.append(run([program, 'inline'], path))
+        words.append(run(['wc', '-w'], path))
+    return min(own)[0], max(memory for _, memory in own), min(words)[0]
+
+
+def main():
+    program = sys.argv[1]
+    size = int(float(sys.argv[2]) * 1e6) if len(sys.argv) > 2 else 60_000_000
+    times = {}
+    for share in (2, 1):
+        with tempfile.NamedTemporaryFile(suffix='.clif') as file:
+            file.write(text_of(size // share).encode())
+            file.flush()
+            length = os.path.getsize(file.name)
+            seconds, memory, counting = measure(program, file.name)
+            times[share] = (length, seconds)
+            print('%.1f MB: inline %.3f s (%.0f MB/s), wc -w %.3f s (%.0f MB/s), ratio %.2f, peak %.1f bytes a byte of text'
+                  % (length / 1e6, seconds, length / 1e6 / seconds, counting, length / 1e6 / counting, seconds / counting, memory / length))
+    print('%.2f times the text in %.2f times the time' % (times[1][0] / times[2][0], times[1][1] / times[2][1]))
+
+
+if __name__ == '__main__':
+    main()

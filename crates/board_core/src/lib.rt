@@ -1,0 +1,14 @@
+//! The board machine: what workers do to the table that they share, as a machine over events, one atomic step of one
+//! worker each.
+#![tactic(auto)]
+
+mod law;
+mod row;
+mod state;
+
+pub use law::board_facts;
+pub use row::Row;
+pub use state::{BoardEvent, BoardState, Mark, Phase, step};
+
+#[cfg(test)]
+mod tests;

@@ -1,0 +1,51 @@
+//! A run of events whose answers were worked out by hand: over the definitions, and over `step`.
+ghost use Rattle.std.specs.Prelude.{◌≡◌, [], ◌∷◌, true, false};
+ghost use Rattle.board_core.specs.Machine.{start, answers};
+ghost use Rattle.board_core.specs.declared.state.Mark.TheVariants.{Body, Refused};
+ghost use Rattle.board_core.specs.declared.state.BoardEvent.TheVariants.{Draw, BeginFill, EndFill, BeginRead, EndRead};
+
+use super::*;
+use std::alloc::AllocError;
+
+fn worked_run()
+    ensures { answers (start 2) (Draw 0 ∷ Draw 1 ∷ BeginFill 1 0 ∷ BeginFill 0 0 ∷ EndFill 1 0 Body ∷ BeginRead 1 0
+        ∷ EndFill 0 0 Body ∷ BeginRead 1 0 ∷ BeginRead 0 0 ∷ EndRead 0 0 ∷ EndRead 1 0 ∷ Draw 0 ∷ BeginFill 0 2
+        ∷ BeginFill 1 1 ∷ EndFill 1 1 Refused ∷ BeginRead 0 1 ∷ [])
+        ≡ true ∷ true ∷ false ∷ true ∷ false ∷ false ∷ true ∷ true ∷ false ∷ false ∷ true ∷ true ∷ false ∷ true ∷ true ∷ false ∷ [] }
+{}
+
+#[test]
+fn events_have_their_answers(rt: HostRuntime) -> Result<(), AllocError> {
+    worked_run();
+    board_facts();
+    let mut board = BoardState::new(rt.alloc(), 2)?;
+    for (event, answer) in [
+        (BoardEvent::Draw(0), true),
+        (BoardEvent::Draw(1), true),
+        (BoardEvent::BeginFill(1, 0), false),
+        (BoardEvent::BeginFill(0, 0), true),
+        (BoardEvent::EndFill(1, 0, Mark::Body), false),
+        (BoardEvent::BeginRead(1, 0), false),
+        (BoardEvent::EndFill(0, 0, Mark::Body), true),
+        (BoardEvent::BeginRead(1, 0), true),
+        (BoardEvent::BeginRead(0, 0), false),
+        (BoardEvent::EndRead(0, 0), false),
+        (BoardEvent::EndRead(1, 0), true),
+        (BoardEvent::Draw(0), true),
+        (BoardEvent::BeginFill(0, 2), false),
+        (BoardEvent::BeginFill(1, 1), true),
+        (BoardEvent::EndFill(1, 1, Mark::Refused), true),
+        (BoardEvent::BeginRead(0, 1), false),
+    ] {
+        assert_eq!(rt; step(&mut board, event), answer, "at {event:?}");
+    }
+    assert_eq!(rt; board.next, 3);
+    assert_eq!(rt; board.owners.at(1), Some(Some(1)));
+    assert_eq!(rt; board.owners.at(2), None);
+    assert!(rt; board.owners.as_slice() == [Some(0), Some(1)].as_slice());
+    assert!(rt;
+        board.phases.into_vec().as_slice()
+            == [Phase::Full(Mark::Body), Phase::Full(Mark::Refused)].as_slice()
+    );
+    Ok(())
+}

@@ -1,0 +1,5 @@
+use Rattle.clif_print.proofs.Puts.{◌▸◌}
+use Rattle.clif_print.proofs.instructions.put_func_addr.Goals as goal
+
+pub returns : goal.returns
+returns g c = c.put.ensures ▸ c.put_callee_reference.ensures

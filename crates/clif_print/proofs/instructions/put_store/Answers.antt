@@ -1,0 +1,7 @@
+use Rattle.clif_print.proofs.Puts.{◌▸◌}
+use Rattle.std.proofs.lemmas.Int.{to_z-of_z}
+use Rattle.clif_print.proofs.instructions.put_store.Goals as goal
+
+pub returns : goal.returns
+returns g c =
+    c.put_store_opcode.ensures ▸ c.put_suffix_if.ensures ▸ c.put.ensures ▸ c.put_flags.ensures ▸ (simp (to_z-of_z, c.ranges.offset) at c.put_stored.ensures)

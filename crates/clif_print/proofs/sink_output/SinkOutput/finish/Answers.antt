@@ -1,0 +1,8 @@
+use Rattle.clif_print.proofs.Sinks.{ends_well, ends_failed}
+use Rattle.clif_print.proofs.sink_output.SinkOutput.finish.Goals as goal
+
+pub returns-then-self-clause-ends : goal.returns-then-self-clause-ends
+returns-then-self-clause-ends g c = ends_failed _ _ _ c.flush.ensures.takes c.if-self.true
+
+pub returns-else-self-clause-ends : goal.returns-else-self-clause-ends
+returns-else-self-clause-ends g c = ends_well _ _ _ c.flush.ensures.takes c.flush.ensures.empty c.if-self.false

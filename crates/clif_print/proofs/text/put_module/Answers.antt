@@ -1,0 +1,11 @@
+use Rattle.std.proofs.Common.{List, ap}
+use Rattle.ir_core.specs.Module.{Function}
+use Rattle.ir_core.specs.Pieces.{spelled}
+use Rattle.ir_core.specs.Text.{more_functions}
+use Rattle.clif_print.proofs.Left.{next_left}
+use Rattle.clif_print.proofs.Puts.{goes, ◌▸◌}
+use Rattle.clif_print.proofs.text.put_module.Goals as goal
+
+pub loop-i-preserved : goal.loop-i-preserved
+loop-i-preserved g c =
+    goes _ c.loop-i.invariant (ap (λ (l : List Function). spelled (more_functions l)) (next_left c.args.module.now c.loop-i.i c.func-in-loop-i.result.now.function c.func-in-loop-i.ensures.at)) (c.put.ensures ▸ c.put_function-in-loop-i.ensures)

@@ -1,0 +1,8 @@
+use Rattle.std.proofs.Common.{drop}
+use Rattle.ir_core.specs.Pieces.{spelled}
+use Rattle.ir_core.specs.Text.{more_functions, text_of}
+use Rattle.clif_print.proofs.Puts.{Going}
+use Rattle.clif_print.proofs.text.put_module.Given as goal
+
+abbrev pub invariant-loop-i : goal.invariant-loop-i
+invariant-loop-i g l = Going g.O.Output.holds l.fn.out l.out (spelled (more_functions (drop l.i l.module))) (text_of l.module)

@@ -1,0 +1,4 @@
+pub mod Examples
+pub mod Output
+pub mod Placed
+pub mod Walk

@@ -1,0 +1,518 @@
+//! Instructions, by their forms.
+ghost use Rattle.std.specs.Prelude.{ℕ, List};
+ghost use Rattle.ir_core.specs.Numbering.{Numbering};
+ghost use Rattle.ir_core.specs.Pieces.{Text, spelled, comma, ◌▹◌};
+ghost use Rattle.ir_core.specs.Text.{instruction, value, address, slot_address, signature_reference, target, exception_table, op_suffix, condition, extending_suffix, load_opcode, store_opcode};
+ghost use Rattle.ir_core.specs.Viewed.{instruction_of};
+ghost use Rattle.ir_core.specs.declared.instructions.Inst.TheVariants as form;
+ghost use Rattle.clif_print.specs.Output.{Start, Puts};
+
+use crate::numbers::FuncNumbers;
+use crate::operands::{
+    put_address, put_call_arguments, put_callee_reference, put_constant, put_exception_table,
+    put_flags, put_operands, put_signature_reference, put_slot_address, put_suffix, put_suffix_if,
+    put_target, put_target_list, put_trap_code, put_value,
+};
+use crate::output::{Output, put_numbered};
+use crate::words::{condition_word, op_word, type_of_width};
+use clk_num::{Bits, Op, TrapCode};
+use exn_tables::Table;
+use ir_core::{Access, BlockCall, Flags, FuncRef, Inst, List, SigRef, Slot, Ty, Value};
+
+/// Puts the suffix of an operation.
+fn put_op_suffix<O: Output>(out: &mut O, op: Op, suffix: Option<Ty>)
+    ensures { Puts O.holds out.old out.new (spelled (op_suffix op suffix)) }
+{
+    match op {
+        Op::Uextend(width) => put_suffix(out, type_of_width(width)),
+        Op::Sextend(width) => put_suffix(out, type_of_width(width)),
+        Op::Ireduce(width) => put_suffix(out, type_of_width(width)),
+        _ => put_suffix_if(out, suffix),
+    }
+}
+
+/// Puts the condition of a comparison, with the space before it.
+fn put_condition<O: Output>(out: &mut O, op: Op)
+    ensures { Puts O.holds out.old out.new (spelled (condition op)) }
+{
+    if let Op::Icmp(condition) = op {
+        out.put(b" ");
+        out.put(condition_word(condition));
+    }
+}
+
+fn put_const<O: Output>(out: &mut O, numbers: &FuncNumbers, suffix: Option<Ty>, bits: &Bits)
+    ensures { Puts O.holds out.old out.new (spelled (instruction numbers.now suffix (instruction_of (form.Const bits.now)))) }
+{
+    out.put(b"iconst");
+    put_suffix(out, type_of_width(bits.width()));
+    out.put(b" ");
+    put_constant(out, bits);
+}
+
+fn put_pure<O: Output>(
+    out: &mut O,
+    numbers: &FuncNumbers,
+    suffix: Option<Ty>,
+    op: Op,
+    args: &[Value],
+)
+    ensures { Puts O.holds out.old out.new (spelled (instruction numbers.now suffix (instruction_of (form.Pure op args.now)))) }
+{
+    out.put(op_word(op));
+    put_op_suffix(out, op, suffix);
+    put_condition(out, op);
+    put_operands(out, numbers, args);
+}
+
+fn put_pure_imm<O: Output>(
+    out: &mut O,
+    numbers: &FuncNumbers,
+    suffix: Option<Ty>,
+    op: Op,
+    arg: Value,
+    imm: &Bits,
+)
+    ensures { Puts O.holds out.old out.new (spelled (instruction numbers.now suffix (instruction_of (form.PureImm op arg imm.now)))) }
+{
+    out.put(op_word(op));
+    out.put(b"_imm");
+    put_suffix_if(out, suffix);
+    put_condition(out, op);
+    out.put(b" ");
+    put_value(out, numbers, arg);
+    out.put(b", ");
+    put_constant(out, imm);
+}
+
+/// Puts the suffix of a load that extends.
+fn put_extending_suffix<O: Output>(out: &mut O, ty: Ty, bytes: u8)
+    ensures { Puts O.holds out.old out.new (spelled (extending_suffix ty bytes)) }
+{
+    if bytes == 4 && matches!(ty, Ty::I64) {
+        return;
+    }
+    put_suffix(out, ty);
+}
+
+fn put_load_opcode<O: Output>(out: &mut O, access: Access)
+    ensures { Puts O.holds out.old out.new (spelled (load_opcode access)) }
+{
+    match access {
+        Access::Full(ty) => {
+            out.put(b"load");
+            put_suffix(out, ty);
+        }
+        Access::Uload(ty, bytes) => {
+            put_numbered(out, b"uload", 8 * u32::from(bytes));
+            put_extending_suffix(out, ty, bytes);
+        }
+        Access::Sload(ty, bytes) => {
+            put_numbered(out, b"sload", 8 * u32::from(bytes));
+            put_extending_suffix(out, ty, bytes);
+        }
+    }
+}
+
+fn put_load<O: Output>(
+    out: &mut O,
+    numbers: &FuncNumbers,
+    suffix: Option<Ty>,
+    access: Access,
+    flags: &Flags,
+    address: Value,
+    offset: i32,
+)
+    ensures { Puts O.holds out.old out.new (spelled (instruction numbers.now suffix (instruction_of (form.Load access flags.now address offset)))) }
+{
+    put_load_opcode(out, access);
+    out.put(b" ");
+    put_flags(out, flags);
+    put_address(out, numbers, address, offset);
+}
+
+fn put_store_opcode<O: Output>(out: &mut O, narrow: Option<u8>)
+    ensures { Puts O.holds out.old out.new (spelled (store_opcode narrow)) }
+{
+    match narrow {
+        None => out.put(b"store"),
+        Some(bytes) => put_numbered(out, b"istore", 8 * u32::from(bytes)),
+    }
+}
+
+fn put_store<O: Output>(
+    out: &mut O,
+    numbers: &FuncNumbers,
+    suffix: Option<Ty>,
+    narrow: Option<u8>,
+    flags: &Flags,
+    value: Value,
+    address: Value,
+    offset: i32,
+)
+    ensures { Puts O.holds out.old out.new (spelled (instruction numbers.now suffix (instruction_of (form.Store narrow flags.now value address offset)))) }
+{
+    put_store_opcode(out, narrow);
+    put_suffix_if(out, suffix);
+    out.put(b" ");
+    put_flags(out, flags);
+    put_stored(out, numbers, value, address, offset);
+}
+
+/// Puts a value that is stored, and the address.
+fn put_stored<O: Output>(
+    out: &mut O,
+    numbers: &FuncNumbers,
+    stored: Value,
+    base: Value,
+    offset: i32,
+)
+    ensures { Puts O.holds out.old out.new (spelled (value numbers.now stored ▹ comma ▹ address numbers.now base offset)) }
+{
+    put_value(out, numbers, stored);
+    out.put(b", ");
+    put_address(out, numbers, base, offset);
+}
+
+/// Puts a value that is stored, and the place in a slot.
+fn put_stored_in_slot<O: Output>(
+    out: &mut O,
+    numbers: &FuncNumbers,
+    stored: Value,
+    slot: Slot,
+    offset: i32,
+)
+    ensures { Puts O.holds out.old out.new (spelled (value numbers.now stored ▹ comma ▹ slot_address slot offset)) }
+{
+    put_value(out, numbers, stored);
+    out.put(b", ");
+    put_slot_address(out, slot, offset);
+}
+
+fn put_stack_load<O: Output>(
+    out: &mut O,
+    numbers: &FuncNumbers,
+    suffix: Option<Ty>,
+    ty: Ty,
+    slot: Slot,
+    offset: i32,
+)
+    ensures { Puts O.holds out.old out.new (spelled (instruction numbers.now suffix (instruction_of (form.StackLoad ty slot offset)))) }
+{
+    out.put(b"stack_load");
+    put_suffix(out, ty);
+    out.put(b" ");
+    put_slot_address(out, slot, offset);
+}
+
+fn put_stack_store<O: Output>(
+    out: &mut O,
+    numbers: &FuncNumbers,
+    suffix: Option<Ty>,
+    value: Value,
+    slot: Slot,
+    offset: i32,
+)
+    ensures { Puts O.holds out.old out.new (spelled (instruction numbers.now suffix (instruction_of (form.StackStore value slot offset)))) }
+{
+    out.put(b"stack_store");
+    put_suffix_if(out, suffix);
+    out.put(b" ");
+    put_stored_in_slot(out, numbers, value, slot, offset);
+}
+
+fn put_func_addr<O: Output>(out: &mut O, numbers: &FuncNumbers, suffix: Option<Ty>, callee: FuncRef)
+    ensures { Puts O.holds out.old out.new (spelled (instruction numbers.now suffix (instruction_of (form.FuncAddr callee)))) }
+{
+    out.put(b"func_addr.i64 ");
+    put_callee_reference(out, callee);
+}
+
+fn put_jump<O: Output>(out: &mut O, numbers: &FuncNumbers, suffix: Option<Ty>, to: &BlockCall)
+    ensures { Puts O.holds out.old out.new (spelled (instruction numbers.now suffix (instruction_of (form.Jump to.now)))) }
+{
+    out.put(b"jump ");
+    put_target(out, numbers, to);
+}
+
+fn put_brif<O: Output>(
+    out: &mut O,
+    numbers: &FuncNumbers,
+    suffix: Option<Ty>,
+    cond: Value,
+    yes: &BlockCall,
+    no: &BlockCall,
+)
+    ensures { Puts O.holds out.old out.new (spelled (instruction numbers.now suffix (instruction_of (form.Brif cond yes.now no.now)))) }
+{
+    out.put(b"brif");
+    put_suffix_if(out, suffix);
+    out.put(b" ");
+    put_value(out, numbers, cond);
+    out.put(b", ");
+    put_target(out, numbers, yes);
+    out.put(b", ");
+    put_target(out, numbers, no);
+}
+
+fn put_br_table<O: Output>(
+    out: &mut O,
+    numbers: &FuncNumbers,
+    suffix: Option<Ty>,
+    index: Value,
+    default: &BlockCall,
+    entries: &List<BlockCall>,
+)
+    ensures { Puts O.holds out.old out.new (spelled (instruction numbers.now suffix (instruction_of (form.BrTable index default.now entries.now)))) }
+{
+    out.put(b"br_table ");
+    put_value(out, numbers, index);
+    out.put(b", ");
+    put_target(out, numbers, default);
+    out.put(b", ");
+    put_target_list(out, numbers, entries.as_slice());
+}
+
+fn put_return<O: Output>(
+    out: &mut O,
+    numbers: &FuncNumbers,
+    suffix: Option<Ty>,
+    values: &List<Value>,
+)
+    ensures { Puts O.holds out.old out.new (spelled (instruction numbers.now suffix (instruction_of (form.Return values.now)))) }
+{
+    out.put(b"return");
+    put_operands(out, numbers, values.as_slice());
+}
+
+fn put_trap<O: Output>(out: &mut O, numbers: &FuncNumbers, suffix: Option<Ty>, code: TrapCode)
+    ensures { Puts O.holds out.old out.new (spelled (instruction numbers.now suffix (instruction_of (form.Trap code)))) }
+{
+    out.put(b"trap ");
+    put_trap_code(out, code);
+}
+
+fn put_trapz<O: Output>(
+    out: &mut O,
+    numbers: &FuncNumbers,
+    suffix: Option<Ty>,
+    cond: Value,
+    code: TrapCode,
+)
+    ensures { Puts O.holds out.old out.new (spelled (instruction numbers.now suffix (instruction_of (form.Trapz cond code)))) }
+{
+    out.put(b"trapz");
+    put_suffix_if(out, suffix);
+    out.put(b" ");
+    put_value(out, numbers, cond);
+    out.put(b", ");
+    put_trap_code(out, code);
+}
+
+fn put_trapnz<O: Output>(
+    out: &mut O,
+    numbers: &FuncNumbers,
+    suffix: Option<Ty>,
+    cond: Value,
+    code: TrapCode,
+)
+    ensures { Puts O.holds out.old out.new (spelled (instruction numbers.now suffix (instruction_of (form.Trapnz cond code)))) }
+{
+    out.put(b"trapnz");
+    put_suffix_if(out, suffix);
+    out.put(b" ");
+    put_value(out, numbers, cond);
+    out.put(b", ");
+    put_trap_code(out, code);
+}
+
+fn put_call<O: Output>(
+    out: &mut O,
+    numbers: &FuncNumbers,
+    suffix: Option<Ty>,
+    callee: FuncRef,
+    args: &List<Value>,
+)
+    ensures { Puts O.holds out.old out.new (spelled (instruction numbers.now suffix (instruction_of (form.Call callee args.now)))) }
+{
+    out.put(b"call ");
+    put_callee_reference(out, callee);
+    put_call_arguments(out, numbers, args.as_slice());
+}
+
+fn put_return_call<O: Output>(
+    out: &mut O,
+    numbers: &FuncNumbers,
+    suffix: Option<Ty>,
+    callee: FuncRef,
+    args: &List<Value>,
+)
+    ensures { Puts O.holds out.old out.new (spelled (instruction numbers.now suffix (instruction_of (form.ReturnCall callee args.now)))) }
+{
+    out.put(b"return_call ");
+    put_callee_reference(out, callee);
+    put_call_arguments(out, numbers, args.as_slice());
+}
+
+fn put_call_indirect<O: Output>(
+    out: &mut O,
+    numbers: &FuncNumbers,
+    suffix: Option<Ty>,
+    sig: SigRef,
+    address: Value,
+    args: &List<Value>,
+)
+    ensures { Puts O.holds out.old out.new (spelled (instruction numbers.now suffix (instruction_of (form.CallIndirect sig address args.now)))) }
+{
+    out.put(b"call_indirect ");
+    put_signature_reference(out, sig);
+    out.put(b", ");
+    put_value(out, numbers, address);
+    put_call_arguments(out, numbers, args.as_slice());
+}
+
+fn put_return_call_indirect<O: Output>(
+    out: &mut O,
+    numbers: &FuncNumbers,
+    suffix: Option<Ty>,
+    sig: SigRef,
+    address: Value,
+    args: &List<Value>,
+)
+    ensures { Puts O.holds out.old out.new (spelled (instruction numbers.now suffix (instruction_of (form.ReturnCallIndirect sig address args.now)))) }
+{
+    out.put(b"return_call_indirect ");
+    put_signature_reference(out, sig);
+    out.put(b", ");
+    put_value(out, numbers, address);
+    put_call_arguments(out, numbers, args.as_slice());
+}
+
+/// Puts what stands behind the arguments of a call with an exception table.
+fn put_outcomes<O: Output>(
+    out: &mut O,
+    numbers: &FuncNumbers,
+    sig: SigRef,
+    normal: &BlockCall,
+    table: &Table<BlockCall>,
+)
+    ensures { Puts O.holds out.old out.new (spelled (comma ▹ signature_reference sig ▹ comma ▹ target numbers.now normal.now ▹ comma ▹ exception_table numbers.now table.now)) }
+{
+    out.put(b", ");
+    put_signature_reference(out, sig);
+    out.put(b", ");
+    put_target(out, numbers, normal);
+    out.put(b", ");
+    put_exception_table(out, numbers, table.entries());
+}
+
+fn put_try_call<O: Output>(
+    out: &mut O,
+    numbers: &FuncNumbers,
+    suffix: Option<Ty>,
+    callee: FuncRef,
+    sig: SigRef,
+    args: &List<Value>,
+    normal: &BlockCall,
+    table: &Table<BlockCall>,
+)
+    ensures { Puts O.holds out.old out.new (spelled (instruction numbers.now suffix (instruction_of (form.TryCall callee sig args.now normal.now table.now)))) }
+{
+    out.put(b"try_call ");
+    put_callee_reference(out, callee);
+    put_call_arguments(out, numbers, args.as_slice());
+    put_outcomes(out, numbers, sig, normal, table);
+}
+
+fn put_try_call_indirect<O: Output>(
+    out: &mut O,
+    numbers: &FuncNumbers,
+    suffix: Option<Ty>,
+    sig: SigRef,
+    address: Value,
+    args: &List<Value>,
+    normal: &BlockCall,
+    table: &Table<BlockCall>,
+)
+    ensures { Puts O.holds out.old out.new (spelled (instruction numbers.now suffix (instruction_of (form.TryCallIndirect sig address args.now normal.now table.now)))) }
+{
+    out.put(b"try_call_indirect ");
+    put_value(out, numbers, address);
+    put_call_arguments(out, numbers, args.as_slice());
+    put_outcomes(out, numbers, sig, normal, table);
+}
+
+/// Puts an instruction. `suffix` is the suffix that is printed where the form may leave it out.
+pub(crate) fn put_instruction<O: Output>(
+    out: &mut O,
+    numbers: &FuncNumbers,
+    suffix: Option<Ty>,
+    inst: &Inst,
+)
+    ensures { Puts O.holds out.old out.new (spelled (instruction numbers.now suffix (instruction_of inst.now))) }
+{
+    match inst {
+        Inst::Nop => out.put(b"nop"),
+        Inst::SequencePoint => out.put(b"sequence_point"),
+        Inst::Const(bits) => put_const(out, numbers, suffix, bits),
+        Inst::Pure { op, args } => put_pure(out, numbers, suffix, *op, args.as_slice()),
+        Inst::PureImm { op, arg, imm } => put_pure_imm(out, numbers, suffix, *op, *arg, imm),
+        Inst::Load {
+            access,
+            flags,
+            address,
+            offset,
+        } => put_load(out, numbers, suffix, *access, flags, *address, *offset),
+        Inst::Store {
+            narrow,
+            flags,
+            value,
+            address,
+            offset,
+        } => put_store(
+            out, numbers, suffix, *narrow, flags, *value, *address, *offset,
+        ),
+        Inst::StackLoad { ty, slot, offset } => {
+            put_stack_load(out, numbers, suffix, *ty, *slot, *offset)
+        }
+        Inst::StackStore {
+            value,
+            slot,
+            offset,
+        } => put_stack_store(out, numbers, suffix, *value, *slot, *offset),
+        Inst::FuncAddr(callee) => put_func_addr(out, numbers, suffix, *callee),
+        Inst::Jump(to) => put_jump(out, numbers, suffix, to),
+        Inst::Brif { cond, yes, no } => put_brif(out, numbers, suffix, *cond, yes, no),
+        Inst::BrTable {
+            index,
+            default,
+            entries,
+        } => put_br_table(out, numbers, suffix, *index, default, entries),
+        Inst::Return(values) => put_return(out, numbers, suffix, values),
+        Inst::Trap(code) => put_trap(out, numbers, suffix, *code),
+        Inst::Trapz { cond, code } => put_trapz(out, numbers, suffix, *cond, *code),
+        Inst::Trapnz { cond, code } => put_trapnz(out, numbers, suffix, *cond, *code),
+        Inst::Call { callee, args } => put_call(out, numbers, suffix, *callee, args),
+        Inst::ReturnCall { callee, args } => put_return_call(out, numbers, suffix, *callee, args),
+        Inst::TryCall {
+            callee,
+            sig,
+            args,
+            normal,
+            table,
+        } => put_try_call(out, numbers, suffix, *callee, *sig, args, normal, table),
+        Inst::CallIndirect { sig, address, args } => {
+            put_call_indirect(out, numbers, suffix, *sig, *address, args)
+        }
+        Inst::ReturnCallIndirect { sig, address, args } => {
+            put_return_call_indirect(out, numbers, suffix, *sig, *address, args)
+        }
+        Inst::TryCallIndirect {
+            sig,
+            address,
+            args,
+            normal,
+            table,
+        } => put_try_call_indirect(out, numbers, suffix, *sig, *address, args, normal, table),
+    }
+}

@@ -1,0 +1,23 @@
+//! Canonical text: the numbers of values and blocks, and the text of a module.
+#![tactic(auto)]
+
+mod declarations;
+mod functions;
+mod instructions;
+mod law;
+mod lists;
+mod numbers;
+mod operands;
+mod output;
+mod places;
+mod plain_outputs;
+mod signatures;
+mod sink_output;
+mod suffixes;
+mod text;
+mod waiting;
+mod words;
+
+pub use law::worked_texts;
+pub use numbers::{Numbers, numbering};
+pub use text::{func_text, print, text_len};

@@ -1,0 +1,30 @@
+//! Where a text goes, and the pieces that every text is made of.
+ghost use Rattle.std.specs.Prelude.{ℕ, List, ◌++◌};
+ghost use Rattle.clif_print.specs.Output.{Start, Puts};
+
+use itoa::Integer;
+
+/// What takes a text piece by piece. A failure shows at the end alone: what comes behind it is dropped.
+pub(crate) trait Output {
+    /// From this start on the output has taken this text.
+    ghost holds: { Start → Self → List ℕ → Type 0 };
+
+    /// Takes the bytes.
+    fn put(&mut self, bytes: &[u8])
+        ensures { Puts holds self.old self.new bytes.now };
+}
+
+/// Puts the number in decimal digits, with a sign where it is below 0.
+pub(crate) fn put_number<O: Output, I: Integer>(out: &mut O, number: I)
+    ensures { Puts O.holds out.old out.new (I.text number) }
+{
+    out.put(itoa::Buffer::new().format(number).as_bytes());
+}
+
+/// Puts a word that ends with a number.
+pub(crate) fn put_numbered<O: Output, I: Integer>(out: &mut O, word: &[u8], number: I)
+    ensures { Puts O.holds out.old out.new (word.now ++ I.text number) }
+{
+    out.put(word);
+    put_number(out, number);
+}

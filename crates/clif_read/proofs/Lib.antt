@@ -1,0 +1,10 @@
+mod SimpleDigits
+mod SimpleDrafts
+mod SimpleLoops
+mod SimpleNames
+mod SimplePush
+mod SimpleRest
+mod SimpleRight
+mod SimpleRules
+mod SimpleSeen
+mod SimpleWhole

@@ -1,0 +1,417 @@
+//! Reading a function of a simple text by the next token.
+ghost use Rattle.std.specs.Prelude.{◌≡◌, ◌∷◌, [], ◌+◌, ◌<◌, ◌≤◌, ◌^◌, length, IfOk};
+ghost use Rattle.grammar.specs.Rules.{heads};
+ghost use Rattle.clif_read.specs.SimpleClasses.{code};
+ghost use Rattle.clif_read.specs.SimpleWords.{lexeme_of};
+ghost use Rattle.clif_read.specs.SimpleReading.{Gives, after, one_block};
+ghost use Rattle.clif_read.specs.SimpleReading as spec;
+
+use crate::simple::errors::SimpleErr;
+use crate::simple::lexemes::{Class, Item};
+use crate::simple::source::Source;
+use crate::simple::written::{Assignment, Computation, Written};
+use std::alloc::Global;
+
+/// Whether the next token is of this class.
+#[inline]
+pub(crate) fn next_is(source: &Source, at: usize, class: Class) -> bool
+    ensures { result ≡ heads (code class ∷ []) (after source.now at) }
+{
+    match source.next(at) {
+        None => false,
+        Some((item, _)) => item.class as u8 == class as u8,
+    }
+}
+
+/// A token of this class.
+#[inline]
+#[tactic(auto, unfolding(crate::specs::SimpleReading::token))]
+pub(crate) fn token<'a>(
+    source: &Source<'a>,
+    at: usize,
+    class: Class,
+) -> Result<(Item<'a>, usize), SimpleErr>
+    ensures is { Gives (λ x. (lexeme_of x.0, after source.now x.1)) result (spec.token (code class) (after source.now at)) }
+    ensures shorter { IfOk result (λ x. length (after source.now x.1) < length (after source.now at)) }
+    ensures further { IfOk result (λ x. (at < x.1) × (x.1 < 2 ^ 64)) }
+{
+    match source.next(at) {
+        None => Err(SimpleErr::NotSimple),
+        Some((item, rest)) => {
+            if item.class as u8 == class as u8 {
+                Ok((item, rest))
+            } else {
+                Err(SimpleErr::NotSimple)
+            }
+        }
+    }
+}
+
+#[tactic(auto, unfolding(crate::specs::SimpleReading::comma_type_at))]
+fn comma_type<'a>(source: &Source<'a>, at: usize) -> Result<(Item<'a>, usize), SimpleErr>
+    ensures is { Gives (λ x. (lexeme_of x.0, after source.now x.1)) result (spec.comma_type_at (after source.now at)) }
+    ensures shorter { IfOk result (λ x. length (after source.now x.1) < length (after source.now at)) }
+    ensures further { IfOk result (λ x. (at < x.1) × (x.1 < 2 ^ 64)) }
+{
+    let (_, at) = token(source, at, Class::Comma)?;
+    token(source, at, Class::I64)
+}
+
+/// How many more types stand behind commas.
+#[tactic(auto, unfolding(crate::specs::SimpleReading::more_types_at))]
+fn more_types(source: &Source, at: usize) -> Result<(usize, usize), SimpleErr>
+    ensures is { Gives (λ x. (x.0, after source.now x.1)) result (spec.more_types_at (after source.now at)) }
+    ensures shorter { IfOk result (λ x. length (after source.now x.1) ≤ length (after source.now at)) }
+    ensures few { IfOk result (λ x. x.0 + at ≤ x.1) }
+{
+    let mut count = 0;
+    let mut rest = at;
+    'types: while next_is(source, rest, Class::Comma) {
+        let (_, behind) = comma_type(source, rest)?;
+        count += 1;
+        rest = behind;
+    }
+    Ok((count, rest))
+}
+
+#[tactic(auto, unfolding(crate::specs::SimpleReading::value_at))]
+fn value(source: &Source, at: usize) -> Result<(u64, usize), SimpleErr>
+    ensures is { Gives (λ x. (x.0, after source.now x.1)) result (spec.value_at (after source.now at)) }
+    ensures shorter { IfOk result (λ x. length (after source.now x.1) < length (after source.now at)) }
+{
+    let (item, rest) = token(source, at, Class::Value)?;
+    Ok((item.number, rest))
+}
+
+#[tactic(auto, unfolding(crate::specs::SimpleReading::comma_value_at))]
+fn comma_value(source: &Source, at: usize) -> Result<(u64, usize), SimpleErr>
+    ensures is { Gives (λ x. (x.0, after source.now x.1)) result (spec.comma_value_at (after source.now at)) }
+    ensures shorter { IfOk result (λ x. length (after source.now x.1) < length (after source.now at)) }
+{
+    let (_, rest) = token(source, at, Class::Comma)?;
+    value(source, rest)
+}
+
+/// Values behind commas, after the first one.
+fn more_values(
+    alloc: Global,
+    first: u64,
+    source: &Source,
+    at: usize,
+) -> Result<(Vec<u64>, usize), SimpleErr>
+    ensures is { Gives (λ x. (x.0.items, after source.now x.1)) result (spec.more_values_at first (after source.now at)) }
+    ensures shorter { IfOk result (λ x. length (after source.now x.1) ≤ length (after source.now at)) }
+{
+    let mut values = Vec::new(alloc);
+    values.push(first)?;
+    let mut rest = at;
+    'values: while next_is(source, rest, Class::Comma) {
+        let (value, behind) = comma_value(source, rest)?;
+        values.push(value)?;
+        rest = behind;
+    }
+    Ok((values, rest))
+}
+
+#[tactic(auto, unfolding(crate::specs::SimpleReading::values_at))]
+fn values(alloc: Global, source: &Source, at: usize) -> Result<(Vec<u64>, usize), SimpleErr>
+    ensures is { Gives (λ x. (x.0.items, after source.now x.1)) result (spec.values_at (after source.now at)) }
+    ensures shorter { IfOk result (λ x. length (after source.now x.1) < length (after source.now at)) }
+{
+    let (first, rest) = value(source, at)?;
+    more_values(alloc, first, source, rest)
+}
+
+#[tactic(auto, unfolding(crate::specs::SimpleReading::some_values_at))]
+fn some_values(alloc: Global, source: &Source, at: usize) -> Result<(Vec<u64>, usize), SimpleErr>
+    ensures is { Gives (λ x. (x.0.items, after source.now x.1)) result (spec.some_values_at (after source.now at)) }
+    ensures shorter { IfOk result (λ x. length (after source.now x.1) ≤ length (after source.now at)) }
+{
+    if next_is(source, at, Class::Value) {
+        values(alloc, source, at)
+    } else {
+        Ok((Vec::new(alloc), at))
+    }
+}
+
+#[tactic(auto, unfolding(crate::specs::SimpleReading::block_param_at))]
+fn block_param(source: &Source, at: usize) -> Result<(u64, usize), SimpleErr>
+    ensures is { Gives (λ x. (x.0, after source.now x.1)) result (spec.block_param_at (after source.now at)) }
+    ensures shorter { IfOk result (λ x. length (after source.now x.1) < length (after source.now at)) }
+{
+    let (param, rest) = value(source, at)?;
+    let (_, rest) = token(source, rest, Class::Colon)?;
+    let (_, rest) = token(source, rest, Class::I64)?;
+    Ok((param, rest))
+}
+
+#[tactic(auto, unfolding(crate::specs::SimpleReading::comma_param_at))]
+fn comma_param(source: &Source, at: usize) -> Result<(u64, usize), SimpleErr>
+    ensures is { Gives (λ x. (x.0, after source.now x.1)) result (spec.comma_param_at (after source.now at)) }
+    ensures shorter { IfOk result (λ x. length (after source.now x.1) < length (after source.now at)) }
+{
+    let (_, rest) = token(source, at, Class::Comma)?;
+    block_param(source, rest)
+}
+
+/// Parameters behind commas, after the first one.
+fn more_params(
+    alloc: Global,
+    first: u64,
+    source: &Source,
+    at: usize,
+) -> Result<(Vec<u64>, usize), SimpleErr>
+    ensures is { Gives (λ x. (x.0.items, after source.now x.1)) result (spec.more_params_at first (after source.now at)) }
+    ensures shorter { IfOk result (λ x. length (after source.now x.1) ≤ length (after source.now at)) }
+{
+    let mut params = Vec::new(alloc);
+    params.push(first)?;
+    let mut rest = at;
+    'params: while next_is(source, rest, Class::Comma) {
+        let (param, behind) = comma_param(source, rest)?;
+        params.push(param)?;
+        rest = behind;
+    }
+    Ok((params, rest))
+}
+
+#[tactic(auto, unfolding(crate::specs::SimpleReading::block_param_list_at))]
+fn block_param_list(
+    alloc: Global,
+    source: &Source,
+    at: usize,
+) -> Result<(Vec<u64>, usize), SimpleErr>
+    ensures is { Gives (λ x. (x.0.items, after source.now x.1)) result (spec.block_param_list_at (after source.now at)) }
+    ensures shorter { IfOk result (λ x. length (after source.now x.1) < length (after source.now at)) }
+{
+    let (first, rest) = block_param(source, at)?;
+    more_params(alloc, first, source, rest)
+}
+
+#[tactic(auto, unfolding(crate::specs::SimpleReading::some_params_at))]
+fn some_params(alloc: Global, source: &Source, at: usize) -> Result<(Vec<u64>, usize), SimpleErr>
+    ensures is { Gives (λ x. (x.0.items, after source.now x.1)) result (spec.some_params_at (after source.now at)) }
+    ensures shorter { IfOk result (λ x. length (after source.now x.1) ≤ length (after source.now at)) }
+{
+    if next_is(source, at, Class::Value) {
+        block_param_list(alloc, source, at)
+    } else {
+        Ok((Vec::new(alloc), at))
+    }
+}
+
+#[tactic(auto, unfolding(crate::specs::SimpleReading::in_parens_at))]
+fn in_parens(alloc: Global, source: &Source, at: usize) -> Result<(Vec<u64>, usize), SimpleErr>
+    ensures is { Gives (λ x. (x.0.items, after source.now x.1)) result (spec.in_parens_at (after source.now at)) }
+    ensures shorter { IfOk result (λ x. length (after source.now x.1) < length (after source.now at)) }
+{
+    let (_, rest) = token(source, at, Class::LeftParen)?;
+    let (params, rest) = some_params(alloc, source, rest)?;
+    let (_, rest) = token(source, rest, Class::RightParen)?;
+    Ok((params, rest))
+}
+
+#[tactic(auto, unfolding(crate::specs::SimpleReading::block_params_at))]
+fn block_params(alloc: Global, source: &Source, at: usize) -> Result<(Vec<u64>, usize), SimpleErr>
+    ensures is { Gives (λ x. (x.0.items, after source.now x.1)) result (spec.block_params_at (after source.now at)) }
+    ensures shorter { IfOk result (λ x. length (after source.now x.1) ≤ length (after source.now at)) }
+{
+    if next_is(source, at, Class::LeftParen) {
+        in_parens(alloc, source, at)
+    } else {
+        Ok((Vec::new(alloc), at))
+    }
+}
+
+/// The block's head: its parameters.
+#[tactic(auto, unfolding(crate::specs::SimpleReading::head_at))]
+fn head(alloc: Global, source: &Source, at: usize) -> Result<(Vec<u64>, usize), SimpleErr>
+    ensures is { Gives (λ x. (x.0.items, after source.now x.1)) result (spec.head_at (after source.now at)) }
+    ensures shorter { IfOk result (λ x. length (after source.now x.1) < length (after source.now at)) }
+{
+    let (_, rest) = token(source, at, Class::Block)?;
+    let (params, rest) = block_params(alloc, source, rest)?;
+    let (_, rest) = token(source, rest, Class::Colon)?;
+    Ok((params, rest))
+}
+
+#[inline]
+#[tactic(auto, unfolding(crate::specs::SimpleReading::iconst_at))]
+fn iconst(source: &Source, at: usize) -> Result<(Computation, usize), SimpleErr>
+    ensures is { Gives (λ x. (x.0, after source.now x.1)) result (spec.iconst_at (after source.now at)) }
+    ensures shorter { IfOk result (λ x. length (after source.now x.1) < length (after source.now at)) }
+{
+    let (_, rest) = token(source, at, Class::Iconst)?;
+    let (_, rest) = token(source, rest, Class::Dot)?;
+    let (_, rest) = token(source, rest, Class::I64)?;
+    let (number, rest) = token(source, rest, Class::Number)?;
+    Ok((Computation::Iconst(number.amount), rest))
+}
+
+#[inline]
+#[tactic(auto, unfolding(crate::specs::SimpleReading::iadd_at))]
+fn iadd(source: &Source, at: usize) -> Result<(Computation, usize), SimpleErr>
+    ensures is { Gives (λ x. (x.0, after source.now x.1)) result (spec.iadd_at (after source.now at)) }
+    ensures shorter { IfOk result (λ x. length (after source.now x.1) < length (after source.now at)) }
+{
+    let (_, rest) = token(source, at, Class::Iadd)?;
+    let (first, rest) = value(source, rest)?;
+    let (second, rest) = comma_value(source, rest)?;
+    Ok((Computation::Iadd(first, second), rest))
+}
+
+#[inline]
+#[tactic(auto, unfolding(crate::specs::SimpleReading::computation_at))]
+fn computation(source: &Source, at: usize) -> Result<(Computation, usize), SimpleErr>
+    ensures is { Gives (λ x. (x.0, after source.now x.1)) result (spec.computation_at (after source.now at)) }
+    ensures shorter { IfOk result (λ x. length (after source.now x.1) < length (after source.now at)) }
+{
+    if next_is(source, at, Class::Iconst) {
+        iconst(source, at)
+    } else {
+        iadd(source, at)
+    }
+}
+
+#[inline]
+#[tactic(auto, unfolding(crate::specs::SimpleReading::line_at))]
+fn line(source: &Source, at: usize) -> Result<(Assignment, usize), SimpleErr>
+    ensures is { Gives (λ x. (x.0, after source.now x.1)) result (spec.line_at (after source.now at)) }
+    ensures shorter { IfOk result (λ x. length (after source.now x.1) < length (after source.now at)) }
+{
+    let (result_value, rest) = value(source, at)?;
+    let (_, rest) = token(source, rest, Class::Equals)?;
+    let (computation, rest) = computation(source, rest)?;
+    let line = Assignment {
+        result: result_value,
+        computation,
+    };
+    Ok((line, rest))
+}
+
+/// The lines before the return.
+fn lines(alloc: Global, source: &Source, at: usize) -> Result<(Vec<Assignment>, usize), SimpleErr>
+    ensures is { Gives (λ x. (x.0.items, after source.now x.1)) result (spec.lines_at (after source.now at)) }
+    ensures shorter { IfOk result (λ x. length (after source.now x.1) ≤ length (after source.now at)) }
+{
+    let mut lines = Vec::new(alloc);
+    let mut rest = at;
+    'lines: while next_is(source, rest, Class::Value) {
+        let (line, behind) = line(source, rest)?;
+        lines.push(line)?;
+        rest = behind;
+    }
+    Ok((lines, rest))
+}
+
+/// The values that are returned.
+#[tactic(auto, unfolding(crate::specs::SimpleReading::return_at))]
+fn returned(alloc: Global, source: &Source, at: usize) -> Result<(Vec<u64>, usize), SimpleErr>
+    ensures is { Gives (λ x. (x.0.items, after source.now x.1)) result (spec.return_at (after source.now at)) }
+    ensures shorter { IfOk result (λ x. length (after source.now x.1) < length (after source.now at)) }
+{
+    let (_, rest) = token(source, at, Class::Return)?;
+    some_values(alloc, source, rest)
+}
+
+/// How many types stand in a row, one at least.
+#[tactic(auto, unfolding(crate::specs::SimpleReading::count_at))]
+fn count(source: &Source, at: usize) -> Result<(usize, usize), SimpleErr>
+    ensures is { Gives (λ x. (x.0, after source.now x.1)) result (spec.count_at (after source.now at)) }
+    ensures shorter { IfOk result (λ x. length (after source.now x.1) < length (after source.now at)) }
+{
+    let (_, rest) = token(source, at, Class::I64)?;
+    let (more, rest) = more_types(source, rest)?;
+    Ok((1 + more, rest))
+}
+
+/// How many parameters there are.
+#[tactic(auto, unfolding(crate::specs::SimpleReading::params_at))]
+fn params(source: &Source, at: usize) -> Result<(usize, usize), SimpleErr>
+    ensures is { Gives (λ x. (x.0, after source.now x.1)) result (spec.params_at (after source.now at)) }
+    ensures shorter { IfOk result (λ x. length (after source.now x.1) ≤ length (after source.now at)) }
+{
+    if next_is(source, at, Class::I64) {
+        count(source, at)
+    } else {
+        Ok((0, at))
+    }
+}
+
+#[tactic(auto, unfolding(crate::specs::SimpleReading::arrow_count_at))]
+fn arrow_count(source: &Source, at: usize) -> Result<(usize, usize), SimpleErr>
+    ensures is { Gives (λ x. (x.0, after source.now x.1)) result (spec.arrow_count_at (after source.now at)) }
+    ensures shorter { IfOk result (λ x. length (after source.now x.1) < length (after source.now at)) }
+{
+    let (_, rest) = token(source, at, Class::Arrow)?;
+    count(source, rest)
+}
+
+/// How many results there are.
+#[tactic(auto, unfolding(crate::specs::SimpleReading::results_at))]
+fn results(source: &Source, at: usize) -> Result<(usize, usize), SimpleErr>
+    ensures is { Gives (λ x. (x.0, after source.now x.1)) result (spec.results_at (after source.now at)) }
+    ensures shorter { IfOk result (λ x. length (after source.now x.1) ≤ length (after source.now at)) }
+{
+    if next_is(source, at, Class::Arrow) {
+        arrow_count(source, at)
+    } else {
+        Ok((0, at))
+    }
+}
+
+#[tactic(auto, unfolding(crate::specs::SimpleReading::fast_at))]
+fn fast(source: &Source, at: usize) -> Result<((), usize), SimpleErr>
+    ensures is { Gives (λ x. (x.0, after source.now x.1)) result (spec.fast_at (after source.now at)) }
+    ensures shorter { IfOk result (λ x. length (after source.now x.1) ≤ length (after source.now at)) }
+{
+    if next_is(source, at, Class::Fast) {
+        let (_, rest) = token(source, at, Class::Fast)?;
+        Ok(((), rest))
+    } else {
+        Ok(((), at))
+    }
+}
+
+/// How many parameters and results a signature has.
+#[tactic(auto, unfolding(crate::specs::SimpleReading::signature_at))]
+fn signature(source: &Source, at: usize) -> Result<((usize, usize), usize), SimpleErr>
+    ensures is { Gives (λ x. (x.0, after source.now x.1)) result (spec.signature_at (after source.now at)) }
+    ensures shorter { IfOk result (λ x. length (after source.now x.1) < length (after source.now at)) }
+{
+    let (_, rest) = token(source, at, Class::LeftParen)?;
+    let (params, rest) = params(source, rest)?;
+    let (_, rest) = token(source, rest, Class::RightParen)?;
+    let (results, rest) = results(source, rest)?;
+    let (_, rest) = fast(source, rest)?;
+    Ok(((params, results), rest))
+}
+
+/// A function.
+#[tactic(auto, unfolding(crate::specs::SimpleReading::function_at))]
+pub(crate) fn function<'a>(
+    alloc: Global,
+    source: &Source<'a>,
+    at: usize,
+) -> Result<(Written<'a>, usize), SimpleErr>
+    ensures is { Gives (λ x. (one_block x.0, after source.now x.1)) result (spec.function_at (after source.now at)) }
+    ensures shorter { IfOk result (λ x. length (after source.now x.1) < length (after source.now at)) }
+{
+    let (_, rest) = token(source, at, Class::Function)?;
+    let (name, rest) = token(source, rest, Class::Name)?;
+    let ((params, results), rest) = signature(source, rest)?;
+    let (_, rest) = token(source, rest, Class::LeftBrace)?;
+    let (block_params, rest) = head(alloc, source, rest)?;
+    let (lines, rest) = lines(alloc, source, rest)?;
+    let (returned, rest) = returned(alloc, source, rest)?;
+    let (_, rest) = token(source, rest, Class::RightBrace)?;
+    let written = Written {
+        name: name.name,
+        params,
+        results,
+        block_params,
+        lines,
+        returned,
+    };
+    Ok((written, rest))
+}

@@ -1,0 +1,160 @@
+//! The words that simple texts tell apart.
+ghost use Rattle.std.specs.Prelude.{◌≡◌, ◌≤◌, drop, length};
+ghost use Rattle.clif_read.specs.SimpleWords as spec;
+
+/// What the grammar tells apart.
+#[derive(Clone, Copy, Debug)]
+pub enum Class {
+    Function,
+    Name,
+    LeftParen,
+    RightParen,
+    LeftBrace,
+    RightBrace,
+    Comma,
+    Colon,
+    Equals,
+    Dot,
+    Arrow,
+    I64,
+    Fast,
+    Block,
+    Value,
+    Number,
+    Iconst,
+    Iadd,
+    Return,
+    Other,
+}
+
+/// A token that is no comment.
+#[derive(Clone, Copy, Debug)]
+pub struct Item<'a> {
+    pub class: Class,
+    /// The number of a value or a block.
+    pub number: u64,
+    /// What a number spells.
+    pub amount: i128,
+    /// The bytes of a name, without its `%`.
+    pub name: &'a [u8],
+    /// The first byte.
+    pub spot: usize,
+}
+
+/// The number that the digits of an entity write.
+#[inline]
+#[tactic(auto, unfolding(crate::specs::SimpleWords::entity_number))]
+fn entity_number(digits: &[u8]) -> Option<u64>
+    ensures { result ≡ spec.entity_number digits.now }
+{
+    match digits {
+        [] | [b'0', _, ..] => return None,
+        _ => {}
+    }
+    let mut number = 0u64;
+    'digits: for digit in digits {
+        if !digit.is_ascii_digit() {
+            return None;
+        }
+        number = number * 10 + u64::from(*digit - b'0');
+        if number > 4_294_967_294 {
+            return None;
+        }
+    }
+    Some(number)
+}
+
+/// The class of a word behind whose letters the digits of an entity may stand, and its number.
+#[inline]
+fn entity(class: Class, spelling: &[u8], letters: usize) -> (Class, u64)
+    requires { letters ≤ length spelling.now }
+    ensures { result ≡ spec.entity class spelling.now letters }
+{
+    match entity_number(spelling.split_at(letters).1) {
+        Some(number) => (class, number),
+        None => (plain_word(spelling), 0),
+    }
+}
+
+/// The class of a word, and of a value or a block the number.
+#[inline]
+#[tactic(auto, unfolding(crate::specs::SimpleWords::word))]
+pub(crate) fn word(spelling: &[u8]) -> (Class, u64)
+    ensures { result ≡ spec.word spelling.now }
+{
+    if spelling.is_empty() {
+        return (Class::Other, 0);
+    }
+    if spelling[0] == b'v' {
+        return entity(Class::Value, spelling, 1);
+    }
+    if spelling.len() > 5 && spelling.split_at(5).0 == b"block".as_slice() {
+        return entity(Class::Block, spelling, 5);
+    }
+    (plain_word(spelling), 0)
+}
+
+/// The class of a word that is no entity.
+#[inline]
+fn plain_word(spelling: &[u8]) -> Class
+    ensures { result ≡ spec.plain_word spelling.now }
+{
+    if spelling == b"iadd".as_slice() {
+        Class::Iadd
+    } else if spelling == b"iconst".as_slice() {
+        Class::Iconst
+    } else if spelling == b"i64".as_slice() {
+        Class::I64
+    } else if spelling == b"return".as_slice() {
+        Class::Return
+    } else if spelling == b"function".as_slice() {
+        Class::Function
+    } else if spelling == b"fast".as_slice() {
+        Class::Fast
+    } else {
+        Class::Other
+    }
+}
+
+/// The class of a mark.
+#[inline]
+pub(crate) fn mark(byte: u8) -> Class
+    ensures { result ≡ spec.mark byte }
+{
+    match byte {
+        b'(' => Class::LeftParen,
+        b')' => Class::RightParen,
+        b'{' => Class::LeftBrace,
+        b'}' => Class::RightBrace,
+        b',' => Class::Comma,
+        b':' => Class::Colon,
+        b'=' => Class::Equals,
+        b'.' => Class::Dot,
+        _ => Class::Other,
+    }
+}
+
+/// A token that has no amount and no name.
+#[inline]
+pub(crate) fn plain<'a>(class: Class, number: u64, spot: usize) -> Item<'a>
+    ensures { spec.lexeme_of result ≡ spec.plain class number spot }
+{
+    Item {
+        class,
+        number,
+        amount: 0,
+        name: &[],
+        spot,
+    }
+}
+
+/// All bytes but the first.
+#[inline]
+pub(crate) fn behind_first(spelling: &[u8]) -> &[u8]
+    ensures { result.now ≡ drop 1 spelling.now }
+{
+    match spelling.split_first() {
+        None => spelling,
+        Some((_, rest)) => rest,
+    }
+}

@@ -1,0 +1,37 @@
+//! `clifinl inline` over the standard streams.
+#![tactic(auto)]
+
+mod command;
+mod reading;
+mod status;
+#[cfg(test)]
+mod tests;
+mod words;
+
+use clk_flow::{NoGate, StdSink, StdSource};
+pub use command::command;
+pub use status::{Refusal, Status};
+use std::env;
+use std::process::ExitCode;
+
+fn main(rt: HostRuntime) -> ExitCode {
+    let mut input = StdSource::new(rt.stdin());
+    let mut out = StdSink::new(rt.stdout());
+    let mut err = StdSink::new(rt.stderr());
+    let Ok(args) = env::args(&rt) else {
+        return ExitCode::from(Status::NoMemory.code());
+    };
+    let Ok(words) = args.collect::<Vec<String>>(rt.alloc()) else {
+        return ExitCode::from(Status::NoMemory.code());
+    };
+    let status = command(
+        &rt,
+        rt.alloc(),
+        words.as_slice(),
+        &mut input,
+        &mut out,
+        &mut err,
+        &NoGate,
+    );
+    ExitCode::from(status.code())
+}

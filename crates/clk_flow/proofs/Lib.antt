@@ -1,0 +1,4 @@
+pub mod Copying
+pub mod Counting
+pub mod Reading
+pub mod Writing

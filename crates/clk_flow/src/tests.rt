@@ -1,0 +1,61 @@
+//! What no clause says: that calls succeed where memory is left, and one fault in mid-stream.
+use super::*;
+use std::alloc::AllocError;
+
+const DIGITS: &[u8] = b"0123456789";
+
+#[test]
+fn reads_to_the_end_or_one_past_the_limit(rt: HostRuntime) -> Result<(), AllocError> {
+    let alloc = rt.alloc();
+    for (limit, answer) in [
+        (10, Ok(10)),
+        (11, Ok(10)),
+        (9, Err(ReadErr::TooLong)),
+        (0, Err(ReadErr::TooLong)),
+    ] {
+        let mut source = MemSource::new(Vec::from_slice(alloc, DIGITS)?, Vec::new(alloc), 3);
+        let whole = read_whole(alloc, &mut source, limit);
+        assert!(rt; whole.map(|bytes| bytes.len()) == answer, "at {limit}");
+    }
+    let mut source = SureSource::new(Vec::from_slice(alloc, DIGITS)?);
+    assert!(rt;
+        read_whole(alloc, &mut source, 4).map(|bytes| bytes.len()) == Err(ReadErr::TooLong)
+    );
+    // Five bytes are gone.
+    let rest = read_whole(alloc, &mut source, 10);
+    assert!(rt; rest.map(|bytes| bytes.len()) == Ok(5));
+    Ok(())
+}
+
+#[test]
+fn one_fault_in_mid_stream(rt: HostRuntime) -> Result<(), AllocError> {
+    let alloc = rt.alloc();
+    let mut source = MemSource::new(Vec::from_slice(alloc, DIGITS)?, vec![in alloc; 1]?, 4);
+    assert!(rt;
+        read_whole(alloc, &mut source, 10).map(|bytes| bytes.len()) == Err(ReadErr::Failed)
+    );
+    let rest = read_whole(alloc, &mut source, 10);
+    assert!(rt; rest.map(|bytes| bytes.len()) == Ok(6));
+
+    let mut sink = MemSink::new(alloc, vec![in alloc; 1]?, 5)?;
+    assert!(rt; put(&mut sink, b"abc") == Ok(()));
+    assert!(rt; put(&mut sink, b"de") == Err(Failed));
+    assert!(rt; put(&mut sink, b"def") == Err(Failed));
+    assert!(rt; sink.bytes() == b"abcde".as_slice());
+    assert!(rt; put(&mut NullSink::new(), b"abc") == Ok(()));
+    Ok(())
+}
+
+#[test]
+fn passes_on_what_std_reads_and_writes(rt: HostRuntime) -> Result<(), AllocError> {
+    let alloc = rt.alloc();
+    let mut source = StdSource::new(b"abcdef".as_slice());
+    let whole = read_whole(alloc, &mut source, 6);
+    assert!(rt; whole.map(|bytes| bytes.len()) == Ok(6));
+    let mut place = [0u8; 4];
+    let mut sink = StdSink::new(place.as_mut_slice());
+    assert!(rt; put(&mut sink, b"abcdef") == Err(Failed));
+    assert!(rt; place == *b"abcd");
+    NoGate.started(0, 0);
+    Ok(())
+}

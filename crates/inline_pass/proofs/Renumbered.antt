@@ -1,0 +1,10 @@
+-- The pass under other numbers.
+use Rattle.ir_core.specs.Kept.{NeverStuck}
+use Rattle.inline_body.proofs.Laws.{same_of}
+use Rattle.inline_body.proofs.Numbering.{kept_on, numbering_keeps_runs}
+use Rattle.inline_pass.specs.Pass.{pass}
+use Rattle.inline_pass.specs.Laws.{RenumberedPassKeeps}
+use Rattle.inline_pass.proofs.Passing.{pass_keeps_runs}
+
+pub renumbered_pass_keeps : NeverStuck → RenumberedPassKeeps
+renumbered_pass_keeps never p order m r whole accepted same = same_of never m r whole accepted (kept_on m (pass p order m) r (pass_keeps_runs p order m) (numbering_keeps_runs (pass p order m) r same))

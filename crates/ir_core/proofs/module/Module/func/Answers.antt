@@ -1,0 +1,12 @@
+use Rattle.std.proofs.Common.{arith, ◌<◌, length, refl, ap}
+use Rattle.std.proofs.lemmas.List.{length-map}
+use Rattle.std.proofs.lemmas.Option.{slice_get_read}
+use Rattle.ir_core.specs.Sound.{IsWhole}
+use Rattle.ir_core.specs.Named.{function_in}
+use Rattle.ir_core.proofs.Indexing.{each_mapped}
+use Rattle.ir_core.proofs.module.Module.func.Goals as goal
+
+pub returns-clause-whole : goal.returns-clause-whole
+returns-clause-whole c =
+    let within : c.args.i < length c.self.inside.funcs.items = omega (arith, c.requires, ap length c.self.view_is, length-map c.self.inside.funcs.items function_in) in
+    each_mapped IsWhole function_in c.self.inside.funcs.items c.args.i c.index.result.now c.self.invariant.whole (slice_get_read c.self.inside.funcs.items (length c.self.inside.funcs.items) c.args.i c.index.result.now refl within c.index.ensures)

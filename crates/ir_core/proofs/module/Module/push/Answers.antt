@@ -1,0 +1,57 @@
+use Rattle.std.proofs.Common.{◌≡◌, ◌++◌, [], ◌∷◌, map, length, None, sym, ap, subst, ◌∙◌}
+use Rattle.std.proofs.lemmas.List.{length-map, map_push}
+use Rattle.std.specs.Map.{lookup}
+use Rattle.std.specs.BTreeMap.{get_by, is_at}
+use Rattle.ir_core.specs.declared.names.FuncName.TheVariants as name
+use Rattle.ir_core.specs.Lookup.{find_function}
+use Rattle.ir_core.specs.Lists.{Each}
+use Rattle.ir_core.specs.Sound.{IsWhole}
+use Rattle.ir_core.specs.Named.{function_in, functions_of, place_of, compare_texts, compare_users}
+use Rattle.ir_core.proofs.Members.{each_join}
+use Rattle.ir_core.proofs.Indexing.{text_more, user_more, texts_stay, users_stay}
+use Rattle.ir_core.proofs.module.Module.push.Goals.{in-Text+in_ok-text-in-Text+in_ok-insert-in-Text, in-User+in_ok-insert-in-User}
+use Rattle.ir_core.proofs.module.Module.push.Goals as goal
+
+grown : (c : goal.After-push_reserved) → c.match-name.self-inside.funcs.items ≡ c.self.inside.funcs.items → map function_in c.push_reserved.new.self.items ≡ functions_of c.self.inside ++ (c.args.func.function ∷ [])
+grown c e = ap (map function_in) (c.push_reserved.ensures.items ∙ ap (λ z. z ++ (c.args.func ∷ [])) e) ∙ map_push function_in c.self.inside.funcs.items c.args.func
+
+new : (c : goal.After-push_reserved) → find_function c.args.func.function.name (functions_of c.self.inside) ≡ None
+new c = ap (find_function c.args.func.function.name) c.self.view_is ∙ c.requires.new
+
+place : (c : goal.After-push_reserved) → c.len-place.result ≡ length (functions_of c.self.inside)
+place c = c.len-place.ensures ∙ (c.self.inside.funcs.ok.0 ∙ sym (length-map c.self.inside.funcs.items function_in))
+
+pub invariant_of-self-2 : goal.invariant_of-self-2
+invariant_of-self-2 c =
+    elim c.match-name.branch [
+      | in-Text+in_ok-text-in-Text+in_ok-insert-in-Text w ↦
+          let fs : map function_in c.push_reserved.new.self.items ≡ functions_of c.self.inside ++ (c.args.func.function ∷ []) = grown c (ap (λ z. z.funcs.items) w.self-inside-is ∙ c.in_ok-reserve.ensures.items) in
+          let named : c.args.func.function.name ≡ name.Text w.in-Text.text = sym c.name.ensures ∙ w.in-Text.is in
+          record {
+            whole = subst (Each IsWhole) (sym fs) (each_join IsWhole (functions_of c.self.inside) (c.args.func.function ∷ []) c.self.invariant.whole (c.requires.whole, tt));
+            texts = λ text.
+                ap (λ z. get_by (compare_texts text) z.texts) w.self-inside-is
+                ∙ (ap (lookup (is_at (compare_texts text))) w.in_ok-insert-in-Text.ensures.entries
+                ∙ (text_more (functions_of c.self.inside) c.args.func.function w.in_ok-text-in-Text.text c.len-place.result c.self.inside.texts.entries (named ∙ ap (λ z. name.Text z) (sym (w.in_ok-text-in-Text.ensures.items ∙ w.as_slice.ensures))) (new c) (place c) text (c.self.invariant.texts text)
+                ∙ ap (place_of (name.Text text)) (sym fs)));
+            users = λ first second.
+                ap (λ z. get_by (compare_users (first, second)) z.users) w.self-inside-is
+                ∙ (c.self.invariant.users first second
+                ∙ (sym (users_stay (functions_of c.self.inside) c.args.func.function w.in-Text.text named first second) ∙ ap (place_of (name.User first second)) (sym fs)));
+          }
+      | in-User+in_ok-insert-in-User w ↦
+          let fs : map function_in c.push_reserved.new.self.items ≡ functions_of c.self.inside ++ (c.args.func.function ∷ []) = grown c (ap (λ z. z.funcs.items) w.self-inside-is ∙ c.in_ok-reserve.ensures.items) in
+          let named : c.args.func.function.name ≡ name.User w.in-User.first w.in-User.second = sym c.name.ensures ∙ w.in-User.is in
+          record {
+            whole = subst (Each IsWhole) (sym fs) (each_join IsWhole (functions_of c.self.inside) (c.args.func.function ∷ []) c.self.invariant.whole (c.requires.whole, tt));
+            texts = λ text.
+                ap (λ z. get_by (compare_texts text) z.texts) w.self-inside-is
+                ∙ (c.self.invariant.texts text
+                ∙ (sym (texts_stay (functions_of c.self.inside) c.args.func.function w.in-User.first w.in-User.second named text) ∙ ap (place_of (name.Text text)) (sym fs)));
+            users = λ first second.
+                ap (λ z. get_by (compare_users (first, second)) z.users) w.self-inside-is
+                ∙ (ap (lookup (is_at (compare_users (first, second)))) w.in_ok-insert-in-User.ensures.entries
+                ∙ (user_more (functions_of c.self.inside) c.args.func.function (w.in-User.first, w.in-User.second) c.len-place.result c.self.inside.users.entries named (new c) (place c) first second (c.self.invariant.users first second)
+                ∙ ap (place_of (name.User first second)) (sym fs)));
+          }
+    ]

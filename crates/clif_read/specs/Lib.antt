@@ -1,4 +1,5 @@
 pub mod SimpleAdding
+pub mod SimpleBack
 pub mod SimpleClasses
 pub mod SimpleDrafts
 pub mod SimpleGrammar

@@ -18,7 +18,7 @@ use crate::simple::written::{Assignment, Computation, Written};
 use clk_num::{Bits, Op, Width};
 use debug_tags::Tags;
 use ir_core::{
-    Block, Conv, Ext, Func, FuncName, Inst, InstData, List, Param, Purpose, Sig, Ty, Value,
+    Block, Conv, Ext, Func, FuncName, Inst, InstData, List, Param, Purpose, Room, Sig, Ty, Value,
 };
 use std::alloc::Global;
 
@@ -334,6 +334,24 @@ fn fill(alloc: Global, func: &mut Func, block: Block, written: &Written) -> Resu
     add_return(alloc, func, block, &numbers, written.returned.as_slice())
 }
 
+/// The function without its block, with room for what is written.
+fn begin(alloc: Global, name: FuncName, sig: Sig, written: &Written) -> Result<Func, SimpleErr>
+    ensures ok { IfOk result (λ func. func.function ≡ record { name = name; sig = sig; slots = []; sigs = []; callees = []; types = []; blocks = [] }) }
+    ensures err { IfErr result (λ e. e ≡ NoMemory) }
+{
+    let mut func = Func::new(alloc, name, sig)?;
+    let lines = written.lines.len();
+    func.reserve(Room {
+        slots: 0,
+        sigs: 0,
+        callees: 0,
+        values: written.block_params.len().saturating_add(lines),
+        blocks: 1,
+        insts: lines.saturating_add(1),
+    })?;
+    Ok(func)
+}
+
 /// The function that is written, if it fits.
 #[tactic(auto, unfolding(crate::specs::SimpleModule::function_fits))]
 pub(crate) fn build(alloc: Global, name: FuncName, written: &Written) -> Result<Func, SimpleErr>
@@ -353,7 +371,7 @@ pub(crate) fn build(alloc: Global, name: FuncName, written: &Written) -> Result<
         return Err(SimpleErr::NotSimple);
     }
     let sig = signature(alloc, written)?;
-    let mut func = Func::new(alloc, name, sig)?;
+    let mut func = begin(alloc, name, sig, written)?;
     let block = func.add_block()?;
     fill(alloc, &mut func, block, written)?;
     Ok(func)

@@ -5,6 +5,7 @@ use Rattle.clk_flow.specs.Whole.{AppendsPrefix}
 use Rattle.clif_lex.specs.declared.spans.Token.{Token}
 use Rattle.clif_lex.specs.Lexing.{tokens_of}
 use Rattle.clif_lex.specs.declared.faults.TextKind.TheVariants.{Syntax}
+use Rattle.clif_read.specs.SimpleBack.{ReadsBack}
 use Rattle.clif_read.specs.SimpleModule.{Means}
 use Rattle.ir_core.specs.Module.{Module}
 use Rattle.ir_core.specs.Text.{text_of}
@@ -36,9 +37,10 @@ GivesTooMany before after = (bytes : List ℕ) × Consumes before after bytes ×
 abbrev pub ReadsNone : Option (List ℕ) → Option (List ℕ) → Type 0
 ReadsNone before after = (bytes : List ℕ) × ReadsWhole before after bytes × ((m : Module) → Reads bytes m → ⊥)
 
--- all was read, and the text of the module that it means was appended
+-- All was read, and the text of the module that it means was appended. That text is again a simple text, which means this
+-- module alone.
 abbrev pub ReadsAndWrites : (before after written now : Option (List ℕ)) → Type 0
-ReadsAndWrites before after written now = (bytes : List ℕ) × (m : Module) × ReadsWhole before after bytes × Reads bytes m × Appends written now (text_of m)
+ReadsAndWrites before after written now = (bytes : List ℕ) × (m : Module) × ReadsWhole before after bytes × Reads bytes m × Appends written now (text_of m) × ReadsBack m
 
 -- the same, as far as the sink took the text
 abbrev pub ReadsAndWritesPart : (before after written now : Option (List ℕ)) → Type 0

@@ -1,5 +1,5 @@
 -- A number that is written in decimal is read as itself.
-use Rattle.std.proofs.Common.{◌≡◌, ℕ, zero, suc, ◌+◌, ◌*◌, ◌/◌, ◌%◌, ◌^◌, ◌<◌, ◌≤◌, ◌==◌, Bool, true, false, not, ◌&&◌, ◌||◌, List, [], ◌∷◌, ◌++◌, length, get_or, refl, sym, ap, subst, ◌∙◌, arith}
+use Rattle.std.proofs.Common.{◌≡◌, ℕ, ◌+◌, ◌*◌, ◌%◌, ◌^◌, ◌<◌, ◌≤◌, ◌==◌, Bool, true, false, List, [], ◌∷◌, ◌++◌, length, refl, ◌∙◌, arith}
 use Rattle.std.specs.List.{list_all}
 use Rattle.std.specs.Char.{is_ascii_digit, digit_value}
 use Rattle.std.specs.Fmt.{decimal}
@@ -7,7 +7,7 @@ use Rattle.std.specs.Str.Parse.{digits_value, digits_value_after}
 use Rattle.std.proofs.lemmas.Bool.{and_parts}
 use Rattle.std.proofs.lemmas.Bool.Decides.{nat_tests}
 use Rattle.std.proofs.lemmas.Fmt.{decimal_by_steps, decimal_is_IsNumeral, decimal_nonempty}
-use Rattle.clif_lex.specs.Bytes.{underscore, first}
+use Rattle.clif_lex.specs.Bytes.{underscore}
 use Rattle.clif_lex.specs.Numbers.{amount, amount_after}
 
 digit : (d : ℕ) → d < 10 → is_ascii_digit (48 + d) ≡ true
@@ -39,4 +39,3 @@ decimal_value n h = (decimal_is_IsNumeral n h).1
 
 pub decimal_amount : (n : ℕ) → n < 2 ^ 64 → amount 10 (decimal n) ≡ n
 decimal_amount n h = amount_of_digits 0 (decimal n) (decimal_digits n h) ∙ decimal_value n h
-

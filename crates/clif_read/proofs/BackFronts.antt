@@ -1,19 +1,15 @@
 -- The token that begins a text: a word, a name, a number, a mark or an arrow, with something behind it that is no part of it.
-use Rattle.std.proofs.Common.{◌≡◌, ℕ, zero, suc, ◌+◌, ◌-◌, ◌^◌, ◌<◌, ◌≤◌, ◌==◌, Bool, true, false, not, ◌&&◌, ◌||◌, cond, List, [], ◌∷◌, ◌++◌, length, take, drop, Result, Ok, Err, refl, sym, ap, subst, ◌∙◌, arith, append_assoc}
-use Rattle.std.specs.Prelude.{nat_lt, nat_le, codes}
-use Rattle.std.specs.List.{list_all, list_any, prefix_len}
+use Rattle.std.proofs.Common.{◌≡◌, ℕ, suc, ◌+◌, ◌-◌, ◌≤◌, Bool, true, false, ◌&&◌, List, [], ◌∷◌, ◌++◌, length, take, drop, Ok, refl, ap, ◌∙◌, arith}
+use Rattle.std.specs.List.{list_all, prefix_len}
 use Rattle.std.specs.Char.{is_ascii_digit}
-use Rattle.std.proofs.lemmas.List.{take_at, drop_at, append-nil}
-use Rattle.std.proofs.lemmas.Bool.{and_parts, and_from, eqb-true}
+use Rattle.std.proofs.lemmas.List.{take_at, drop_at}
+use Rattle.std.proofs.lemmas.Bool.{and_parts}
 use Rattle.std.proofs.lemmas.Bool.Decides.{nat_tests}
 use Rattle.std.proofs.Math.Bool.{and-false}
-use Rattle.clif_lex.specs.declared.spans.Token.{Token}
 use Rattle.clif_lex.specs.declared.spans.TokenKind.{TokenKind}
-use Rattle.clif_lex.specs.declared.spans.TokenKind.TheVariants.{Name, Word, Number, Arrow, Mark}
-use Rattle.clif_lex.specs.declared.faults.LexErr.{LexErr}
-use Rattle.clif_lex.specs.Bytes.{is_blank, is_letter, is_word_byte, is_decimal_byte, is_sign, is_mark, percent, first, second}
-use Rattle.clif_lex.specs.Numbers.{amount, unsigned, is_hex, is_in_range, number_len, lacks_digits}
-use Rattle.clif_lex.specs.Lexing.{◌>>=◌, is_preamble, is_header_word, begins_number, token, token_at, number_at, word_at, tokens_from}
+use Rattle.clif_lex.specs.declared.spans.TokenKind.TheVariants.{Name, Word, Arrow, Mark}
+use Rattle.clif_lex.specs.Bytes.{is_blank, is_letter, is_word_byte, is_decimal_byte, is_sign, is_mark, first}
+use Rattle.clif_lex.specs.Lexing.{◌>>=◌, is_preamble, is_header_word, token, token_at, word_at, tokens_from}
 use Rattle.clif_lex.proofs.Runs.{at_blank, at_token}
 
 -- a run ends where a byte doesn't pass
@@ -38,25 +34,10 @@ no_decimal b h = grind (arith, nat_tests)
 letter_no_blank : (c : ℕ) → is_letter c ≡ true → is_blank c ≡ false
 letter_no_blank c h = grind (arith, nat_tests)
 
-digit_no_blank : (c : ℕ) → is_ascii_digit c ≡ true → is_blank c ≡ false
-digit_no_blank c h = grind (arith, nat_tests)
-
-digit_no_letter : (c : ℕ) → is_ascii_digit c ≡ true → is_letter c ≡ false
-digit_no_letter c h = grind (arith, nat_tests)
-
-digit_no_sign : (c : ℕ) → is_ascii_digit c ≡ true → is_sign c ≡ false
-digit_no_sign c h = grind (arith, nat_tests)
-
-digit_no_minus : (c : ℕ) → is_ascii_digit c ≡ true → (c == 45) ≡ false
-digit_no_minus c h = grind (arith, nat_tests)
-
 pub digit_word : (c : ℕ) → is_ascii_digit c ≡ true → is_word_byte c ≡ true
 digit_word c h = grind (arith, nat_tests)
 
-digit_decimal : (c : ℕ) → is_ascii_digit c ≡ true → is_decimal_byte c ≡ true
-digit_decimal c h = grind (arith, nat_tests)
-
-letter_some : (w : List ℕ) → is_letter (first w) ≡ true → 1 ≤ length w
+pub letter_some : (w : List ℕ) → is_letter (first w) ≡ true → 1 ≤ length w
 letter_some [] h = absurd cc
 letter_some (c ∷ w) h = omega arith
 

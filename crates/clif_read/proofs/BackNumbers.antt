@@ -1,22 +1,20 @@
 -- The number that begins a text: digits, with a sign or without.
-use Rattle.std.proofs.Common.{◌≡◌, ℕ, zero, suc, ◌+◌, ◌-◌, ◌^◌, ◌<◌, ◌≤◌, ◌==◌, Bool, true, false, not, ◌&&◌, ◌||◌, cond, List, [], ◌∷◌, ◌++◌, length, take, drop, Result, Ok, Err, refl, sym, ap, subst, ◌∙◌, arith, append_assoc}
+use Rattle.std.proofs.Common.{◌≡◌, ℕ, suc, ◌+◌, ◌^◌, ◌<◌, ◌≤◌, ◌==◌, Bool, true, false, List, [], ◌∷◌, ◌++◌, length, take, drop, Ok, refl, sym, ap, ◌∙◌, arith}
 use Rattle.std.specs.Prelude.{nat_lt, nat_le, ℤ, pos, negsuc, neg_ℤ}
-use Rattle.std.specs.List.{list_all, prefix_len}
+use Rattle.std.specs.List.{list_all}
 use Rattle.std.specs.Char.{is_ascii_digit}
 use Rattle.std.specs.Fmt.{decimal, signed_decimal}
 use Rattle.std.proofs.lemmas.List.{take_at, drop_at, append-nil}
-use Rattle.std.proofs.lemmas.Bool.{and_parts, eqb-true}
+use Rattle.std.proofs.lemmas.Bool.{and_parts}
 use Rattle.std.proofs.lemmas.Bool.Decides.{nat_tests}
 use Rattle.std.proofs.Math.Bool.{and-false}
-use Rattle.clif_lex.specs.declared.spans.Token.{Token}
 use Rattle.clif_lex.specs.declared.spans.TokenKind.TheVariants.{Number}
-use Rattle.clif_lex.specs.declared.faults.LexErr.{LexErr}
-use Rattle.clif_lex.specs.Bytes.{minus, is_blank, is_letter, is_word_byte, is_decimal_byte, is_sign, is_mark, first, second}
-use Rattle.clif_lex.specs.Numbers.{amount, sign_len, unsigned, magnitude, is_hex, is_in_range, spelled_number, digits_len, number_len, lacks_digits}
+use Rattle.clif_lex.specs.Bytes.{is_blank, is_letter, is_word_byte, is_decimal_byte, is_sign, first}
+use Rattle.clif_lex.specs.Numbers.{amount, unsigned, magnitude, is_hex, is_in_range, spelled_number, digits_len, number_len, lacks_digits}
 use Rattle.clif_lex.specs.Lexing.{◌>>=◌, begins_number, token, token_at, number_at, tokens_from}
 use Rattle.ir_core.specs.Pieces.{with_sign}
 use Rattle.clif_read.proofs.BackDecimals.{decimal_digits, decimal_some, decimal_amount}
-use Rattle.clif_read.proofs.BackFronts.{run_is, first_of, no_letter, no_decimal, digit_word, all_wider, token_then}
+use Rattle.clif_read.proofs.BackFronts.{run_is, first_of, no_letter, no_decimal, all_wider, token_then}
 
 digit_no_blank : (c : ℕ) → is_ascii_digit c ≡ true → is_blank c ≡ false
 digit_no_blank c h = grind (arith, nat_tests)

@@ -1,6 +1,6 @@
 -- A text in pieces has the tokens that its pieces are, where each piece is apart from what follows it.
-use Rattle.std.proofs.Common.{◌≡◌, ℕ, zero, suc, ◌+◌, ◌-◌, ◌^◌, ◌<◌, ◌≤◌, Bool, true, false, not, ◌&&◌, ◌||◌, List, [], ◌∷◌, ◌++◌, length, take, drop, map, Result, Ok, Err, refl, sym, ap, subst, ◌∙◌, arith, append_assoc}
-use Rattle.std.specs.Prelude.{nat_lt, ℤ, codes}
+use Rattle.std.proofs.Common.{◌≡◌, ℕ, ◌+◌, ◌-◌, ◌^◌, ◌<◌, ◌≤◌, Bool, true, false, not, ◌&&◌, ◌||◌, List, [], ◌∷◌, ◌++◌, length, take, drop, map, Result, Ok, Err, refl, sym, ap, ◌∙◌, arith, append_assoc}
+use Rattle.std.specs.Prelude.{nat_lt, codes}
 use Rattle.std.specs.List.{list_all, list_any}
 use Rattle.std.specs.Str.{bytes_eq}
 use Rattle.std.specs.Char.{is_ascii_digit}
@@ -18,7 +18,7 @@ use Rattle.clif_lex.specs.Spans.{spelling}
 use Rattle.clif_lex.proofs.Runs.{with_front}
 use Rattle.ir_core.specs.Pieces.{Text, Nothing, Blanks, Word, Numbered, Name, Number, Signed, Offset, Mark, Arrow, Then, spelled, with_sign}
 use Rattle.clif_read.proofs.BackDecimals.{decimal_digits, decimal_some}
-use Rattle.clif_read.proofs.BackFronts.{blanks_then, word_then, name_then, mark_then, arrow_then, first_of, all_wider, digit_word}
+use Rattle.clif_read.proofs.BackFronts.{blanks_then, word_then, name_then, mark_then, arrow_then, first_of, letter_some, all_wider, digit_word}
 use Rattle.clif_read.proofs.BackNumbers.{is_64_bits, below, number_then, signed_number_then, offset_then}
 
 -- ---- what a piece is, and what it is apart from
@@ -139,10 +139,6 @@ no_header w h = rw (differs w (codes "test") h refl, differs w (codes "set") h r
 all_append : (p : ℕ → Bool) (xs ys : List ℕ) → list_all p xs ≡ true → list_all p ys ≡ true → list_all p (xs ++ ys) ≡ true
 all_append p [] ys h k = k
 all_append p (x ∷ xs) ys h k = let b = and_parts (p x) (list_all p xs) h in rw (b.0, all_append p xs ys b.1 k) refl
-
-letter_some : (w : List ℕ) → is_letter (first w) ≡ true → 1 ≤ length w
-letter_some [] h = absurd cc
-letter_some (c ∷ w) h = omega arith
 
 numbered_then : (preamble : Bool) (at : ℕ) (w : List ℕ) (n : ℕ) (rest : List ℕ) → is_letter (first w) ≡ true → list_all is_word_byte w ≡ true → n < 2 ^ 64 → is_word_byte (first rest) ≡ false
     → tokens_from preamble 0 at ((w ++ decimal n) ++ rest) ≡ (tokens_from false 0 (at + length (w ++ decimal n)) rest >>= λ ts. Ok (token kind.Word at (length (w ++ decimal n)) ∷ ts))

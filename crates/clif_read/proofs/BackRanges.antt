@@ -1,6 +1,6 @@
 -- Numbers from one on, each one more than the one before: where each stands in such a list.
-use Rattle.std.proofs.Common.{◌≡◌, ℕ, zero, suc, ◌+◌, ◌-◌, ◌<◌, ◌≤◌, Bool, true, false, not, ◌&&◌, cond, nat_eq, List, [], ◌∷◌, ◌++◌, map, length, Option, Some, None, refl, sym, ap, subst, ◌∙◌, arith, inl, inr}
-use Rattle.std.specs.Prelude.{◌⊎◌, nat_lt, nat_le, position, is_some, unwrap_or}
+use Rattle.std.proofs.Common.{◌≡◌, ℕ, zero, suc, ◌+◌, ◌<◌, ◌≤◌, Bool, true, false, not, cond, nat_eq, List, [], ◌∷◌, ◌++◌, map, length, Option, Some, None, refl, sym, ap, ◌∙◌, arith, inl, inr}
+use Rattle.std.specs.Prelude.{◌⊎◌, nat_lt, position, is_some, unwrap_or}
 use Rattle.std.specs.List.{list_all, range_with_len, enumerate_from, position_or_len}
 use Rattle.std.proofs.lemmas.Bool.Decides.{nat_tests, leb_tells}
 use Rattle.std.proofs.lemmas.List.FromFn.{length-range_with_len}
@@ -46,7 +46,7 @@ enumerated k (x ∷ xs) = ap (λ (z : List ℕ). k ∷ z) (enumerated (k + 1) xs
 
 -- ---- places
 
-cases_lt : (a v : ℕ) → a ≤ v → (a ≡ v) ⊎ (a < v)
+pub cases_lt : (a v : ℕ) → a ≤ v → (a ≡ v) ⊎ (a < v)
 cases_lt a v h = elim (leb_tells v a) [ inl t ↦ inl (let k : v ≤ a = t.1 in omega arith) | inr f ↦ inr f.1 ]
 
 pub place_in_range : (a n v : ℕ) → a ≤ v → v < a + n → a + place (range_with_len a n) v ≡ v

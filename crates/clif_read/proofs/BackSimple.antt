@@ -1,21 +1,17 @@
 -- A function of one block, with its values numbered in order of definition: it fits again and means the same.
-use Rattle.std.proofs.Common.{◌≡◌, ℕ, zero, suc, ◌+◌, ◌-◌, ◌<◌, ◌≤◌, ◌==◌, Bool, true, false, not, ◌&&◌, cond, nat_eq, List, [], ◌∷◌, ◌++◌, map, length, Option, Some, None, refl, sym, ap, ap₂, subst, ◌∙◌, arith, append_assoc}
-use Rattle.std.specs.Prelude.{nat_lt, nat_le, position, is_some, unwrap_or, ℤ}
-use Rattle.std.specs.List.{list_all, list_any, range_with_len, enumerate_from}
+use Rattle.std.proofs.Common.{◌≡◌, ℕ, zero, suc, ◌+◌, ◌<◌, ◌≤◌, true, false, not, ◌&&◌, List, [], ◌∷◌, ◌++◌, map, length, refl, sym, ap, ap₂, subst, ◌∙◌, arith}
+use Rattle.std.specs.List.{list_all, range_with_len}
 use Rattle.std.proofs.lemmas.Bool.{and_parts, and_from}
-use Rattle.std.proofs.lemmas.List.{length-append, length-map, map-append}
+use Rattle.std.proofs.lemmas.List.{length-append, length-map}
 use Rattle.std.proofs.lemmas.List.FromFn.{length-range_with_len}
-use Rattle.clk_num.specs.Numbers.{fits, signed, wrapped}
-use Rattle.ir_core.specs.declared.signatures.Ty.{Ty}
-use Rattle.ir_core.specs.declared.signatures.Ty.TheVariants.{I64}
-use Rattle.ir_core.specs.Module.{Instruction, Plain, Const, Pure, Line, Function}
+use Rattle.clk_num.specs.Numbers.{signed, wrapped}
 use Rattle.clif_read.specs.declared.simple.written.Assignment.{Assignment}
 use Rattle.clif_read.specs.declared.simple.written.Computation.{Computation}
 use Rattle.clif_read.specs.declared.simple.written.Computation.TheVariants.{Iconst, Iadd}
 use Rattle.clif_read.specs.SimpleGrammar.{OneBlock}
-use Rattle.clif_read.specs.SimpleModule.{is_defined, may_compute, params_differ, line_fits, lines_fit, line_sizes, operands, size, most_size, result_of, words, block_fits, function_fits, is_named, may_follow, functions_fit, number, instruction, controlling, line_after, lines_after, return_line, typed, numbers, lines, of_one_block, signature, meaning}
-use Rattle.clif_read.proofs.BackRanges.{range_more, range_append, enumerated, position_in_range, position_past_range, place_below}
-use Rattle.clif_read.proofs.BackConstants.{constant_fits, constant_same}
+use Rattle.clif_read.specs.SimpleModule.{is_defined, may_compute, params_differ, line_fits, lines_fit, line_sizes, operands, size, result_of, words, block_fits, number}
+use Rattle.clif_read.proofs.BackRanges.{range_more, range_append, position_in_range, position_past_range, place_below}
+use Rattle.clif_read.proofs.BackConstants.{constant_fits}
 
 -- ---- the numbered form
 

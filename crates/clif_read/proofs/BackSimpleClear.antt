@@ -1,12 +1,12 @@
 -- The pieces of a written function are apart.
-use Rattle.std.proofs.Common.{◌≡◌, ℕ, zero, suc, ◌+◌, ◌<◌, ◌≤◌, ◌^◌, Bool, true, false, not, ◌&&◌, List, [], ◌∷◌, ◌++◌, map, length, replicate, refl, sym, ap, ap₂, subst, ◌∙◌, arith}
-use Rattle.std.specs.Prelude.{nat_lt, nat_le, codes}
-use Rattle.std.specs.List.{list_all, range_with_len}
+use Rattle.std.proofs.Common.{◌≡◌, ℕ, zero, suc, ◌^◌, Bool, true, false, ◌&&◌, List, [], ◌∷◌, replicate, refl, arith}
+use Rattle.std.specs.Prelude.{nat_lt, nat_le}
+use Rattle.std.specs.List.{list_all}
 use Rattle.std.proofs.lemmas.Bool.{and_parts, and_from}
 use Rattle.std.proofs.lemmas.Bool.Decides.{nat_tests}
 use Rattle.clif_lex.specs.Bytes.{is_word_byte, first}
 use Rattle.ir_core.specs.declared.signatures.Param.{Param}
-use Rattle.ir_core.specs.Pieces.{Text, Nothing, Blanks, Word, Numbered, Name, Number, Signed, Mark, Arrow, Then, ◌▹◌, space, line_end, indent, comma, colon, equals, more, separated, in_parentheses}
+use Rattle.ir_core.specs.Pieces.{Text, Nothing, ◌▹◌, more, separated}
 use Rattle.ir_core.specs.Text as text
 use Rattle.clif_read.specs.declared.simple.written.Assignment.{Assignment}
 use Rattle.clif_read.specs.declared.simple.written.Computation.{Computation}
@@ -16,7 +16,7 @@ use Rattle.clif_read.specs.SimpleModule.{i64_param, signature}
 use Rattle.clif_read.specs.SimpleWords.{last_number}
 use Rattle.clif_read.proofs.BackNumbers.{is_64_bits}
 use Rattle.clif_read.proofs.BackPieces.{front, clear}
-use Rattle.clif_read.proofs.BackSimpleText.{value_text, param_text, written_params, written_computation, written_line, written_lines, written_operands, written_return, written_block, written}
+use Rattle.clif_read.proofs.BackSimpleText.{value_text, param_text, written_params, written_line, written_lines, written_operands, written_return, written_block, written}
 
 -- ---- which functions are written
 

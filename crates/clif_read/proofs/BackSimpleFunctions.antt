@@ -1,13 +1,13 @@
 -- The written text of a function is derived by the grammar of simple texts, and says that function; and so for all functions.
-use Rattle.std.proofs.Common.{◌≡◌, ℕ, zero, suc, ◌+◌, ◌<◌, ◌≤◌, Bool, true, false, not, ◌&&◌, List, [], ◌∷◌, ◌++◌, map, length, Option, Some, None, refl, sym, ap, ap₂, subst, ◌∙◌, arith, inl, inr, append_assoc}
+use Rattle.std.proofs.Common.{◌≡◌, ℕ, ◌+◌, true, List, [], ◌∷◌, ◌++◌, map, length, refl, sym, ap, ap₂, ◌∙◌, inl, inr, append_assoc}
 use Rattle.std.specs.Prelude.{codes, ℤ}
 use Rattle.std.specs.List.{list_all}
 use Rattle.std.proofs.lemmas.Bool.{and_parts}
 use Rattle.std.proofs.lemmas.List.{append-nil}
 use Rattle.std.specs.Fmt.{decimal}
 use Rattle.clif_lex.specs.declared.spans.TokenKind.TheVariants as kind
-use Rattle.grammar.specs.Rules.{Lexeme, Rule, Tok, Seq, Alt, Opt, Many, Value, Derives, Each}
-use Rattle.ir_core.specs.Pieces.{Text, Nothing, Blanks, Word, Numbered, Name, Number, Signed, Mark, Arrow, Then, ◌▹◌, spelled, space, line_end, indent, comma, colon, equals, more, separated, in_parentheses}
+use Rattle.grammar.specs.Rules.{Lexeme, Rule, Alt, Many, Value}
+use Rattle.ir_core.specs.Pieces.{Text, Nothing, Word, Numbered, Name, Mark, ◌▹◌, spelled, line_end, equals}
 use Rattle.ir_core.specs.Text as text
 use Rattle.clif_read.specs.declared.simple.lexemes.Class.TheVariants as class
 use Rattle.clif_read.specs.declared.simple.written.Assignment.{Assignment}
@@ -21,7 +21,7 @@ use Rattle.clif_read.proofs.BackSimpleText.{value_text, written_params, written_
 use Rattle.clif_read.proofs.BackSimpleClear.{small, small_computation, small_line, IsSmall}
 use Rattle.clif_read.proofs.BackSimpleLexemes.{s_at, function_word, type_word, iconst_word, iadd_word}
 use Rattle.clif_read.proofs.BackSimpleTold.{Told, told_seq, told_as, mark_told, word_told, value_told, block_told, number_told, name_told}
-use Rattle.clif_read.proofs.BackSimpleRules.{counts, signature_told, params_told, return_told}
+use Rattle.clif_read.proofs.BackSimpleRules.{signature_told, params_told, return_told}
 
 -- ---- lines
 

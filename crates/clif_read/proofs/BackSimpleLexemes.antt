@@ -1,22 +1,16 @@
 -- The tokens of pieces as the grammar of simple texts sees them.
-use Rattle.std.proofs.Common.{◌≡◌, ℕ, zero, suc, ◌+◌, ◌*◌, ◌/◌, ◌%◌, ◌^◌, ◌<◌, ◌≤◌, ◌==◌, Bool, true, false, not, ◌&&◌, cond, List, [], ◌∷◌, ◌++◌, map, length, Option, Some, None, refl, sym, ap, subst, ◌∙◌, arith}
-use Rattle.std.specs.Prelude.{nat_lt, nat_le, codes}
-use Rattle.std.specs.List.{list_all}
-use Rattle.std.specs.Char.{is_ascii_digit}
+use Rattle.std.proofs.Common.{◌≡◌, ℕ, suc, ◌+◌, ◌/◌, ◌%◌, ◌^◌, ◌<◌, ◌≤◌, ◌==◌, Bool, true, false, cond, List, [], ◌∷◌, ◌++◌, map, length, Some, refl, sym, ap, ◌∙◌, arith}
+use Rattle.std.specs.Prelude.{codes}
 use Rattle.std.specs.Fmt.{decimal}
-use Rattle.std.specs.Str.Parse.{digits_value}
 use Rattle.std.proofs.lemmas.List.{map-append}
 use Rattle.std.proofs.lemmas.Bool.Decides.{nat_tests}
 use Rattle.std.proofs.lemmas.Fmt.{decimal_by_steps, decimal_digit}
 use Rattle.clif_lex.specs.declared.spans.Token.{Token}
-use Rattle.clif_lex.specs.declared.spans.TokenKind.TheVariants as kind
 use Rattle.clif_lex.specs.Bytes.{first}
 use Rattle.grammar.specs.Rules.{Lexeme}
 use Rattle.ir_core.specs.Pieces.{Text, Nothing, Blanks, Word, Numbered, Name, Number, Signed, Offset, Mark, Arrow, Then, spelled}
-use Rattle.clif_read.specs.declared.simple.lexemes.Class.{Class}
 use Rattle.clif_read.specs.declared.simple.lexemes.Class.TheVariants as class
-use Rattle.clif_read.specs.SimpleClasses.{code}
-use Rattle.clif_read.specs.SimpleWords.{last_number, is_shortest, entity_number, word, lexeme_as, lexeme_in, is_comment, lexemes}
+use Rattle.clif_read.specs.SimpleWords.{is_shortest, entity_number, word, lexeme_as, lexeme_in, is_comment, lexemes}
 use Rattle.clif_read.proofs.BackDecimals.{decimal_digits, decimal_value}
 use Rattle.clif_read.proofs.BackPieces.{tokens_at, seen_in, seen_at}
 use Rattle.clif_read.proofs.BackSimpleClear.{small}

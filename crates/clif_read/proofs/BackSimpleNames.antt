@@ -1,25 +1,25 @@
 -- The names of functions that were read are names that may be written: bytes of words, at least one.
-use Rattle.std.proofs.Common.{◌≡◌, ℕ, zero, suc, ◌+◌, ◌-◌, ◌<◌, ◌≤◌, ◌==◌, Bool, true, false, not, ◌&&◌, ◌||◌, cond, List, [], ◌∷◌, ◌++◌, map, length, take, drop, Option, Some, None, Result, Ok, Err, refl, sym, ap, subst, ◌∙◌, arith}
+use Rattle.std.proofs.Common.{◌≡◌, ℕ, ◌+◌, ◌-◌, ◌<◌, ◌==◌, Bool, true, false, not, ◌&&◌, ◌||◌, cond, List, [], ◌∷◌, ◌++◌, length, take, drop, Option, Some, None, Ok, refl, sym, ap, subst, ◌∙◌, arith}
 use Rattle.std.specs.Prelude.{nat_lt, codes, slice_index}
 use Rattle.std.specs.List.{list_all}
 use Rattle.std.specs.Str.{bytes_eq}
 use Rattle.std.proofs.lemmas.Bool.{and_parts, and_from}
-use Rattle.std.proofs.lemmas.List.{length-drop, drop-drop}
+use Rattle.std.proofs.lemmas.List.{drop-drop}
 use Rattle.clif_lex.specs.declared.spans.Token.{Token}
 use Rattle.clif_lex.specs.declared.spans.TokenKind.{TokenKind}
 use Rattle.clif_lex.specs.declared.spans.TokenKind.TheVariants as kind
-use Rattle.clif_lex.specs.Bytes.{percent, is_blank, is_word_byte, first, second}
+use Rattle.clif_lex.specs.Bytes.{percent, is_word_byte, first, second}
 use Rattle.clif_lex.specs.Lexing.{is_preamble, tokens_of}
 use Rattle.clif_lex.specs.Spans.{spelling}
 use Rattle.clif_lex.specs.Spelling.{spells, Stands, IsDivided, IsAtEnd, IsReading}
 use Rattle.clif_lex.proofs.Readings.{reading}
-use Rattle.grammar.specs.Rules.{Lexeme, Value, Derives, Each}
+use Rattle.grammar.specs.Rules.{Lexeme, Value, Derives}
 use Rattle.clif_read.specs.declared.simple.lexemes.Class.{Class}
 use Rattle.clif_read.specs.declared.simple.lexemes.Class.TheVariants as class
 use Rattle.clif_read.specs.SimpleClasses.{code}
 use Rattle.clif_read.specs.SimpleGrammar.{OneBlock, function_rule, module_rule, function}
 use Rattle.clif_read.specs.SimpleModule.{functions}
-use Rattle.clif_read.specs.SimpleWords.{plain_word, or_plain, entity, entity_number, word, mark, plain, lexeme_as, lexeme_in, is_comment, lexemes}
+use Rattle.clif_read.specs.SimpleWords.{plain_word, or_plain, entity, entity_number, word, mark, lexeme_as, lexeme_in, is_comment, lexemes}
 use Rattle.clif_read.proofs.BackSimpleClear.{is_name}
 
 -- a lexeme that is a name spells one

@@ -1,26 +1,22 @@
 -- The written text of a function is derived by the grammar of simple texts, and says that function.
-use Rattle.std.proofs.Common.{◌≡◌, ℕ, zero, suc, ◌+◌, ◌<◌, ◌≤◌, Bool, true, false, not, ◌&&◌, List, [], ◌∷◌, ◌++◌, map, length, replicate, Option, Some, None, refl, sym, ap, ap₂, subst, ◌∙◌, arith, inl, inr, append_assoc}
-use Rattle.std.specs.Prelude.{codes, ℤ}
+use Rattle.std.proofs.Common.{◌≡◌, ℕ, zero, suc, ◌+◌, true, List, [], ◌∷◌, ◌++◌, map, length, replicate, Some, refl, sym, ap, ◌∙◌, arith, append_assoc}
+use Rattle.std.specs.Prelude.{codes}
 use Rattle.std.specs.List.{list_all}
 use Rattle.std.proofs.lemmas.Bool.{and_parts}
 use Rattle.std.proofs.lemmas.List.{append-nil, length-map}
 use Rattle.std.proofs.Math.ListN.{length-replicate}
-use Rattle.grammar.specs.Rules.{Lexeme, Rule, Tok, Seq, Alt, Opt, Many, Value, Derives, Each}
-use Rattle.ir_core.specs.Pieces.{Text, Nothing, Blanks, Word, Numbered, Name, Number, Signed, Mark, Arrow, Then, ◌▹◌, spelled, space, line_end, indent, comma, colon, equals, more, separated, in_parentheses}
+use Rattle.grammar.specs.Rules.{Lexeme, Seq, Opt, Value}
+use Rattle.ir_core.specs.Pieces.{Word, Mark, spelled, separated, in_parentheses}
 use Rattle.ir_core.specs.Text as text
 use Rattle.ir_core.specs.declared.signatures.Param.{Param}
 use Rattle.clif_read.specs.declared.simple.lexemes.Class.TheVariants as class
-use Rattle.clif_read.specs.declared.simple.written.Assignment.{Assignment}
-use Rattle.clif_read.specs.declared.simple.written.Computation.{Computation}
-use Rattle.clif_read.specs.declared.simple.written.Computation.TheVariants.{Iconst, Iadd}
 use Rattle.clif_read.specs.SimpleGrammar as g
 use Rattle.clif_read.specs.SimpleGrammar.{OneBlock, one, commas}
 use Rattle.clif_read.specs.SimpleModule.{i64_param, signature}
-use Rattle.clif_read.proofs.BackNumbers.{is_64_bits}
-use Rattle.clif_read.proofs.BackSimpleText.{value_text, param_text, written_params, written_computation, written_line, written_lines, written_operands, written_return, written_block, written}
-use Rattle.clif_read.proofs.BackSimpleClear.{small, small_computation, small_line, IsSmall}
-use Rattle.clif_read.proofs.BackSimpleLexemes.{s_at, function_word, fast_word, type_word, iconst_word, iadd_word, return_word}
-use Rattle.clif_read.proofs.BackSimpleTold.{Told, told_seq, told_as, told_some, told_none, nothing_said, mark_told, word_told, value_told, block_told, number_told, name_told, arrow_told, AllTold, more_told, separated_told}
+use Rattle.clif_read.proofs.BackSimpleText.{value_text, param_text, written_params, written_operands, written_return}
+use Rattle.clif_read.proofs.BackSimpleClear.{small}
+use Rattle.clif_read.proofs.BackSimpleLexemes.{s_at, fast_word, type_word, return_word}
+use Rattle.clif_read.proofs.BackSimpleTold.{Told, told_seq, told_as, told_some, told_none, nothing_said, mark_told, word_told, value_told, arrow_told, AllTold, separated_told}
 
 -- ---- signatures
 
@@ -73,11 +69,13 @@ signature_told f at =
 all_params : (vs : List ℕ) → list_all small vs ≡ true → AllTold g.block_param_rule g.block_param param_text (λ (v : ℕ). v) vs
 all_params [] h = tt
 all_params (v ∷ vs) h =
-    let a = and_parts (small v) (list_all small vs) h in
-    ((λ at.
-    let at1 = at + length (spelled (value_text v)) in
-    told_seq {C = ℕ} (λ (x : ℕ) (y : Unit {0}). x) (value_told v at a.0)
-    (told_seq {C = Unit {0}} (λ (x y : Unit {0}). tt) (mark_told class.Colon 58 at1 refl) (word_told class.I64 (codes "i64") (at1 + 1 + 1) type_word))), all_params vs a.1)
+    let a = and_parts (small v) (list_all small vs) h in (
+      (λ at.
+          let at1 = at + length (spelled (value_text v)) in
+          told_seq {C = ℕ} (λ (x : ℕ) (y : Unit {0}). x) (value_told v at a.0)
+          (told_seq {C = Unit {0}} (λ (x y : Unit {0}). tt) (mark_told class.Colon 58 at1 refl) (word_told class.I64 (codes "i64") (at1 + 1 + 1) type_word))),
+      all_params vs a.1,
+    )
 
 map_same : (vs : List ℕ) → map (λ (v : ℕ). v) vs ≡ vs
 map_same [] = refl

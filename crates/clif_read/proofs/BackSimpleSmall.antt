@@ -1,17 +1,17 @@
 -- A function that fits has numbers small enough to be written, once its values are numbered in order of definition.
-use Rattle.std.proofs.Common.{◌≡◌, ℕ, zero, suc, ◌+◌, ◌<◌, ◌≤◌, Bool, true, false, not, ◌&&◌, List, [], ◌∷◌, ◌++◌, map, length, refl, sym, ap, ◌∙◌, arith}
+use Rattle.std.proofs.Common.{◌≡◌, ℕ, ◌+◌, ◌≤◌, true, not, List, [], ◌∷◌, ◌++◌, map, length, refl, arith}
 use Rattle.std.specs.Prelude.{nat_le}
-use Rattle.std.specs.List.{list_all, list_any, range_with_len}
+use Rattle.std.specs.List.{list_all}
 use Rattle.std.proofs.lemmas.Bool.{and_parts, and_from}
 use Rattle.std.proofs.lemmas.Bool.Decides.{nat_tests}
 use Rattle.clif_read.specs.declared.simple.written.Assignment.{Assignment}
 use Rattle.clif_read.specs.declared.simple.written.Computation.{Computation}
 use Rattle.clif_read.specs.declared.simple.written.Computation.TheVariants.{Iconst, Iadd}
 use Rattle.clif_read.specs.SimpleGrammar.{OneBlock}
-use Rattle.clif_read.specs.SimpleModule.{is_defined, may_compute, line_fits, lines_fit, line_sizes, operands, size, most_size, words, function_fits, number}
+use Rattle.clif_read.specs.SimpleModule.{is_defined, may_compute, line_fits, lines_fit, line_sizes, size, most_size, words, function_fits, number}
 use Rattle.clif_read.proofs.BackRanges.{range_all, place_below}
 use Rattle.clif_read.proofs.BackConstants.{constant_bits}
-use Rattle.clif_read.proofs.BackSimple.{recomputed, relined, below, renumbered, length_push, length_words}
+use Rattle.clif_read.proofs.BackSimple.{recomputed, relined, renumbered, length_push, length_words}
 use Rattle.clif_read.proofs.BackSimpleMeaning.{fits_parts, block_parts}
 use Rattle.clif_read.proofs.BackSimpleClear.{small, small_computation, small_line, is_name, IsSmall}
 

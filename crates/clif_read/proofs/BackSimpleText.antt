@@ -1,26 +1,24 @@
 -- The canonical text of a function of one block, written out.
-use Rattle.std.proofs.Common.{◌≡◌, ℕ, zero, suc, ◌+◌, ◌-◌, ◌<◌, ◌≤◌, Bool, true, false, not, ◌&&◌, cond, List, [], ◌∷◌, ◌++◌, map, length, Option, Some, None, refl, sym, ap, ap₂, subst, ◌∙◌, arith, inl, inr}
-use Rattle.std.specs.Prelude.{◌⊎◌, nat_lt, codes, position, unwrap_or}
+use Rattle.std.proofs.Common.{◌≡◌, ℕ, suc, ◌+◌, ◌<◌, ◌≤◌, Bool, true, not, List, [], ◌∷◌, ◌++◌, map, length, Some, refl, sym, ap, ap₂, ◌∙◌, arith, inl, inr}
+use Rattle.std.specs.Prelude.{◌⊎◌, nat_lt, codes}
 use Rattle.std.specs.List.{list_all, range_with_len, enumerate_from}
-use Rattle.std.proofs.lemmas.Bool.{and_parts, and_from}
-use Rattle.std.proofs.lemmas.Bool.Decides.{nat_tests, leb_tells}
-use Rattle.std.proofs.lemmas.List.{length-append, length-map, append-nil}
+use Rattle.std.proofs.lemmas.Bool.{and_parts}
+use Rattle.std.proofs.lemmas.Bool.Decides.{nat_tests}
+use Rattle.std.proofs.lemmas.List.{append-nil}
 use Rattle.std.proofs.lemmas.List.FromFn.{length-range_with_len}
-use Rattle.clk_num.specs.Numbers.{wrapped, signed}
-use Rattle.ir_core.specs.declared.names.FuncName.TheVariants as name
 use Rattle.ir_core.specs.declared.signatures.Ty.{Ty}
 use Rattle.ir_core.specs.declared.signatures.Ty.TheVariants.{I64}
 use Rattle.ir_core.specs.Lookup.{type_in, type_of, line_definitions}
-use Rattle.ir_core.specs.Module.{Line, Function, Module}
+use Rattle.ir_core.specs.Module.{Line, Function}
 use Rattle.ir_core.specs.Numbering.{Numbering, numbering_of, place}
-use Rattle.ir_core.specs.Pieces.{Text, Nothing, Blanks, Word, Numbered, Name, Number, Signed, Mark, Arrow, Then, ◌▹◌, space, line_end, indent, comma, colon, equals, more, separated, in_parentheses}
+use Rattle.ir_core.specs.Pieces.{Text, Nothing, Word, Numbered, Name, Signed, Mark, ◌▹◌, space, line_end, indent, comma, colon, equals, more, separated, in_parentheses}
 use Rattle.ir_core.specs.Text as text
 use Rattle.clif_read.specs.declared.simple.written.Assignment.{Assignment}
 use Rattle.clif_read.specs.declared.simple.written.Computation.{Computation}
 use Rattle.clif_read.specs.declared.simple.written.Computation.TheVariants.{Iconst, Iadd}
 use Rattle.clif_read.specs.SimpleGrammar.{OneBlock}
-use Rattle.clif_read.specs.SimpleModule.{is_defined, may_compute, line_fits, lines_fit, words, function_fits, number, line_after, lines_after, return_line, typed, numbers, lines, signature, meaning}
-use Rattle.clif_read.proofs.BackRanges.{enumerated, place_below, place_in_range, range_append, range_all, less_true, same_number, other_numbers}
+use Rattle.clif_read.specs.SimpleModule.{is_defined, may_compute, line_fits, lines_fit, words, function_fits, number, line_after, lines_after, return_line, numbers, lines, signature, meaning}
+use Rattle.clif_read.proofs.BackRanges.{enumerated, place_below, place_in_range, range_append, range_all, less_true, same_number, other_numbers, cases_lt}
 use Rattle.clif_read.proofs.BackSimple.{recomputed, relined, below, renumbered, length_push, length_words}
 use Rattle.clif_read.proofs.BackSimpleMeaning.{fits_parts, block_parts}
 
@@ -127,7 +125,7 @@ module _ (f : Function) (n : Numbering) (c : ℕ) (known : Known f n c) where
       let at : length (ws ++ l.result ∷ []) + length ls ≡ length ws + suc (length ls) = omega arith in
       ap₂ (λ (x y : Text). x ▹ y) (line_same ws l.result l.computation b.0 (omega arith))
       (ap (λ (k : ℕ). text.lines f n k (lines_after (ws ++ l.result ∷ []) ls ++ rest)) (sym push) ∙ ih
-        ∙ ap (λ (k : ℕ). written_lines (relined (ws ++ l.result ∷ []) ls) (text.lines f n k rest)) at)
+      ∙ ap (λ (k : ℕ). written_lines (relined (ws ++ l.result ∷ []) ls) (text.lines f n k rest)) at)
 
   return_same : (next : ℕ) (ws vs : List ℕ) → are_below c (map (number ws) vs) ≡ true → text.line f n next (return_line ws vs) ≡ written_return (map (number ws) vs)
   return_same next ws vs h = ap (λ (z : Text). indent ▹ Nothing ▹ Nothing ▹ (Word (codes "return") ▹ z) ▹ line_end) (operands_same (map (number ws) vs) h)
@@ -172,9 +170,6 @@ values_below f =
     ap₂ (λ (x y : List ℕ). x ++ (y ++ [])) (enumerated 0 f.block_params) (definitions_after f.block_params f.lines (return_line (words f) f.returned ∷ []) ∙ append-nil (range_with_len p l))
     ∙ ap (λ (z : List ℕ). below p ++ z) (append-nil (range_with_len p l)) ∙ ap (λ (k : ℕ). below p ++ range_with_len k l) (let k : p ≡ 0 + p = omega arith in k) ∙ range_append 0 p l
     ∙ ap below (sym (length_words f))
-
-cases_lt : (a v : ℕ) → a ≤ v → (a ≡ v) ⊎ (a < v)
-cases_lt a v h = elim (leb_tells v a) [ inl t ↦ inl (let k : v ≤ a = t.1 in omega arith) | inr t ↦ inr t.1 ]
 
 type_in_typed : (k : ℕ) (ws : List ℕ) (v : ℕ) → k ≤ v → v < k + length ws → type_in (map {B = ℕ × Ty} (λ (p : ℕ × ℕ). (p.0, I64)) (enumerate_from k ws)) v ≡ Some I64
 type_in_typed k [] v low high = absurd (omega arith)

@@ -1,28 +1,19 @@
 -- The written text of each rule is derived by it, and says what was written.
-use Rattle.std.proofs.Common.{◌≡◌, ℕ, zero, suc, ◌+◌, ◌<◌, ◌≤◌, Bool, true, false, not, ◌&&◌, List, [], ◌∷◌, ◌++◌, map, length, replicate, Option, Some, None, refl, sym, ap, ap₂, subst, ◌∙◌, arith, inl, inr, append_assoc}
+use Rattle.std.proofs.Common.{◌≡◌, ℕ, ◌+◌, true, List, [], ◌∷◌, ◌++◌, map, length, Some, None, refl, sym, ap, ap₂, subst}
 use Rattle.std.specs.Prelude.{codes, ℤ}
-use Rattle.std.specs.List.{list_all}
 use Rattle.std.specs.Fmt.{decimal, signed_decimal}
-use Rattle.std.proofs.lemmas.Bool.{and_parts}
-use Rattle.std.proofs.lemmas.List.{append-nil}
-use Rattle.grammar.specs.Rules.{Lexeme, Rule, Tok, Seq, Alt, Opt, Many, Value, Derives, Each}
+use Rattle.grammar.specs.Rules.{Lexeme, Rule, Tok, Seq, Opt, Many, Value, Derives}
 use Rattle.clif_lex.specs.declared.spans.TokenKind.TheVariants as kind
-use Rattle.ir_core.specs.Pieces.{Text, Nothing, Blanks, Word, Numbered, Name, Number, Signed, Mark, Arrow, Then, ◌▹◌, spelled, space, line_end, indent, comma, colon, equals, more, separated, in_parentheses}
-use Rattle.ir_core.specs.Text as text
+use Rattle.ir_core.specs.Pieces.{Text, Word, Numbered, Name, Signed, Mark, Arrow, spelled, more, separated}
 use Rattle.clif_read.specs.declared.simple.lexemes.Class.{Class}
 use Rattle.clif_read.specs.declared.simple.lexemes.Class.TheVariants as class
-use Rattle.clif_read.specs.declared.simple.written.Assignment.{Assignment}
-use Rattle.clif_read.specs.declared.simple.written.Computation.{Computation}
-use Rattle.clif_read.specs.declared.simple.written.Computation.TheVariants.{Iconst, Iadd}
 use Rattle.clif_read.specs.SimpleClasses.{code}
-use Rattle.clif_read.specs.SimpleGrammar as g
-use Rattle.clif_read.specs.SimpleGrammar.{OneBlock, one, commas}
-use Rattle.clif_read.specs.SimpleModule.{i64_param, signature}
-use Rattle.clif_read.specs.SimpleWords.{word, plain, lexeme_as}
+use Rattle.clif_read.specs.SimpleGrammar.{one, commas}
+use Rattle.clif_read.specs.SimpleWords.{word, lexeme_as}
 use Rattle.clif_read.proofs.BackNumbers.{is_64_bits, signed_spells}
-use Rattle.clif_read.proofs.BackSimpleText.{value_text, param_text, written_params, written_computation, written_line, written_lines, written_operands, written_return, written_block, written}
-use Rattle.clif_read.proofs.BackSimpleClear.{small, small_computation, small_line, IsSmall}
-use Rattle.clif_read.proofs.BackSimpleLexemes.{s_at, value_word, block_word, function_word, fast_word, type_word, iconst_word, iadd_word, return_word}
+use Rattle.clif_read.proofs.BackSimpleText.{value_text}
+use Rattle.clif_read.proofs.BackSimpleClear.{small}
+use Rattle.clif_read.proofs.BackSimpleLexemes.{s_at, value_word, block_word}
 
 -- the tokens are derived by a rule, and their tree says x
 pub record Told (r : Rule) {A : Type 0} (f : Value r → A) (x : A) (ts : List Lexeme) : Type 0 where

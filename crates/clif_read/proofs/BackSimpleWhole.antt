@@ -1,14 +1,13 @@
 -- The canonical text of a module that a simple text means is a simple text, and means that module alone.
-use Rattle.std.proofs.Common.{◌≡◌, ℕ, ◌+◌, Bool, true, false, not, ◌&&◌, ◌==◌, List, [], ◌∷◌, ◌++◌, map, length, Option, Some, Result, Ok, refl, sym, ap, ap₂, subst, ◌∙◌}
+use Rattle.std.proofs.Common.{◌≡◌, ℕ, true, not, ◌&&◌, ◌==◌, List, [], ◌∷◌, ◌++◌, map, length, Option, Some, Ok, refl, sym, ap, ap₂, subst, ◌∙◌}
 use Rattle.std.specs.List.{list_all, list_any}
 use Rattle.std.proofs.lemmas.Bool.{and_parts}
 use Rattle.std.proofs.lemmas.List.{append-nil}
 use Rattle.clif_lex.specs.declared.spans.Token.{Token}
-use Rattle.clif_lex.specs.declared.faults.LexErr.{LexErr}
 use Rattle.clif_lex.specs.Lexing.{tokens_of}
 use Rattle.grammar.specs.Rules.{Lexeme, Derives}
 use Rattle.ir_core.specs.Module.{Module}
-use Rattle.ir_core.specs.Pieces.{Text, Nothing, Then, ◌▹◌, spelled, line_end}
+use Rattle.ir_core.specs.Pieces.{Text, ◌▹◌, spelled, line_end}
 use Rattle.ir_core.specs.Text.{canonical_text, more_functions, text_of}
 use Rattle.clif_read.specs.SimpleBack.{ReadsBack}
 use Rattle.clif_read.specs.SimpleGrammar.{OneBlock, module_rule}
@@ -22,7 +21,7 @@ use Rattle.clif_read.proofs.BackSimpleLexemes.{s_at, lexemes_of_pieces}
 use Rattle.clif_read.proofs.BackSimpleMeaning.{functions_again, all_mean}
 use Rattle.clif_read.proofs.BackSimpleNames.{is_named_well, lexemes_sound, functions_named}
 use Rattle.clif_read.proofs.BackSimpleSmall.{renumbered_small}
-use Rattle.clif_read.proofs.BackSimpleText.{written, function_same}
+use Rattle.clif_read.proofs.BackSimpleText.{function_same}
 use Rattle.clif_read.proofs.SimpleWhole.{means_reads}
 
 -- the first of some functions fits, and so do the others

@@ -9,18 +9,18 @@ ghost use Rattle.clif_read.specs.SimpleModule as spec;
 
 mod building;
 mod errors;
-mod grammar;
 mod lexemes;
 mod numbers;
+mod rules;
 mod source;
 mod written;
 
 use building::build;
 use clif_lex::Tokens;
 pub use errors::SimpleErr;
-use grammar::{function, next_is};
 use ir_core::{FuncName, List, Module};
 use lexemes::Class;
+use rules::{function, next_is};
 use source::Source;
 use std::alloc::Global;
 use written::Written;

@@ -37,8 +37,8 @@ GivesTooMany before after = (bytes : List ℕ) × Consumes before after bytes ×
 abbrev pub ReadsNone : Option (List ℕ) → Option (List ℕ) → Type 0
 ReadsNone before after = (bytes : List ℕ) × ReadsWhole before after bytes × ((m : Module) → Reads bytes m → ⊥)
 
--- All was read, and the text of the module that it means was appended. That text is again a simple text, which means this
--- module alone.
+-- all was read, and the text of the module that it means was appended: a text that reads back as this module and as nothing
+-- else
 abbrev pub ReadsAndWrites : (before after written now : Option (List ℕ)) → Type 0
 ReadsAndWrites before after written now = (bytes : List ℕ) × (m : Module) × ReadsWhole before after bytes × Reads bytes m × Appends written now (text_of m) × ReadsBack m
 

@@ -11,10 +11,10 @@ use clif_read::{SimpleErr, read_simple};
 use ir_core::Module;
 use std::alloc::Global;
 
-/// The module that the bytes mean, where they are a simple text.
+/// The module that the bytes mean, where they are a simple text. Its canonical text reads back as the same module.
 pub(crate) fn read_module(alloc: Global, bytes: &[u8]) -> Result<Module, SimpleErr>
     ensures found { IfOk result (λ m. Reads bytes.now m) }
-    ensures back { IfOk result (λ m. ReadsBack m) }
+    ensures reads_back { IfOk result ReadsBack }
     ensures not_simple { IfErr result (λ e. e ≡ NotSimple → (m : ir.Module) → Reads bytes.now m → ⊥) }
 {
     let tokens = match tokens(alloc, bytes) {

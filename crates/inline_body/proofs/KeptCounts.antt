@@ -1,23 +1,21 @@
 -- How often a number stands in a list: at most once where all are different. The values of a splice are defined as often as
 -- they are declared.
-use Rattle.std.proofs.Common.{◌≡◌, ℕ, zero, suc, ◌≤◌, ◌<◌, ◌+◌, inl, inr, ◌⊎◌, List, [], ◌∷◌, ◌++◌, length, map, Option, Some, None, true, refl, sym, ap, ap₂, ◌∙◌, subst, arith, eq-eqb, ne_eqb}
+use Rattle.std.proofs.Common.{◌≡◌, ℕ, suc, ◌≤◌, ◌<◌, ◌+◌, inl, inr, ◌⊎◌, List, [], ◌∷◌, ◌++◌, length, map, Some, refl, sym, ap, ap₂, ◌∙◌, subst, arith, eq-eqb, ne_eqb}
 use Rattle.std.specs.Prelude.{slice_get, nat_eq, if◌then◌else◌}
 use Rattle.std.proofs.lemmas.Bool.{cases_eq}
 use Rattle.exn_tables.specs.declared.table.Entry.{Entry}
 use Rattle.ir_core.specs.declared.signatures.Ty.{Ty}
 use Rattle.ir_core.specs.declared.instructions.BlockCall.{BlockCall}
 use Rattle.ir_core.specs.Module.{Branches, Call, Instruction, Line, Block, Plain, Return, ReturnCall, SequencePoint, TryCall}
-use Rattle.ir_core.specs.Lookup.{In, Different, find_block, type_in, definitions, line_definitions, block_numbers}
+use Rattle.ir_core.specs.Lookup.{In, Different, type_in, definitions, line_definitions}
 use Rattle.ir_core.specs.Accepted.{types_of, each_some}
-use Rattle.ir_core.specs.Renaming.{Renaming, typed_under, line_under, block_under}
-use Rattle.ir_core.specs.Splice.{Kind, Last, Piece, Splicing, Tries, Within, after_blocks, body, caller_names, callee_names, cut_block, from, jump_in, kind_of, line_types, new_results, new_types, new_types_by, piece, piece_by, spliced_blocks, tries_piece, typed_results, with_type, within_piece}
-use Rattle.inline_body.proofs.Local.{Injective, some_same}
+use Rattle.ir_core.specs.Renaming.{Renaming, line_under, block_under}
+use Rattle.ir_core.specs.Splice.{Kind, Last, Piece, Splicing, Tries, Within, body, from, kind_of, line_types, new_results, new_types, new_types_by, piece, piece_by, tries_piece, typed_results, with_type, within_piece}
+use Rattle.inline_body.proofs.Local.{Injective}
 use Rattle.inline_body.proofs.Related.{Distinct}
-use Rattle.inline_body.proofs.Places.{find_hit, find_skip}
 use Rattle.inline_body.proofs.KeptLists.{map_in}
 use Rattle.inline_body.proofs.KeptRules.{map_append}
 use Rattle.inline_body.proofs.KeptTypes.{Apart}
-use Rattle.inline_body.proofs.Points.{EndsWell, IsTail, tail_stops}
 
 pub count : ℕ → List ℕ → ℕ
 count u [] = 0
@@ -141,12 +139,6 @@ empty [] h = refl
 empty (x ∷ xs) h = absurd (omega (arith, h))
 
 module _ (S : Splicing) (names : Distinct S.naming) (news : Apart S.naming) where
-  abbrev gv : ℕ → ℕ
-  gv = S.naming.callee_value
-
-  abbrev cv : ℕ → ℕ
-  cv = S.naming.caller_value
-
   pub result_values : (c i : ℕ) (vs : List ℕ) (ts : List Ty) → map (type_in S.caller.types) vs ≡ each_some ts → values (typed_results S c i vs) ≡ map (S.naming.new_value c) (from i (length vs))
   result_values c i [] ts h = refl
   result_values c i (v ∷ vs) [] h = cc

@@ -1,34 +1,29 @@
 -- A splice of whole and accepted functions is accepted, and so is the module with it.
-use Rattle.std.proofs.Common.{◌≡◌, ◌≢◌, ℕ, zero, suc, ◌≤◌, ◌<◌, ◌+◌, inl, inr, ◌⊎◌, List, [], ◌∷◌, ◌++◌, length, map, Option, Some, None, Bool, false, true, refl, sym, ap, ap₂, ◌∙◌, subst, subst₂, arith}
-use Rattle.std.specs.Prelude.{slice_get, IsSomeAnd, if◌then◌else◌}
-use Rattle.exn_tables.specs.declared.table.Entry.{Entry}
+use Rattle.std.proofs.Common.{◌≡◌, ◌≢◌, ℕ, zero, suc, ◌+◌, inl, inr, ◌⊎◌, List, [], ◌∷◌, ◌++◌, length, map, Option, Some, None, Bool, false, true, refl, sym, ap, ◌∙◌, subst, arith}
+use Rattle.std.specs.Prelude.{slice_get, if◌then◌else◌}
 use Rattle.ir_core.specs.declared.names.FuncName.{FuncName}
 use Rattle.ir_core.specs.declared.signatures.Sig.{Sig}
 use Rattle.ir_core.specs.declared.declarations.Callee.{Callee}
 use Rattle.ir_core.specs.declared.instructions.BlockCall.{BlockCall}
-use Rattle.ir_core.specs.declared.places.Item.{Item}
 use Rattle.ir_core.specs.declared.places.Item.TheVariants as item
-use Rattle.ir_core.specs.Module.{CallTarget, Function, Module, Branches, Call, Instruction, Line, Block, Plain, Return, ReturnCall, SequencePoint, TryCall}
-use Rattle.ir_core.specs.Lookup.{In, Each, Different, same_name, find_block, find_function, signature_of, block_numbers}
+use Rattle.ir_core.specs.Module.{Function, Module, Branches, Call, Instruction, Line, Block, Plain, Return, ReturnCall, SequencePoint, TryCall}
+use Rattle.ir_core.specs.Lookup.{In, Each, same_name, find_block, find_function, signature_of}
 use Rattle.ir_core.specs.Uses.{targets, table_targets}
-use Rattle.ir_core.specs.Accepted.{InstructionCounts, TargetCounts, CallCounts, types_of, FunctionAccepted, Accepted, Rule, no_terminator, entry_target, count_mismatch, type_mismatch, convention, signature_mismatch, slot_range, tag_place, not_available, Kept, KeptAtLine, KeptAtBlock, KeptAtCallee, IsFirst, EntryCounts, EntryTypes, Filled}
+use Rattle.ir_core.specs.Accepted.{InstructionCounts, TargetCounts, types_of, FunctionAccepted, Accepted, Rule, no_terminator, entry_target, count_mismatch, type_mismatch, convention, signature_mismatch, slot_range, tag_place, not_available, KeptAtLine, KeptAtBlock, KeptAtCallee, IsFirst}
 use Rattle.ir_core.specs.Whole.{Whole}
 use Rattle.ir_core.specs.Import.{with_item, with_items, sigs_after, callee_with, callees_with, callees_after, same_callee}
-use Rattle.ir_core.specs.Renaming.{block_under, line_under}
-use Rattle.ir_core.specs.Site.{Site}
-use Rattle.ir_core.specs.Splice.{Splicing, Within, caller_names, first_number, jump_in, kind_of, piece, replace, spliced}
+use Rattle.ir_core.specs.Renaming.{line_under}
+use Rattle.ir_core.specs.Splice.{Splicing, caller_names, first_number, jump_in, piece, replace, spliced}
 use Rattle.inline_body.proofs.Local.{some_same}
 use Rattle.inline_body.proofs.Places.{find_hit}
 use Rattle.inline_body.proofs.Merging.{own_sig, other_sig}
-use Rattle.inline_body.proofs.Functions.{cases_named, function_hit, function_skip, replaced, others_stay}
+use Rattle.inline_body.proofs.Functions.{cases_named, replaced, others_stay}
 use Rattle.ir_core.proofs.Equal.{equal_name}
 use Rattle.inline_body.proofs.KeptLists.{some_and, each_in, length_map, get_map, get_after}
-use Rattle.inline_body.proofs.Points.{From, from_is, to_ending, of_ending, piece_first, BlockOf, of_f, of_cut, of_g, of_after, block_of}
+use Rattle.inline_body.proofs.Points.{from_is, to_ending, of_ending, piece_first, BlockOf, of_f, of_cut, of_g, of_after, block_of}
 use Rattle.inline_body.proofs.KeptPaths.{Sound, LineFrom, known, site_get, site_goes}
 use Rattle.inline_body.proofs.KeptTraces.{out_first}
-use Rattle.inline_body.proofs.KeptTypes.{caller_typed}
-use Rattle.inline_body.proofs.KeptRules.{vals_typed}
-use Rattle.inline_body.proofs.KeptSite.{LineKept, rule_at}
+use Rattle.inline_body.proofs.KeptSite.{rule_at}
 use Rattle.inline_body.proofs.KeptLines.{Setting}
 use Rattle.inline_body.proofs.KeptSplice.{line_kept, entry_kept, f_vals}
 

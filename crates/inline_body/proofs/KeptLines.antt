@@ -1,6 +1,6 @@
 -- The lines of a splice keep the rules: lines under new numbers, jumps, and calls with the site's table.
-use Rattle.std.proofs.Common.{◌≡◌, ◌≢◌, ℕ, zero, suc, ◌≤◌, ◌<◌, ◌+◌, inl, inr, ◌⊎◌, List, [], ◌∷◌, ◌++◌, length, map, Option, Some, None, false, true, refl, sym, ap, ap₂, ◌∙◌, subst, arith}
-use Rattle.std.specs.Prelude.{slice_get, IsSomeAnd}
+use Rattle.std.proofs.Common.{◌≡◌, ℕ, zero, suc, ◌≤◌, ◌+◌, List, [], ◌∷◌, ◌++◌, length, map, Option, Some, None, refl, sym, ap, ap₂, ◌∙◌, subst, arith}
+use Rattle.std.specs.Prelude.{slice_get}
 use Rattle.exn_tables.specs.declared.table.Entry.{Entry}
 use Rattle.debug_tags.specs.declared.tags.Tag.{Tag}
 use Rattle.ir_core.specs.declared.signatures.Ty.{Ty}
@@ -11,24 +11,24 @@ use Rattle.ir_core.specs.declared.declarations.Callee.{Callee}
 use Rattle.ir_core.specs.declared.instructions.Arg.{Arg}
 use Rattle.ir_core.specs.declared.instructions.Arg.TheVariants as arg
 use Rattle.ir_core.specs.declared.instructions.BlockCall.{BlockCall}
-use Rattle.ir_core.specs.Module.{CallTarget, Direct, Indirect, Function, Module, Jump, Branches, Call, Instruction, Line, Block, Plain, Return, ReturnCall, SequencePoint, TryCall}
-use Rattle.ir_core.specs.Lookup.{and_then, In, Each, find_block, type_of, signature_of, param_types}
-use Rattle.ir_core.specs.Uses.{targets, table_targets, values_used, targets_used, called_used, arg_values_used}
+use Rattle.ir_core.specs.Module.{CallTarget, Direct, Indirect, Function, Module, Line, Block}
+use Rattle.ir_core.specs.Lookup.{and_then, Each, find_block, type_of, signature_of, param_types}
+use Rattle.ir_core.specs.Uses.{table_targets, values_used, targets_used, called_used, arg_values_used}
 use Rattle.ir_core.specs.Available.{Available}
-use Rattle.ir_core.specs.Accepted.{FunctionAccepted, InstructionCounts, InstructionTypes, InstructionConvention, InstructionTags, CallCounts, CallTypes, TargetCounts, ArgCounts, Below, TargetTypes, arg_type, HaveTypes, types_of, each_some}
+use Rattle.ir_core.specs.Accepted.{FunctionAccepted, InstructionTags, CallCounts, CallTypes, TargetCounts, ArgCounts, TargetTypes, arg_type, HaveTypes, types_of, each_some}
 use Rattle.ir_core.specs.Whole.{Whole}
 use Rattle.ir_core.specs.Import.{callees_after}
-use Rattle.ir_core.specs.Renaming.{Renaming, arg_under, target_under, entry_under, called_under, instruction_under}
+use Rattle.ir_core.specs.Renaming.{Renaming, entry_under, called_under, instruction_under}
 use Rattle.ir_core.specs.Site.{Site}
-use Rattle.ir_core.specs.Splice.{Kind, Last, Splicing, Tries, Within, callee_names, caller_names, from, jump_to, kind_of, named_sig, or_ret, returned_arg, spliced, to_normal, try_with}
+use Rattle.ir_core.specs.Splice.{Splicing, callee_names, caller_names, from, jump_to, kind_of, named_sig, or_ret, returned_arg, spliced, to_normal, try_with}
 use Rattle.inline_body.proofs.Local.{some_same}
 use Rattle.inline_body.proofs.Frames.{Embeds}
 use Rattle.inline_body.proofs.Related.{Distinct, RestF, RestG}
 use Rattle.inline_body.proofs.Linking.{embeds_f, embeds_g}
-use Rattle.inline_body.proofs.KeptLists.{some_and, and_some, each_map, each_append, each_in, in_each, map_in, length_map, table_under, table_append}
+use Rattle.inline_body.proofs.KeptLists.{some_and, and_some, each_map, each_append, length_map, table_under}
 use Rattle.inline_body.proofs.KeptPaths.{Sound}
 use Rattle.inline_body.proofs.KeptTypes.{Apart, caller_typed, callee_typed, types_from}
-use Rattle.inline_body.proofs.KeptRules.{Leaves, used_under, arg_used_under, targets_used_under, called_used_under, sig_under, vals_typed, have_under, target_counts, target_types, targets_counts, targets_types, call_counts, call_types, counts_under, types_under, convention_under, signature_under, slot_under}
+use Rattle.inline_body.proofs.KeptRules.{Leaves, used_under, targets_used_under, called_used_under, vals_typed, targets_counts, targets_types, call_counts, call_types, counts_under, types_under, convention_under, signature_under, slot_under}
 use Rattle.inline_body.proofs.KeptSite.{LineKept, each_split, table_counts, TriesFacts}
 
 -- a splice of whole and accepted functions
@@ -99,9 +99,6 @@ length_some : (ts : List Ty) → length (each_some ts) ≡ length ts
 length_some ts = length_map (λ t. Some t) ts
 
 module _ (m : Module) (S : Splicing) (E : Setting m S) where
-  abbrev Out : Function
-  Out = spliced S
-
   -- a jump with values to a block whose parameters have their types
   pub jump_kept : (b : ℕ) (vs : List ℕ) (k : Block) → find_block b (spliced S).blocks ≡ Some k → types_of (spliced S) vs ≡ types_of (spliced S) k.params → (x i : ℕ) → Each (Available (spliced S) x i) vs → LineKept (spliced S) x i (jump_to S (record { block = b; args = map arg.Value vs }))
   jump_kept b vs k found same x i av =
@@ -230,8 +227,8 @@ module _ (m : Module) (S : Splicing) (E : Setting m S) where
         let both = λ (z : Sig) (q : signature_of S.callee t ≡ Some z). let a : u.0 ≡ z = some_same (sym u.1 ∙ q) in let b : w.0 ≡ z = some_same (sym w.1 ∙ q) in go z q (subst C a u.2.1) (subst T b w.2.1) in
         let one = both u.0 u.1 in
         record {
-          counts = call_counts S.callee (spliced S) (callee_names S) (RestG S (kind_of S.site.inst)) eg g_typed t args C (λ z. (0 ≡ 0) × Each (TargetCounts (spliced S) (Some (length z.results))) (normal ∷ table_targets table)) (λ z q p. (refl, (both z q).counts)) counts;
-          types = call_types S.callee (spliced S) (callee_names S) (RestG S (kind_of S.site.inst)) eg g_typed li (try_with S li (called_under (callee_names S) t) sg args normal table) refl t args T (λ z. TargetTypes (spliced S) (param_types z.results) [] normal × Each (TargetTypes (spliced S) [] (I64 ∷ I64 ∷ [])) (table_targets table)) (λ z q p. ((both z q).normal_types, (both z q).table_types)) types;
+          counts = call_counts S.callee (spliced S) (callee_names S) (RestG S (kind_of S.site.inst)) eg g_typed t args C (λ z. (0 ≡ 0) × Each (TargetCounts (spliced S) (Some (length z.results))) (normal ∷ table_targets table)) (λ z q p. (refl {a = 0}, (both z q).counts)) counts;
+          types = call_types S.callee (spliced S) (callee_names S) (RestG S (kind_of S.site.inst)) eg g_typed li (try_with S li (called_under (callee_names S) t) sg args normal table) (refl {a = li.ty}) t args T (λ z. TargetTypes (spliced S) (param_types z.results) [] normal × Each (TargetTypes (spliced S) [] (I64 ∷ I64 ∷ [])) (table_targets table)) (λ z q p. ((both z q).normal_types, (both z q).table_types)) types;
           convention = tt;
           signature = named;
           slots = tt;

@@ -1,5 +1,5 @@
 -- A splice of whole functions is whole, and the module with it is one again.
-use Rattle.std.proofs.Common.{◌≡◌, ◌≢◌, ℕ, zero, suc, ◌≤◌, ◌<◌, ◌+◌, inl, inr, ◌⊎◌, List, [], ◌∷◌, ◌++◌, length, map, Option, Some, None, Bool, false, true, refl, sym, ap, ap₂, ◌∙◌, subst, arith}
+use Rattle.std.proofs.Common.{◌≡◌, ℕ, zero, suc, ◌<◌, inl, inr, List, [], ◌∷◌, ◌++◌, length, map, Some, Bool, false, true, refl, sym, ap, ◌∙◌, subst, arith}
 use Rattle.std.specs.Prelude.{slice_get, if◌then◌else◌}
 use Rattle.std.proofs.lemmas.Bool.{cases_eq}
 use Rattle.ir_core.specs.declared.names.FuncName.{FuncName}
@@ -9,34 +9,33 @@ use Rattle.debug_tags.specs.declared.tags.Tag.TheVariants as tag
 use Rattle.ir_core.specs.declared.signatures.Ty.{Ty}
 use Rattle.ir_core.specs.declared.declarations.Callee.{Callee}
 use Rattle.ir_core.specs.declared.instructions.BlockCall.{BlockCall}
-use Rattle.ir_core.specs.Module.{Simple, Nop, Const, Pure, PureImm, Load, Store, StackLoad, StackStore, FuncAddr, Trap, Trapz, Trapnz, CallTarget, Direct, Indirect, Function, Module, Branches, Call, Instruction, Line, Block, Plain, Return, ReturnCall, SequencePoint, TryCall}
+use Rattle.ir_core.specs.Module.{Nop, Const, Pure, PureImm, Load, Store, StackLoad, StackStore, FuncAddr, Trap, Trapz, Trapnz, CallTarget, Direct, Indirect, Function, Module, Branches, Call, Instruction, Line, Block, Plain, Return, ReturnCall, SequencePoint, TryCall}
 use Rattle.ir_core.specs.Lookup.{In, Each, Different, same_name, find_block, find_function, type_of, block_numbers, definitions}
 use Rattle.ir_core.specs.Uses.{values_used, called_callees, slots_shown, callees_used}
 use Rattle.ir_core.specs.Whole.{Whole, LineWhole, BlockWhole, DifferentNames, IsModule, declared}
 use Rattle.ir_core.specs.Accepted.{Accepted}
 use Rattle.ir_core.specs.Import.{sigs_after, callee_with, callees_with, callees_after, same_callee}
-use Rattle.ir_core.specs.Renaming.{Renaming, called_under, instruction_under, simple_under, tag_under}
+use Rattle.ir_core.specs.Renaming.{Renaming, called_under, instruction_under, tag_under}
 use Rattle.ir_core.specs.Site.{Site}
 use Rattle.ir_core.specs.Splice.{Kind, Last, Splicing, Tries, Within, callee_line, callee_names, caller_names, joined_tags, kind_of, replace, sides, spliced, tags_before}
 use Rattle.ir_core.specs.Kept.{SpliceAccepted}
 use Rattle.inline_body.proofs.Local.{some_same, Fits}
-use Rattle.inline_body.proofs.Frames.{Embeds}
-use Rattle.inline_body.proofs.Related.{Distinct, RestF, RestG}
+use Rattle.inline_body.proofs.Related.{Distinct}
 use Rattle.inline_body.proofs.Linking.{embeds_f, embeds_g, get_below, distinct_sides}
 use Rattle.inline_body.proofs.Places.{find_hit, find_skip}
 use Rattle.inline_body.proofs.Merging.{own_sig, other_sig}
 use Rattle.inline_body.proofs.Functions.{cases_named, others_stay, function_hit, function_skip}
 use Rattle.ir_core.proofs.Equal.{name_equal, equal_name}
-use Rattle.inline_body.proofs.KeptLists.{each_in, in_each, each_map, each_append}
+use Rattle.inline_body.proofs.KeptLists.{each_in, in_each, each_map}
 use Rattle.inline_body.proofs.Points.{Trans}
 use Rattle.inline_body.proofs.KeptPaths.{LineFrom, pf, pj, pg, px, known, site_get}
 use Rattle.inline_body.proofs.KeptTraces.{out_first}
 use Rattle.inline_body.proofs.KeptTypes.{Apart, apart_sides}
-use Rattle.inline_body.proofs.KeptSite.{LineKept, declared_type, param_defined}
+use Rattle.inline_body.proofs.KeptSite.{declared_type, param_defined}
 use Rattle.inline_body.proofs.KeptLines.{Setting}
 use Rattle.inline_body.proofs.KeptSplice.{line_kept}
 use Rattle.inline_body.proofs.KeptFunctions.{sound, in_get, get_in, in_items, in_with, in_replace, module_accepted}
-use Rattle.inline_body.proofs.KeptCounts.{count, count_in, in_count, count_different}
+use Rattle.inline_body.proofs.KeptCounts.{count_in, in_count, count_different}
 use Rattle.inline_body.proofs.KeptValues.{out_counts, declared_once}
 use Rattle.inline_body.proofs.KeptWhole.{HasType, typed_declared, used_typed, used_blocks, used_slots, used_sigs}
 use Rattle.inline_body.proofs.Unique.{in_find, out_different}

@@ -1,24 +1,20 @@
 -- Where the lines of a splice come from, and what its paths have passed.
-use Rattle.std.proofs.Common.{◌≡◌, ℕ, zero, suc, ◌+◌, ◌<◌, ◌⊎◌, inl, inr, List, [], ◌∷◌, ◌++◌, length, map, Option, Some, None, Bool, true, false, refl, sym, ap, ap₂, ◌∙◌, subst, subst₂, arith, eq-eqb, ne_eqb}
-use Rattle.std.specs.Prelude.{slice_get, if◌then◌else◌}
-use Rattle.std.proofs.lemmas.Bool.{cases_eq}
+use Rattle.std.proofs.Common.{◌≡◌, ℕ, suc, ◌+◌, ◌⊎◌, inl, inr, List, ◌∷◌, length, map, Option, Some, None, true, false, refl, sym, ap, ap₂, ◌∙◌, subst, arith}
+use Rattle.std.specs.Prelude.{slice_get}
 use Rattle.exn_tables.specs.declared.table.Entry.{Entry}
-use Rattle.ir_core.specs.declared.instructions.Arg.TheVariants as arg
 use Rattle.ir_core.specs.declared.instructions.BlockCall.{BlockCall}
 use Rattle.ir_core.specs.Module.{Module, Function, Branches, Call, Instruction, Line, Block, Plain, Return, ReturnCall, SequencePoint, TryCall}
 use Rattle.ir_core.specs.Lookup.{In, find_block, block_numbers, Different}
 use Rattle.ir_core.specs.Uses.{targets, table_targets}
-use Rattle.ir_core.specs.Available.{terminates, Reach, begin, next, branch, Available}
-use Rattle.ir_core.specs.Renaming.{Renaming, called_under, entry_under, instruction_under, line_under, block_under, target_under}
-use Rattle.ir_core.specs.Splice.{Kind, Last, Piece, Splicing, Tries, Within, after_block, after_blocks, body, callee_line, callee_names, caller_names, cut_block, first_number, from, jump_in, kind_of, new_results, piece, spliced, spliced_blocks, to_after}
+use Rattle.ir_core.specs.Available.{terminates, Reach, begin, next, branch}
+use Rattle.ir_core.specs.Renaming.{Renaming, entry_under, line_under, target_under}
+use Rattle.ir_core.specs.Splice.{Kind, Last, Splicing, Tries, Within, callee_line, callee_names, caller_names, from, jump_in, kind_of, new_results, piece, spliced, to_after}
 use Rattle.ir_core.specs.Site.{Site, callee_of}
-use Rattle.inline_body.proofs.Local.{some_same}
 use Rattle.inline_body.proofs.Related.{Distinct, RestF, RestG}
 use Rattle.inline_body.proofs.Frames.{Embeds}
-use Rattle.inline_body.proofs.Places.{find_hit}
-use Rattle.inline_body.proofs.Linking.{embeds_f, embeds_g, after_is}
-use Rattle.inline_body.proofs.KeptLists.{map_in, in_split, in_front, in_map, Sub, sub_front, sub_more, sub_only, table_under, table_append, target_from, map_get, get_map, none_map, Cut_get, before, last, cut_get, get_after, get_site, get_before}
-use Rattle.inline_body.proofs.Points.{From, from_line, from_is, Goes, Stops, ends_under, Ending, EndsWell, IsTail, tail_stops, not_both, Trans, piece_line, NewOf, GBlock, BlockOf, of_f, of_cut, of_g, of_after, block_of}
+use Rattle.inline_body.proofs.Linking.{embeds_f, embeds_g}
+use Rattle.inline_body.proofs.KeptLists.{map_in, in_split, table_under, table_append, target_from, map_get, get_map, none_map, Cut_get, before, last, cut_get, get_after, get_site, get_before}
+use Rattle.inline_body.proofs.Points.{From, from_line, from_is, Goes, ends_under, Ending, EndsWell, IsTail, Trans, piece_line, NewOf, GBlock, BlockOf, of_f, of_cut, of_g, of_after, block_of}
 
 -- what paths need of a function
 pub record Sound (h : Function) : Type 0 where

@@ -1,13 +1,11 @@
 -- What a line keeps under other numbers, in a function that has the parts of its function under them: counts, types,
 -- conventions, signatures, slots and the values that it uses.
-use Rattle.std.proofs.Common.{◌≡◌, ℕ, zero, suc, ◌<◌, List, [], ◌∷◌, ◌++◌, length, map, Option, Some, None, false, true, refl, sym, ap, ap₂, ◌∙◌, subst}
+use Rattle.std.proofs.Common.{◌≡◌, ℕ, zero, suc, List, [], ◌∷◌, ◌++◌, length, map, Option, Some, None, false, true, refl, sym, ap, ap₂, ◌∙◌, subst}
 use Rattle.std.specs.Prelude.{slice_get, IsSomeAnd, IsSome, IsTrue, ℤ}
 use Rattle.clk_num.specs.declared.width.Width.{Width}
 use Rattle.clk_num.specs.declared.op.Op.{Op}
 use Rattle.clk_num.specs.declared.op.Op.TheVariants as op
 use Rattle.clk_num.specs.Rows.{row}
-use Rattle.exn_tables.specs.declared.table.Entry.{Entry}
-use Rattle.debug_tags.specs.declared.tags.Tag.{Tag}
 use Rattle.ir_core.specs.declared.signatures.Ty.{Ty}
 use Rattle.ir_core.specs.declared.signatures.Ty.TheVariants.{I64}
 use Rattle.ir_core.specs.declared.signatures.Sig.{Sig}
@@ -17,13 +15,12 @@ use Rattle.ir_core.specs.declared.declarations.SlotDecl.{SlotDecl}
 use Rattle.ir_core.specs.declared.instructions.Arg.{Arg}
 use Rattle.ir_core.specs.declared.instructions.Arg.TheVariants as arg
 use Rattle.ir_core.specs.declared.instructions.BlockCall.{BlockCall}
-use Rattle.ir_core.specs.Module.{Simple, Nop, Const, Pure, PureImm, Load, Store, StackLoad, StackStore, FuncAddr, Trap, Trapz, Trapnz, Branch, Jump, Brif, BrTable, CallTarget, Direct, Indirect, Function, Branches, Call, Instruction, Line, Block, Plain, Return, ReturnCall, SequencePoint, TryCall}
-use Rattle.ir_core.specs.Lookup.{and_then, In, Each, find_block, type_of, signature_of, signature_number, param_types, width_of, ty_of}
-use Rattle.ir_core.specs.Values.{all_of, cons_some, slot_place, place_in, bytes_in}
-use Rattle.ir_core.specs.Uses.{targets, table_targets, branch_targets, values_used, operands, simple_used, branch_used, called_used, targets_used, arg_values_used}
-use Rattle.ir_core.specs.Renaming.{Renaming, arg_under, target_under, simple_under, branch_under, called_under, entry_under, instruction_under, tag_under}
-use Rattle.ir_core.specs.Accepted.{TargetCounts, ArgCounts, Below, CallCounts, InstructionCounts, simple_results, types_of, each_some, HaveTypes, TargetTypes, arg_type, controlling, type_at, width_at, widths_of_values, OpTypes, SimpleTypes, BranchTypes, CalledTypes, CallTypes, InstructionTypes, InstructionConvention, InstructionSignature, SimpleSlot, InstructionSlot, access_type, store_form}
-use Rattle.inline_body.proofs.Local.{some_same}
+use Rattle.ir_core.specs.Module.{Simple, Nop, Const, Pure, PureImm, Load, Store, StackLoad, StackStore, FuncAddr, Trap, Trapz, Trapnz, Branch, Jump, Brif, BrTable, CallTarget, Direct, Indirect, Function, Branches, Call, Instruction, Line, Plain, Return, ReturnCall, SequencePoint, TryCall}
+use Rattle.ir_core.specs.Lookup.{and_then, Each, find_block, type_of, signature_of, param_types, width_of, ty_of}
+use Rattle.ir_core.specs.Values.{cons_some, slot_place, place_in, bytes_in}
+use Rattle.ir_core.specs.Uses.{targets, table_targets, values_used, operands, simple_used, called_used, targets_used, arg_values_used}
+use Rattle.ir_core.specs.Renaming.{Renaming, arg_under, target_under, simple_under, branch_under, called_under, entry_under, instruction_under}
+use Rattle.ir_core.specs.Accepted.{TargetCounts, ArgCounts, CallCounts, InstructionCounts, simple_results, types_of, each_some, HaveTypes, TargetTypes, arg_type, controlling, type_at, widths_of_values, OpTypes, SimpleTypes, BranchTypes, CalledTypes, CallTypes, InstructionTypes, InstructionConvention, InstructionSignature, SimpleSlot, InstructionSlot, access_type, store_form}
 use Rattle.inline_body.proofs.Frames.{Embeds}
 use Rattle.inline_body.proofs.KeptLists.{some_and, and_some, each_map, length_map, table_under, targets_under}
 
@@ -71,7 +68,7 @@ pub called_used_under : (r : Renaming) (t : CallTarget) (args : List ℕ) → ca
 called_used_under r (Direct k) args = refl
 called_used_under r (Indirect s a) args = refl
 
-operands_under : (r : Renaming) (i : Instruction) → operands (instruction_under r i) ≡ map r.value (operands i)
+pub operands_under : (r : Renaming) (i : Instruction) → operands (instruction_under r i) ≡ map r.value (operands i)
 operands_under r (Plain p) = simple_used_under r p
 operands_under r (Branches (Jump t)) = refl
 operands_under r (Branches (Brif v t u)) = refl

@@ -1,8 +1,8 @@
 -- What acceptance says of a site and of its callee.
-use Rattle.std.proofs.Common.{◌≡◌, ◌≢◌, ℕ, zero, suc, ◌≤◌, ◌+◌, List, [], ◌∷◌, ◌++◌, length, map, Option, Some, None, false, refl, sym, ap, ap₂, ◌∙◌, subst, arith}
-use Rattle.std.specs.Prelude.{slice_get, IsSomeAnd, ◌<◌, if◌then◌else◌}
+use Rattle.std.proofs.Common.{◌≡◌, ℕ, List, [], ◌∷◌, ◌++◌, length, map, Option, Some, None, false, refl, sym, ap, ◌∙◌, subst}
+use Rattle.std.specs.Prelude.{slice_get, IsSomeAnd}
 use Rattle.std.specs.List.{list_any}
-use Rattle.std.proofs.Common.{inl, inr, ◌⊎◌}
+use Rattle.std.proofs.Common.{inl, inr}
 use Rattle.std.proofs.lemmas.Bool.{cases_eq}
 use Rattle.debug_tags.specs.Tags.{is_slot}
 use Rattle.exn_tables.specs.declared.table.Entry.{Entry}
@@ -10,23 +10,21 @@ use Rattle.ir_core.specs.declared.signatures.Ty.{Ty}
 use Rattle.ir_core.specs.declared.signatures.Ty.TheVariants.{I64}
 use Rattle.ir_core.specs.declared.signatures.Sig.{Sig}
 use Rattle.ir_core.specs.declared.signatures.Conv.TheVariants.{Tail}
-use Rattle.ir_core.specs.declared.declarations.Callee.{Callee}
 use Rattle.ir_core.specs.declared.instructions.Arg.{Arg}
 use Rattle.ir_core.specs.declared.instructions.Arg.TheVariants as arg
 use Rattle.ir_core.specs.declared.instructions.BlockCall.{BlockCall}
 use Rattle.ir_core.specs.declared.places.Item.TheVariants as item
-use Rattle.ir_core.specs.declared.places.Point.{Point}
 use Rattle.ir_core.specs.Module.{CallTarget, Direct, Indirect, Function, Module, Branches, Call, Instruction, Line, Block, Plain, Return, ReturnCall, SequencePoint, TryCall}
-use Rattle.ir_core.specs.Lookup.{and_then, In, Each, find_block, find_function, type_in, type_of, signature_of, param_types, definitions, line_definitions}
-use Rattle.ir_core.specs.Uses.{targets, table_targets, values_used, operands, targets_used, called_used}
+use Rattle.ir_core.specs.Lookup.{and_then, In, Each, find_block, type_in, type_of, signature_of, param_types, definitions, line_definitions}
+use Rattle.ir_core.specs.Uses.{table_targets, values_used, targets_used, called_used}
 use Rattle.ir_core.specs.Available.{Available}
-use Rattle.ir_core.specs.Accepted.{FunctionAccepted, Rule, no_terminator, entry_target, count_mismatch, type_mismatch, convention, signature_mismatch, slot_range, tag_place, not_available, KeptAtLine, Counts, Types, Convention, Signature, SlotRange, TagPlace, UsesAvailable, Declared, InstructionCounts, InstructionTypes, InstructionConvention, InstructionTags, CallCounts, TargetCounts, ArgCounts, TargetTypes, arg_type, HaveTypes, types_of}
-use Rattle.ir_core.specs.Whole.{Whole, declared}
+use Rattle.ir_core.specs.Accepted.{FunctionAccepted, Rule, count_mismatch, type_mismatch, convention, signature_mismatch, slot_range, tag_place, not_available, KeptAtLine, Counts, Types, Convention, Signature, SlotRange, TagPlace, UsesAvailable, InstructionCounts, InstructionTypes, InstructionConvention, InstructionTags, TargetCounts, ArgCounts, TargetTypes, arg_type, HaveTypes, types_of}
+use Rattle.ir_core.specs.Whole.{Whole}
 use Rattle.ir_core.specs.Site.{Site, callee_of, named_callee}
 use Rattle.ir_core.specs.Splice.{Kind, Last, Splicing, Tries, Within, args_of, kind_of}
 use Rattle.inline_body.proofs.Local.{some_same}
 use Rattle.inline_body.proofs.Places.{find_hit, find_skip}
-use Rattle.inline_body.proofs.KeptLists.{some_and, and_some, each_in, in_each, in_front, in_back, get_site}
+use Rattle.inline_body.proofs.KeptLists.{some_and, in_front, in_back, get_site}
 use Rattle.inline_body.proofs.KeptTypes.{type_hit, type_skip}
 
 -- the rules of a line, but for its place in its block and its targets
@@ -132,9 +130,6 @@ module _ (m : Module) (S : Splicing) (site : Site m S) (fa : FunctionAccepted m 
   pub args_available : Each (Available S.caller S.at (length S.before)) (args_of S.site.inst)
   args_available = by S.site.inst site.is_call site_kept.available
     where
-      A : ℕ → Type 0
-      A = Available S.caller S.at (length S.before)
-
       by : (i : Instruction) → callee_of i ≡ Some site.callee → Each (Available S.caller S.at (length S.before)) (values_used i) → Each (Available S.caller S.at (length S.before)) (args_of i)
       by (Call t args) q h = (each_split (Available S.caller S.at (length S.before)) (called_used t) args (each_split (Available S.caller S.at (length S.before)) (called_used t ++ args) [] h).0).1
       by (ReturnCall t args) q h = (each_split (Available S.caller S.at (length S.before)) (called_used t) args (each_split (Available S.caller S.at (length S.before)) (called_used t ++ args) [] h).0).1

@@ -1,5 +1,5 @@
 -- Every line of a splice keeps the rules, by the line of the source that it comes from.
-use Rattle.std.proofs.Common.{◌≡◌, ◌≢◌, ℕ, zero, suc, ◌≤◌, ◌<◌, ◌+◌, inl, inr, ◌⊎◌, List, [], ◌∷◌, ◌++◌, length, map, Option, Some, None, Bool, false, true, ◌||◌, refl, sym, ap, ap₂, ◌∙◌, subst, subst₂, arith}
+use Rattle.std.proofs.Common.{◌≡◌, ◌≢◌, ℕ, zero, suc, ◌+◌, inl, inr, List, [], ◌∷◌, ◌++◌, length, map, Some, false, ◌||◌, refl, sym, ap, ap₂, ◌∙◌, subst, arith}
 use Rattle.std.specs.Prelude.{slice_get, IsSomeAnd}
 use Rattle.std.specs.List.{list_any}
 use Rattle.std.proofs.lemmas.List.Folds.{list_any-append}
@@ -13,15 +13,14 @@ use Rattle.ir_core.specs.declared.signatures.Sig.{Sig}
 use Rattle.ir_core.specs.declared.instructions.Arg.TheVariants as arg
 use Rattle.ir_core.specs.declared.instructions.BlockCall.{BlockCall}
 use Rattle.ir_core.specs.declared.places.Item.TheVariants as item
-use Rattle.ir_core.specs.Module.{CallTarget, Function, Module, Branches, Call, Instruction, Line, Block, Plain, Return, ReturnCall, SequencePoint, TryCall}
+use Rattle.ir_core.specs.Module.{CallTarget, Module, Branches, Call, Instruction, Line, Block, Plain, Return, ReturnCall, SequencePoint, TryCall}
 use Rattle.ir_core.specs.Lookup.{In, Each, find_block, type_of, signature_of, param_types}
 use Rattle.ir_core.specs.Uses.{targets, table_targets, values_used, targets_used, called_used, arg_values_used}
 use Rattle.ir_core.specs.Available.{Available}
 use Rattle.ir_core.specs.Accepted.{InstructionCounts, InstructionTypes, InstructionSignature, InstructionTags, TargetCounts, TargetTypes, HaveTypes, types_of, each_some, type_mismatch, EntryTypes, EntryIsNoTarget, entry_target}
 use Rattle.ir_core.specs.Import.{sig_after}
-use Rattle.ir_core.specs.Renaming.{Renaming, entry_under, called_under, instruction_under, line_under, tag_under, target_under}
-use Rattle.ir_core.specs.Site.{Site}
-use Rattle.ir_core.specs.Splice.{Kind, Last, Piece, Splicing, Tries, Within, after_block, args_of, callee_line, callee_names, caller_names, first_number, from, joined_tags, jump_in, kind_of, line_with, named_sig, new_results, piece, piece_by, spliced, tags_before, to_after, to_normal, tries_piece}
+use Rattle.ir_core.specs.Renaming.{Renaming, entry_under, called_under, instruction_under, tag_under, target_under}
+use Rattle.ir_core.specs.Splice.{Kind, Last, Splicing, Tries, Within, after_block, args_of, callee_line, callee_names, caller_names, first_number, from, joined_tags, kind_of, line_with, named_sig, new_results, piece, piece_by, spliced, tags_before, to_normal, tries_piece}
 use Rattle.inline_body.proofs.Local.{some_same}
 use Rattle.inline_body.proofs.Frames.{Embeds}
 use Rattle.inline_body.proofs.Related.{RestF, RestG}
@@ -29,12 +28,12 @@ use Rattle.inline_body.proofs.Places.{find_hit, by_same, found_name, new_found}
 use Rattle.inline_body.proofs.Linking.{embeds_f, embeds_g, after_is, in_out}
 use Rattle.inline_body.proofs.Points.{IsTail, Trans}
 use Rattle.inline_body.proofs.KeptLists.{some_and, each_map, each_append, each_in, in_each, length_map, table_under, table_append, target_from}
-use Rattle.inline_body.proofs.KeptPaths.{SpotF, SpotG, LineFrom, pf, pj, pg, px, GTarget, into_g, into_f, into_after, into_rest, g_target, site_get}
+use Rattle.inline_body.proofs.KeptPaths.{SpotG, LineFrom, pf, pj, pg, px, GTarget, into_g, into_f, into_after, into_rest, g_target, site_get}
 use Rattle.inline_body.proofs.KeptTraces.{av_f, av_g, av_site, av_new, rest_params, out_first}
 use Rattle.inline_body.proofs.KeptTypes.{caller_typed, callee_typed, results_typed}
 use Rattle.inline_body.proofs.KeptRules.{Leaves, sig_under, vals_typed, call_counts, call_types, called_used_under, signature_under, target_counts, target_types, targets_counts, targets_types, arg_used_under, targets_used_under}
-use Rattle.inline_body.proofs.KeptSite.{LineKept, line_kept_at, rule_at, each_split, args_typed_at, args_available, LastFacts, TriesFacts, Facts, facts}
-use Rattle.inline_body.proofs.KeptLines.{Setting, SameLeaving, under_kept, jump_kept, normal_kept, named_same, TargetsKept, try_kept, site_table, rets_kept}
+use Rattle.inline_body.proofs.KeptSite.{LineKept, line_kept_at, rule_at, each_split, args_typed_at, args_available, TriesFacts, Facts, facts}
+use Rattle.inline_body.proofs.KeptLines.{Setting, SameLeaving, under_kept, jump_kept, normal_kept, named_same, try_kept, site_table, rets_kept}
 
 -- ---- tags
 

@@ -1,15 +1,15 @@
 -- What a path of a splice has passed: a path of the caller, or one of the caller to the site and one of the callee.
-use Rattle.std.proofs.Common.{◌≡◌, ℕ, zero, suc, ◌+◌, ◌⊎◌, inl, inr, List, [], ◌∷◌, ◌++◌, length, map, Some, None, Bool, true, false, refl, sym, ap, ap₂, ◌∙◌, subst, subst₂, arith, eq-eqb, ne_eqb}
+use Rattle.std.proofs.Common.{◌≡◌, ℕ, suc, ◌+◌, inl, inr, List, ◌∷◌, ◌++◌, length, map, Some, None, refl, sym, ap, ap₂, ◌∙◌, subst, subst₂, arith, eq-eqb, ne_eqb}
 use Rattle.std.specs.Prelude.{slice_get, if◌then◌else◌}
 use Rattle.std.proofs.lemmas.Bool.{cases_eq}
 use Rattle.exn_tables.specs.declared.table.Entry.{Entry}
 use Rattle.ir_core.specs.declared.instructions.BlockCall.{BlockCall}
-use Rattle.ir_core.specs.Module.{Module, Function, Branches, Call, Instruction, Line, Block, Plain, Return, ReturnCall, SequencePoint, TryCall}
+use Rattle.ir_core.specs.Module.{Module, Branches, Call, Instruction, Line, Block, Plain, Return, ReturnCall, SequencePoint, TryCall}
 use Rattle.ir_core.specs.Lookup.{In, find_block}
 use Rattle.ir_core.specs.Uses.{targets}
 use Rattle.ir_core.specs.Available.{terminates, Reach, begin, next, branch, Available}
-use Rattle.ir_core.specs.Renaming.{line_under, block_under}
-use Rattle.ir_core.specs.Splice.{Kind, Last, Splicing, Tries, Within, after_block, after_blocks, body, callee_line, callee_names, caller_names, cut_block, first_number, jump_in, kind_of, new_results, spliced, spliced_blocks, to_after}
+use Rattle.ir_core.specs.Renaming.{block_under}
+use Rattle.ir_core.specs.Splice.{Kind, Last, Splicing, Tries, Within, after_block, after_blocks, body, callee_line, callee_names, caller_names, cut_block, first_number, kind_of, new_results, spliced, spliced_blocks}
 use Rattle.ir_core.specs.Site.{Site}
 use Rattle.inline_body.proofs.Local.{some_same}
 use Rattle.inline_body.proofs.Related.{Distinct}

@@ -1,9 +1,9 @@
 -- The types of a splice: values of both functions keep theirs, and new results have those of the site's results.
-use Rattle.std.proofs.Common.{◌≡◌, ℕ, zero, suc, ◌+◌, ◌⊎◌, inl, inr, List, [], ◌∷◌, ◌++◌, length, map, Option, Some, None, refl, sym, ap, ap₂, ◌∙◌, subst, arith, eq-eqb, ne_eqb}
+use Rattle.std.proofs.Common.{◌≡◌, ℕ, zero, suc, ◌+◌, inl, inr, List, [], ◌∷◌, ◌++◌, length, map, Option, Some, None, refl, sym, ap, ap₂, ◌∙◌, subst, arith, eq-eqb, ne_eqb}
 use Rattle.std.specs.Prelude.{slice_get, if◌then◌else◌}
 use Rattle.std.proofs.lemmas.Bool.{cases_eq}
 use Rattle.ir_core.specs.declared.signatures.Ty.{Ty}
-use Rattle.ir_core.specs.Module.{Module, Function, Branches, Call, Instruction, Line, Block, Plain, Return, ReturnCall, SequencePoint, TryCall}
+use Rattle.ir_core.specs.Module.{Branches, Call, Instruction, Line, Block, Plain, Return, ReturnCall, SequencePoint, TryCall}
 use Rattle.ir_core.specs.Lookup.{find_block, type_in, type_of}
 use Rattle.ir_core.specs.Accepted.{types_of, each_some}
 use Rattle.ir_core.specs.Renaming.{Renaming, typed_under}
@@ -23,9 +23,6 @@ pub apart_sides : Apart sides
 apart_sides = record { callee_new = λ a c i q. omega (arith, q); new_value = λ c i b j q. let e : pair c i ≡ pair b j = omega (arith, q) in pair_same c i b j e }
 
 -- ---- types in lists
-
-abbrev Typed : Type 0
-Typed = List (ℕ × Ty)
 
 pub type_hit : (x : ℕ × Ty) (xs : List (ℕ × Ty)) (v : ℕ) → x.0 ≡ v → type_in (x ∷ xs) v ≡ Some x.1
 type_hit x xs v h = ap (λ c. if c then Some x.1 else type_in xs v) (eq-eqb x.0 v h)
@@ -65,7 +62,7 @@ pub type_off : (r : Renaming) (u : ℕ) → ((v : ℕ) → r.value v ≡ u → �
 type_off r u off [] = refl
 type_off r u off (x ∷ xs) = type_skip (typed_under r x) (map (typed_under r) xs) u (off x.0) ∙ type_off r u off xs
 
-with_off : (v u : ℕ) → (v ≡ u → ⊥) → (o : Option Ty) → type_in (with_type v o) u ≡ None
+pub with_off : (v u : ℕ) → (v ≡ u → ⊥) → (o : Option Ty) → type_in (with_type v o) u ≡ None
 with_off v u off None = refl
 with_off v u off (Some t) = type_skip (v, t) [] u off
 

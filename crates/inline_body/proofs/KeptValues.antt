@@ -1,27 +1,26 @@
 -- Each value of a splice is declared once and defined once.
-use Rattle.std.proofs.Common.{◌≡◌, ℕ, zero, suc, ◌≤◌, ◌<◌, ◌+◌, inl, inr, ◌⊎◌, List, [], ◌∷◌, ◌++◌, length, map, Option, Some, None, refl, sym, ap, ap₂, ◌∙◌, subst, arith, eq-eqb, ne_eqb}
-use Rattle.std.specs.Prelude.{slice_get, nat_eq, if◌then◌else◌}
-use Rattle.std.proofs.lemmas.Bool.{cases_eq, cases_lt}
+use Rattle.std.proofs.Common.{◌≡◌, ℕ, zero, suc, ◌≤◌, ◌<◌, ◌+◌, inl, inr, ◌⊎◌, List, [], ◌∷◌, ◌++◌, length, map, Some, refl, sym, ap, ◌∙◌, subst, arith, eq-eqb, ne_eqb}
+use Rattle.std.specs.Prelude.{slice_get, if◌then◌else◌}
+use Rattle.std.proofs.lemmas.Bool.{cases_eq}
 use Rattle.exn_tables.specs.declared.table.Entry.{Entry}
 use Rattle.ir_core.specs.declared.signatures.Ty.{Ty}
-use Rattle.ir_core.specs.declared.signatures.Sig.{Sig}
 use Rattle.ir_core.specs.declared.instructions.BlockCall.{BlockCall}
 use Rattle.ir_core.specs.Module.{Module, Function, Branches, Call, Instruction, Line, Block, Plain, Return, ReturnCall, SequencePoint, TryCall}
 use Rattle.ir_core.specs.Lookup.{In, Each, Different, find_block, signature_of, param_types, definitions, line_definitions, block_numbers}
 use Rattle.ir_core.specs.Uses.{table_targets}
-use Rattle.ir_core.specs.Accepted.{InstructionCounts, TargetCounts, FunctionAccepted, count_mismatch, types_of, each_some}
+use Rattle.ir_core.specs.Accepted.{InstructionCounts, TargetCounts, count_mismatch, types_of, each_some}
 use Rattle.ir_core.specs.Whole.{Whole, declared}
 use Rattle.ir_core.specs.Renaming.{Renaming, typed_under, line_under, block_under}
-use Rattle.ir_core.specs.Splice.{Kind, Last, Splicing, Tries, Within, after_block, after_blocks, body, caller_names, callee_names, cut_block, from, jump_in, kind_of, line_types, new_results, new_types, new_types_by, spliced, spliced_blocks, typed_results}
-use Rattle.inline_body.proofs.Local.{Injective, some_same}
+use Rattle.ir_core.specs.Splice.{Kind, Last, Splicing, Tries, Within, after_blocks, body, caller_names, callee_names, cut_block, from, jump_in, kind_of, line_types, new_types, new_types_by, spliced, spliced_blocks, typed_results}
+use Rattle.inline_body.proofs.Local.{some_same}
 use Rattle.inline_body.proofs.Places.{find_hit, find_skip}
-use Rattle.inline_body.proofs.KeptLists.{some_and, map_in, get_after, get_site}
+use Rattle.inline_body.proofs.KeptLists.{some_and, get_after}
 use Rattle.inline_body.proofs.KeptRules.{map_append}
-use Rattle.inline_body.proofs.KeptPaths.{Sound, site_get}
-use Rattle.inline_body.proofs.KeptSite.{rule_at, facts, TriesFacts, LastFacts}
+use Rattle.inline_body.proofs.KeptPaths.{site_get}
+use Rattle.inline_body.proofs.KeptSite.{rule_at, facts}
 use Rattle.inline_body.proofs.KeptLines.{Setting}
 use Rattle.inline_body.proofs.KeptCounts.{count, count_none, count_hit, count_skip, count_append, count_in, none_or_in, different_count, count_map, none_or_map, once_map, same_map, definitions_append, lines_append, lines_under, blocks_under, values, NoResults, empty, result_values, body_given}
-use Rattle.inline_body.proofs.Points.{EndsWell, Ending, none_first, IsTail, tail_stops, Stops}
+use Rattle.inline_body.proofs.Points.{EndsWell, none_first, IsTail, tail_stops, Stops}
 use Rattle.inline_body.proofs.Unique.{in_find}
 
 -- the values of a whole function are defined as often as they are declared

@@ -1,48 +1,26 @@
 -- What a line that keeps the rules uses is there: values of a type, blocks, slots and signatures.
-use Rattle.std.proofs.Common.{◌≡◌, ◌≢◌, ℕ, zero, suc, ◌≤◌, ◌<◌, ◌+◌, inl, inr, ◌⊎◌, List, [], ◌∷◌, ◌++◌, length, map, Option, Some, None, Bool, false, true, refl, sym, ap, ap₂, ◌∙◌, subst, arith}
-use Rattle.std.specs.Prelude.{slice_get, IsSomeAnd, IsSome, IsTrue, if◌then◌else◌, ℤ}
+use Rattle.std.proofs.Common.{◌≡◌, ℕ, ◌<◌, inl, inr, List, [], ◌∷◌, ◌++◌, length, map, Option, Some, None, false, true, refl, sym, ap, ◌∙◌, subst}
+use Rattle.std.specs.Prelude.{slice_get, IsSomeAnd, IsSome, IsTrue, ℤ}
 use Rattle.std.proofs.lemmas.Bool.{cases_eq}
 use Rattle.clk_num.specs.declared.width.Width.{Width}
 use Rattle.clk_num.specs.Rows.{row}
-use Rattle.exn_tables.specs.declared.table.Entry.{Entry}
-use Rattle.debug_tags.specs.declared.tags.Tag.{Tag}
-use Rattle.debug_tags.specs.declared.tags.Tag.TheVariants as tag
-use Rattle.ir_core.specs.declared.names.FuncName.{FuncName}
 use Rattle.ir_core.specs.declared.signatures.Ty.{Ty}
 use Rattle.ir_core.specs.declared.signatures.Ty.TheVariants.{I32, I64}
 use Rattle.ir_core.specs.declared.signatures.Sig.{Sig}
-use Rattle.ir_core.specs.declared.declarations.Callee.{Callee}
 use Rattle.ir_core.specs.declared.declarations.SlotDecl.{SlotDecl}
 use Rattle.ir_core.specs.declared.instructions.Arg.{Arg}
 use Rattle.ir_core.specs.declared.instructions.Arg.TheVariants as arg
 use Rattle.ir_core.specs.declared.instructions.BlockCall.{BlockCall}
-use Rattle.ir_core.specs.Module.{Simple, Nop, Const, Pure, PureImm, Load, Store, StackLoad, StackStore, FuncAddr, Trap, Trapz, Trapnz, Branch, Jump, Brif, BrTable, CallTarget, Direct, Indirect, Function, Module, Branches, Call, Instruction, Line, Block, Plain, Return, ReturnCall, SequencePoint, TryCall}
-use Rattle.ir_core.specs.Lookup.{and_then, In, Each, Different, same_name, find_block, find_function, type_in, type_of, signature_of, param_types, width_of, ty_of, block_numbers, definitions}
+use Rattle.ir_core.specs.Module.{Simple, Nop, Const, Pure, PureImm, Load, Store, StackLoad, StackStore, FuncAddr, Trap, Trapz, Trapnz, Jump, Brif, BrTable, CallTarget, Direct, Indirect, Function, Branches, Call, Instruction, Line, Block, Plain, Return, ReturnCall, SequencePoint, TryCall}
+use Rattle.ir_core.specs.Lookup.{and_then, In, Each, find_block, type_in, type_of, signature_of, param_types, width_of, ty_of, block_numbers}
 use Rattle.ir_core.specs.Values.{cons_some, slot_place, place_in, bytes_in}
-use Rattle.ir_core.specs.Uses.{targets, table_targets, values_used, simple_used, targets_used, called_used, arg_values_used, slots_used, slots_shown, callees_used, sigs_used, called_sigs, blocks_used}
+use Rattle.ir_core.specs.Uses.{targets, table_targets, values_used, simple_used, targets_used, called_used, arg_values_used, slots_used, sigs_used, called_sigs, blocks_used}
 use Rattle.ir_core.specs.Accepted.{InstructionCounts, InstructionTypes, InstructionSignature, InstructionSlot, SimpleTypes, TargetCounts, TargetTypes, HaveTypes, arg_type, types_of, each_some, widths_of_values, OpTypes, CalledTypes, store_form}
-use Rattle.ir_core.specs.Whole.{Whole, LineWhole, BlockWhole, DifferentNames, IsModule, declared}
-use Rattle.ir_core.specs.Import.{sigs_after, callee_with, callees_with, callees_after, same_callee}
-use Rattle.ir_core.specs.Renaming.{Renaming, instruction_under, tag_under}
-use Rattle.ir_core.specs.Splice.{Kind, Last, Splicing, Tries, Within, callee_names, caller_names, joined_tags, kind_of, replace, spliced, tags_before}
-use Rattle.inline_body.proofs.Local.{some_same, Fits}
-use Rattle.inline_body.proofs.Linking.{embeds_f, embeds_g, get_below}
-use Rattle.inline_body.proofs.Places.{find_hit, find_skip}
-use Rattle.inline_body.proofs.Merging.{own_sig, other_sig}
-use Rattle.inline_body.proofs.Functions.{cases_named, others_stay}
-use Rattle.ir_core.proofs.Equal.{name_equal, equal_name}
-use Rattle.inline_body.proofs.KeptLists.{some_and, each_in, in_each, each_map, each_append, map_in}
-use Rattle.inline_body.proofs.Points.{in_numbers, Trans}
-use Rattle.inline_body.proofs.KeptPaths.{LineFrom, pf, pj, pg, px, known}
-use Rattle.inline_body.proofs.KeptTraces.{out_first}
+use Rattle.inline_body.proofs.Linking.{get_below}
+use Rattle.inline_body.proofs.KeptLists.{some_and, in_each, each_append, map_in}
+use Rattle.inline_body.proofs.Points.{in_numbers}
 use Rattle.inline_body.proofs.KeptTypes.{type_skip}
-use Rattle.inline_body.proofs.KeptSite.{LineKept, declared_type, param_defined}
-use Rattle.inline_body.proofs.KeptLines.{Setting}
-use Rattle.inline_body.proofs.KeptSplice.{line_kept}
-use Rattle.inline_body.proofs.KeptFunctions.{line_lands, in_get, in_items, in_with, in_replace}
-use Rattle.inline_body.proofs.KeptCounts.{count, count_in, in_count, count_different}
-use Rattle.inline_body.proofs.KeptValues.{out_counts, declared_once}
-use Rattle.inline_body.proofs.Unique.{in_find, out_different}
+use Rattle.inline_body.proofs.KeptFunctions.{line_lands}
 
 -- ---- a value that has a type is declared, and a well typed line uses such values only
 

@@ -25,6 +25,11 @@ pub mod KeptCounts
 pub mod KeptValues
 pub mod KeptWhole
 pub mod KeptModules
+pub mod KeptForms
+pub mod KeptWritable
+pub mod KeptNumbers
+pub mod KeptCanon
+pub mod KeptSizes
 pub mod Linking
 pub mod Numbering
 pub mod Laws

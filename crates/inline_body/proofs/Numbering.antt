@@ -68,7 +68,7 @@ pub record Renumbered (m r : Module) : Type 0 where
   pub absent : (x : FuncName) → find_function x m ≡ None → find_function x r ≡ None
   pub all_names : module_names m ≡ module_names r
 
-renumber_embeds : (r : Renaming) (f f' : Function) → Injective r.value → Injective r.block → ((k : ℕ) → r.slot k ≡ k) → ((k : ℕ) → r.sig k ≡ k) → ((k : ℕ) → r.callee k ≡ k) → Renumbers r f f' → Embeds f f' r (RestOf r)
+pub renumber_embeds : (r : Renaming) (f f' : Function) → Injective r.value → Injective r.block → ((k : ℕ) → r.slot k ≡ k) → ((k : ℕ) → r.sig k ≡ k) → ((k : ℕ) → r.callee k ≡ k) → Renumbers r f f' → Embeds f f' r (RestOf r)
 renumber_embeds r f f' value block slot sig callee same =
     record {
       fits = record {
@@ -124,13 +124,13 @@ renumber_same m r h = same_runs m r no_splice (renumber_linked m r h)
 
 -- ---- the place of a number, and the number at a place
 
-place_hit : (x : ℕ) (xs : List ℕ) (v : ℕ) → v ≡ x → place (x ∷ xs) v ≡ 0
+pub place_hit : (x : ℕ) (xs : List ℕ) (v : ℕ) → v ≡ x → place (x ∷ xs) v ≡ 0
 place_hit x xs v h = ap (λ c. if c then 0 else suc (place xs v)) (eq-eqb v x h)
 
-place_skip : (x : ℕ) (xs : List ℕ) (v : ℕ) → (v ≡ x → ⊥) → place (x ∷ xs) v ≡ suc (place xs v)
+pub place_skip : (x : ℕ) (xs : List ℕ) (v : ℕ) → (v ≡ x → ⊥) → place (x ∷ xs) v ≡ suc (place xs v)
 place_skip x xs v h = ap (λ c. if c then 0 else suc (place xs v)) (ne_eqb v x h)
 
-place_injective : (xs : List ℕ) → Injective (place xs)
+pub place_injective : (xs : List ℕ) → Injective (place xs)
 place_injective [] a b h = h
 place_injective (x ∷ xs) a b h =
     elim (cases_eq a x) [
@@ -142,22 +142,22 @@ place_injective (x ∷ xs) a b h =
     ]
 
 -- past the end a number that is not in the list
-back : List ℕ → ℕ → ℕ → ℕ
+unfoldable pub back : List ℕ → ℕ → ℕ → ℕ
 back [] base u = base + u
 back (x ∷ xs) base zero = x
 back (x ∷ xs) base (suc u) = back xs base u
 
-abbrev Under : ℕ → List ℕ → Type 0
+abbrev pub Under : ℕ → List ℕ → Type 0
 Under base [] = Unit {0}
 Under base (x ∷ xs) = (x < base) × Under base xs
 
-back_is : (xs : List ℕ) (base u : ℕ) → In (back xs base u) xs ⊎ (base ≤ back xs base u)
+pub back_is : (xs : List ℕ) (base u : ℕ) → In (back xs base u) xs ⊎ (base ≤ back xs base u)
 unfolding back
 back_is [] base u = inr (omega arith)
 back_is (x ∷ xs) base zero = inl (inl refl)
 back_is (x ∷ xs) base (suc u) = elim (back_is xs base u) [ inl p ↦ inl (inr p) | inr p ↦ inr p ]
 
-back_injective : (xs : List ℕ) (base : ℕ) → Different xs → Under base xs → Injective (back xs base)
+pub back_injective : (xs : List ℕ) (base : ℕ) → Different xs → Under base xs → Injective (back xs base)
 unfolding back
 back_injective [] base d u a b h = omega (arith, h)
 back_injective (x ∷ xs) base d u zero zero h = refl
@@ -165,7 +165,7 @@ back_injective (x ∷ xs) base d u zero (suc b) h = absurd (elim (back_is xs bas
 back_injective (x ∷ xs) base d u (suc a) zero h = absurd (elim (back_is xs base a) [ inl p ↦ d.0 (subst (λ z. In z xs) h p) | inr p ↦ omega (arith, u.0, h, p) ])
 back_injective (x ∷ xs) base d u (suc a) (suc b) h = ap suc (back_injective xs base d.1 u.1 a b h)
 
-back_place : (xs : List ℕ) (base v : ℕ) → In v xs → back xs base (place xs v) ≡ v
+pub back_place : (xs : List ℕ) (base v : ℕ) → In v xs → back xs base (place xs v) ≡ v
 unfolding back
 back_place [] base v p = elim p [ ]
 back_place (x ∷ xs) base v p =
@@ -174,11 +174,11 @@ back_place (x ∷ xs) base v p =
       | inr q ↦ ap (back (x ∷ xs) base) (place_skip x xs v q) ∙ back_place xs base v (elim p [ inl e ↦ absurd (q e) | inr r ↦ r ])
     ]
 
-above : List ℕ → ℕ
+pub above : List ℕ → ℕ
 above [] = 1
 above (x ∷ xs) = x + above xs
 
-under_above : (xs : List ℕ) → Under (above xs) xs
+pub under_above : (xs : List ℕ) → Under (above xs) xs
 unfolding above
 under_above xs = go xs (above xs) (omega arith)
   where
@@ -320,7 +320,7 @@ module _ (f : Function) (whole : Whole f) where
 
 -- ---- modules
 
-function_map : (h : Function → Function) → ((f : Function) → (h f).name ≡ f.name) → (x : FuncName) (m : Module) (f : Function) → find_function x m ≡ Some f → find_function x (map h m) ≡ Some (h f)
+pub function_map : (h : Function → Function) → ((f : Function) → (h f).name ≡ f.name) → (x : FuncName) (m : Module) (f : Function) → find_function x m ≡ Some f → find_function x (map h m) ≡ Some (h f)
 function_map h keep x [] f q = cc
 function_map h keep x (k ∷ m) f q =
     elim (cases_named k.name x) [
@@ -328,7 +328,7 @@ function_map h keep x (k ∷ m) f q =
       | inr p ↦ function_skip x (h k) (map h m) (ap (λ n. same_name n x) (keep k) ∙ p) ∙ function_map h keep x m f (sym (function_skip x k m p) ∙ q)
     ]
 
-function_none : (h : Function → Function) → ((f : Function) → (h f).name ≡ f.name) → (x : FuncName) (m : Module) → find_function x m ≡ None → find_function x (map h m) ≡ None
+pub function_none : (h : Function → Function) → ((f : Function) → (h f).name ≡ f.name) → (x : FuncName) (m : Module) → find_function x m ≡ None → find_function x (map h m) ≡ None
 function_none h keep x [] q = refl
 function_none h keep x (k ∷ m) q =
     elim (cases_named k.name x) [
@@ -336,7 +336,7 @@ function_none h keep x (k ∷ m) q =
       | inr p ↦ function_skip x (h k) (map h m) (ap (λ n. same_name n x) (keep k) ∙ p) ∙ function_none h keep x m (sym (function_skip x k m p) ∙ q)
     ]
 
-name_kept : (f : Function) → (canonical f).name ≡ f.name
+pub name_kept : (f : Function) → (canonical f).name ≡ f.name
 name_kept f = refl
 
 mentioned_kept : (m : Module) → mentioned (canonical_module m) ≡ mentioned m
@@ -347,7 +347,7 @@ names_kept : (m : Module) → module_names (canonical_module m) ≡ module_names
 unfolding module_names
 names_kept m = ap in_order (mentioned_kept m)
 
-each_function : (m : Module) → Each Whole m → (x : FuncName) (f : Function) → find_function x m ≡ Some f → Whole f
+pub each_function : (m : Module) → Each Whole m → (x : FuncName) (f : Function) → find_function x m ≡ Some f → Whole f
 each_function [] w x f q = cc
 each_function (k ∷ m) w x f q =
     elim (cases_named k.name x) [
@@ -393,10 +393,22 @@ to_canonical m =
 
 -- and back
 
-back_names : Function → Renaming
+pub back_names : Function → Renaming
 back_names f = record { value = back (definitions f.blocks) (above (definitions f.blocks)); block = back (block_numbers f.blocks) (above (block_numbers f.blocks)); slot = λ k. k; sig = λ s. s; callee = λ k. k }
 
-canonical_back : (f : Function) → Whole f → map (block_under (back_names f)) (canonical f).blocks ≡ f.blocks
+pub back_is_injective : (f : Function) → Whole f → Injective (back_names f).value × Injective (back_names f).block
+unfolding back_names
+back_is_injective f whole = (back_injective (definitions f.blocks) (above (definitions f.blocks)) whole.defined_once (under_above (definitions f.blocks)), back_injective (block_numbers f.blocks) (above (block_numbers f.blocks)) whole.blocks (under_above (block_numbers f.blocks)))
+
+pub back_value : (f : Function) (u : ℕ) → (back_names f).value u ≡ back (definitions f.blocks) (above (definitions f.blocks)) u
+unfolding back_names
+back_value f u = refl
+
+pub back_rest : (f : Function) (k : ℕ) → ((back_names f).slot k ≡ k) × ((back_names f).sig k ≡ k) × ((back_names f).callee k ≡ k)
+unfolding back_names
+back_rest f k = (refl, refl, refl)
+
+pub canonical_back : (f : Function) → Whole f → map (block_under (back_names f)) (canonical f).blocks ≡ f.blocks
 unfolding back_names
 canonical_back f whole =
     blocks_back (canonical_names f) (back_names f) (λ v. In v (definitions f.blocks)) (λ b. In b (block_numbers f.blocks)) (λ v p. back_place (definitions f.blocks) (above (definitions f.blocks)) v p) (λ b p. back_place (block_numbers f.blocks) (above (block_numbers f.blocks)) b p) (λ k. refl) (λ k. refl) (λ k. refl) f.blocks (blocks_in f whole f.blocks (λ v i. i) (λ b i. i) whole.lines)

@@ -5,7 +5,10 @@ ghost use Rattle.inline_body.specs.Laws.{NumberingKeeps, NumberingKeepsRuns, Spl
 
 mod acceptance;
 
-pub use acceptance::splice_stays_accepted;
+pub use acceptance::{
+    numbering_keeps_acceptance, numbering_keeps_writable, splice_stays_accepted,
+    splice_stays_writable,
+};
 
 /// A direct call of any kind, replaced by the body of its callee, keeps every outcome of a run that lacks nothing and reads
 /// no unwritten byte of a slot, with at most twice as many steps.

@@ -6,4 +6,4 @@ pub mod Passing
 pub mod Renumbered
 pub mod Rows
 pub mod Tracking
-pub mod PassKept
+pub mod Kept

@@ -6,7 +6,11 @@ ghost use Rattle.inline_pass.specs.Laws.{PassKeeps, PassKeepsRuns, RenumberedPas
 
 mod acceptance;
 
-pub use acceptance::pass_stays_accepted;
+pub use acceptance::{
+    finished_stay_accepted, finished_stay_writable, pass_stays_accepted, pass_stays_writable,
+    renumbered_finished_stay_accepted, renumbered_finished_stay_writable,
+    renumbered_pass_stays_accepted, renumbered_pass_stays_writable,
+};
 
 /// The pass keeps every outcome of a run that lacks nothing and reads no unwritten byte of a slot, for every policy and in
 /// every order of functions.

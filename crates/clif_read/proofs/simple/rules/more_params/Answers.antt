@@ -4,7 +4,7 @@ use Rattle.grammar.specs.Rules.{Lexeme}
 use Rattle.clif_read.specs.declared.simple.lexemes.Class.TheVariants as class
 use Rattle.clif_read.specs.SimpleReading.{Out, after, each, only, with_front, comma_param_at, more_params_at}
 use Rattle.clif_read.proofs.SimpleLoops.{goes_on, fails, is_done}
-use Rattle.clif_read.proofs.simple.grammar.more_params.Goals as goal
+use Rattle.clif_read.proofs.simple.rules.more_params.Goals as goal
 
 abbrev total : List ℕ → List Lexeme → Out (List ℕ)
 total front ts = with_front front (each comma_param_at (only class.Comma) (length ts) ts)

@@ -2,7 +2,7 @@ use Rattle.std.proofs.Common.{[], ◌≤◌, length}
 use Rattle.clif_read.specs.declared.simple.lexemes.Class.TheVariants as class
 use Rattle.clif_read.specs.SimpleReading.{after, each, only, with_front, line_at}
 use Rattle.clif_read.proofs.SimpleLoops.{Keeps}
-use Rattle.clif_read.proofs.simple.grammar.lines.Given as goal
+use Rattle.clif_read.proofs.simple.rules.lines.Given as goal
 
 abbrev pub invariant-lines : goal.invariant-lines
 invariant-lines l = record {

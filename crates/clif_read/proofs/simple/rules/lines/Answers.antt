@@ -5,7 +5,7 @@ use Rattle.clif_read.specs.declared.simple.lexemes.Class.TheVariants as class
 use Rattle.clif_read.specs.declared.simple.written.Assignment.{Assignment}
 use Rattle.clif_read.specs.SimpleReading.{Out, Fails, after, each, only, with_front, line_at, lines_at}
 use Rattle.clif_read.proofs.SimpleLoops.{goes_on, fails, is_done, no_front}
-use Rattle.clif_read.proofs.simple.grammar.lines.Goals as goal
+use Rattle.clif_read.proofs.simple.rules.lines.Goals as goal
 
 abbrev total : List Assignment → List Lexeme → Out (List Assignment)
 total front ts = with_front front (each line_at (only class.Value) (length ts) ts)

@@ -2,7 +2,7 @@ use Rattle.std.proofs.Common.{◌∷◌, [], ◌≤◌, length}
 use Rattle.clif_read.specs.declared.simple.lexemes.Class.TheVariants as class
 use Rattle.clif_read.specs.SimpleReading.{after, each, only, with_front, comma_value_at}
 use Rattle.clif_read.proofs.SimpleLoops.{Keeps}
-use Rattle.clif_read.proofs.simple.grammar.more_values.Given as goal
+use Rattle.clif_read.proofs.simple.rules.more_values.Given as goal
 
 abbrev pub invariant-values : goal.invariant-values
 invariant-values l = record {

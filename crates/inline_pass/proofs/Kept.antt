@@ -1,0 +1,37 @@
+-- The pass and finished bodies stay accepted and writable, since a splice does.
+use Rattle.inline_body.proofs.KeptModules.{splice_accepted}
+use Rattle.inline_body.proofs.KeptWritable.{splice_writable}
+use Rattle.inline_body.proofs.KeptCanon.{numbering_accepted}
+use Rattle.inline_body.proofs.KeptSizes.{numbering_writable}
+use Rattle.inline_pass.specs.Finished.{passed}
+use Rattle.inline_pass.specs.Pass.{pass}
+use Rattle.inline_pass.specs.Kept.{FinishedAccepted, FinishedWritable, PassAccepted, PassWritable, RenumberedFinishedAccepted, RenumberedFinishedWritable, RenumberedPassAccepted, RenumberedPassWritable}
+use Rattle.inline_pass.proofs.Holding as holding
+
+pub pass_accepted : PassAccepted
+pass_accepted = holding.pass_accepted splice_accepted
+
+pub renumbered_pass_accepted : RenumberedPassAccepted
+renumbered_pass_accepted p order m r whole accepted same =
+    let a = pass_accepted p order m whole accepted in
+    numbering_accepted (pass p order m) r same a.0 a.1
+
+pub pass_writable : PassWritable
+pass_writable = holding.pass_writable splice_accepted splice_writable
+
+pub renumbered_pass_writable : RenumberedPassWritable
+renumbered_pass_writable p limit order m r whole accepted written same = numbering_writable (pass p order m) r same (pass_writable p limit order m whole accepted written)
+
+pub finished_accepted : FinishedAccepted
+finished_accepted = holding.finished_accepted splice_accepted
+
+pub renumbered_finished_accepted : RenumberedFinishedAccepted
+renumbered_finished_accepted p m r whole accepted same =
+    let a = finished_accepted p m whole accepted in
+    numbering_accepted (passed p m) r same a.0 a.1
+
+pub finished_writable : FinishedWritable
+finished_writable = holding.finished_writable splice_accepted splice_writable
+
+pub renumbered_finished_writable : RenumberedFinishedWritable
+renumbered_finished_writable p limit m r whole accepted written same = numbering_writable (passed p m) r same (finished_writable p limit m whole accepted written)

@@ -12,3 +12,5 @@ pub mod One
 pub mod Takes
 pub mod Excepted
 pub mod Views
+pub mod Singles
+pub mod FlagLetter

@@ -2,6 +2,11 @@
 #![tactic(auto)]
 
 pub mod laws;
+mod raw;
 mod simple;
 
+pub use raw::{
+    RawAttribute, RawBlock, RawBlockParam, RawCalleeSig, RawDecl, RawFuncName, RawFunction, RawLine,
+    RawModule, RawParam, RawSignature, RawTag,
+};
 pub use simple::{SimpleErr, read_simple};

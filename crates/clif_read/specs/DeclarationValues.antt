@@ -4,7 +4,7 @@ use Rattle.grammar.specs.Rules.{Lexeme, Rule, Opt, Value}
 use Rattle.ir_core.specs.declared.signatures.Conv.{Conv}
 use Rattle.ir_core.specs.declared.signatures.Conv.TheVariants as convs
 use Rattle.clif_insts.specs.declared.raw.RawNumber.{RawNumber}
-use Rattle.clif_insts.specs.Terminals.{◌then◌, ◌or◌, arrow, comma, equals, ext, align, colocated, sig}
+use Rattle.clif_words.specs.Terminals.{◌then◌, ◌or◌, arrow, comma, equals, ext, align, colocated, sig}
 use Rattle.clif_insts.specs.Grammar.{number}
 use Rattle.clif_insts.specs.Reading.{name}
 use Rattle.clif_insts.specs.Values.{◌otherwise◌, perhaps, never, commas_value, any_type_value, number_value}

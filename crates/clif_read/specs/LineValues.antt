@@ -1,25 +1,22 @@
 -- What the trees of lines mean, one definition a rule. The values of a `return` stand behind it, and are given to it.
-use Rattle.std.specs.Prelude.{ℕ, List, [], ◌∷◌, ◌++◌, map, Option, Some, None, ◌⊎◌}
+use Rattle.std.specs.Prelude.{ℕ, List, [], ◌∷◌, map, Option, Some, None, ◌⊎◌}
 use Rattle.grammar.specs.Rules.{Rule, Opt, Many, Value}
-use Rattle.clif_insts.specs.declared.class.Class.{Class}
-use Rattle.clif_insts.specs.declared.class.Class.TheVariants as classes
+use Rattle.clif_words.specs.declared.class.Class.TheVariants as classes
 use Rattle.clif_insts.specs.declared.raw.RawName.{RawName}
 use Rattle.clif_insts.specs.declared.raw.RawInst.{RawInst}
 use Rattle.clif_insts.specs.declared.raw.RawOperands.TheVariants as operands
-use Rattle.clif_insts.specs.Terminals.{◌then◌, ◌or◌, comma, arrow, value, slot, return_word}
+use Rattle.clif_words.specs.Terminals.{◌then◌, ◌or◌, comma, arrow, value, slot}
 use Rattle.clif_insts.specs.Grammar.{commas, number, inst}
 use Rattle.clif_insts.specs.Reading.{name}
 use Rattle.clif_insts.specs.Values.{◌otherwise◌, perhaps, commas_value, number_value}
-use Rattle.clif_insts.specs.InstValues.{raw, instruction_value, return_inst_value}
+use Rattle.clif_insts.specs.InstValues.{raw, inst_value}
 use Rattle.clif_read.specs.declared.raw.RawTag.{RawTag}
 use Rattle.clif_read.specs.declared.raw.RawTag.TheVariants as tag_kinds
 use Rattle.clif_read.specs.declared.raw.RawLine.{RawLine}
 use Rattle.clif_read.specs.declared.raw.RawLine.TheVariants as raw_lines
-use Rattle.clif_read.specs.ModuleGrammar.{debug_tag, debug_tags, made, named, named_or_values, tagged, located, line_by, line, line_or_values, lines}
-
--- an instruction, where words of these classes may stand for something else
-abbrev pub inst_value : (excepted : List Class) → Value (inst excepted) → RawInst
-inst_value excepted = instruction_value return_word excepted return_inst_value
+use Rattle.clif_read.specs.declared.lines.LinePart.{LinePart}
+use Rattle.clif_read.specs.declared.lines.LinePart.TheVariants.{Whole, Values}
+use Rattle.clif_read.specs.ModuleGrammar.{debug_tag, debug_tags, made, named, named_or_values, tagged, located, other_line, line, line_or_values, lines}
 
 abbrev pub made_value : Value made → RawInst
 made_value v = inst_value [] v.1
@@ -51,17 +48,11 @@ tagged_value location v = tagged_by location (debug_tags_value v.0) v.1
 abbrev pub located_value : ℕ → Value located → RawLine
 located_value spot = named_value (Some spot) otherwise tagged_value (Some spot) otherwise (λ v. raw_lines.Inst (Some spot) [] [] (inst_value (classes.Value ∷ []) v))
 
--- What the grammar takes as one of the lines of a block: a line, or the values of the `return` before it.
-pub data LinePart : Type 0 where
-  Whole : RawLine → LinePart
-  Values : List RawName → LinePart
-
--- a line, whose beginning with a value is this part
-abbrev pub line_by_value : (r : Rule) → (Value r → LinePart) → Value (line_by r) → LinePart
-line_by_value r part = part otherwise (λ v. Whole (tagged_value None v)) otherwise (λ v. Whole (located_value v.0.spot v.1)) otherwise (λ v. Whole (raw_lines.Inst None [] [] (inst_value (classes.Value ∷ classes.Block ∷ []) v)))
+abbrev pub other_line_value : Value other_line → RawLine
+other_line_value = tagged_value None otherwise (λ v. located_value v.0.spot v.1) otherwise (λ v. raw_lines.Inst None [] [] (inst_value (classes.Value ∷ classes.Block ∷ []) v))
 
 abbrev pub line_value : Value line → LinePart
-line_value = line_by_value named (λ v. Whole (named_value None v))
+line_value = (λ v. Whole (named_value None v)) otherwise (λ v. Whole (other_line_value v))
 
 -- values, and perhaps the instruction of which they are the results
 abbrev pub values_by : List RawName → Value (Opt made) → LinePart
@@ -74,30 +65,27 @@ abbrev pub named_or_values_value : Value named_or_values → LinePart
 named_or_values_value v = named_or_values_by (name v.0) v.1
 
 abbrev pub line_or_values_value : Value line_or_values → LinePart
-line_or_values_value = line_by_value named_or_values named_or_values_value
+line_or_values_value = named_or_values_value otherwise (λ v. Whole (other_line_value v))
 
 -- a line with these values; only a `return` has such
 abbrev pub with_values : List RawName → RawLine → RawLine
 with_values values (raw_lines.Inst location tags results i) = raw_lines.Inst location tags results (raw i.opcode i.suffix (operands.Return values))
 with_values values (raw_lines.Alias location alias x) = raw_lines.Alias location alias x
 
--- lines of which the last has these values
-abbrev pub to_last : List RawName → List RawLine → List RawLine
-to_last values [] = []
-to_last values (l ∷ []) = with_values values l ∷ []
-to_last values (l ∷ m ∷ more) = l ∷ to_last values (m ∷ more)
+-- a line, and what stands behind it: values are given to it
+abbrev pub lines_from : RawLine → List LinePart → List RawLine
+lines_from l [] = l ∷ []
+lines_from l (Values values ∷ more) = lines_from (with_values values l) more
+lines_from l (Whole next ∷ more) = l ∷ lines_from next more
 
--- lines, and what comes behind them
-abbrev pub add_part : List RawLine → LinePart → List RawLine
-add_part before (Whole l) = before ++ l ∷ []
-add_part before (Values values) = to_last values before
-
-abbrev pub add_parts : List RawLine → List LinePart → List RawLine
-add_parts before [] = before
-add_parts before (p ∷ ps) = add_parts (add_part before p) ps
+-- what a block's parts are; no values stand before the first line
+abbrev pub lines_of : List LinePart → List RawLine
+lines_of [] = []
+lines_of (Whole l ∷ more) = lines_from l more
+lines_of (Values values ∷ more) = lines_of more
 
 abbrev pub part_value : Value line ⊎ Value line_or_values → LinePart
 part_value = line_value otherwise line_or_values_value
 
 abbrev pub lines_value : Value lines → List RawLine
-lines_value v = add_parts [] (map part_value v)
+lines_value v = lines_of (map part_value v)

@@ -2,9 +2,9 @@
 -- The grammar of an instruction, and of the parts that it shares with this one, is that of crate clif_insts.
 use Rattle.std.specs.Prelude.{◌≡◌, true, List, [], ◌∷◌, refl}
 use Rattle.grammar.specs.Rules.{Rule, Opt, Many, Chain, Unsupported, good}
-use Rattle.clif_insts.specs.declared.class.Class.TheVariants as classes
-use Rattle.clif_insts.specs.Classes.{code}
-use Rattle.clif_insts.specs.Terminals.{◌then◌, ◌or◌, refused, header, function_word, name, user_name, srcloc, left_paren, right_paren, left_brace, right_brace, comma, colon, equals, arrow, less, greater, conv, cold, ext, vmctx, sret, explicit_slot, align, colocated, value, block, slot, sig, callee}
+use Rattle.clif_words.specs.declared.class.Class.TheVariants as classes
+use Rattle.clif_words.specs.Classes.{code}
+use Rattle.clif_words.specs.Terminals.{◌then◌, ◌or◌, refused, header, function_word, name, user_name, srcloc, left_paren, right_paren, left_brace, right_brace, comma, colon, equals, arrow, less, greater, conv, cold, ext, vmctx, sret, explicit_slot, align, colocated, value, block, slot, sig, callee}
 use Rattle.clif_insts.specs.Grammar.{commas, number, any_type, inst}
 
 -- ---- signatures and declarations
@@ -73,16 +73,16 @@ tagged = debug_tags then ((commas value then made) or inst (classes.Value ∷ []
 abbrev pub located : Rule
 located = named or tagged or inst (classes.Value ∷ [])
 
--- a line whose results, or whose alias, are read in this way
-abbrev pub line_by : Rule → Rule
-line_by named = named or tagged or (srcloc then located) or inst (classes.Value ∷ classes.Block ∷ [])
+-- a line that does not begin with a value
+abbrev pub other_line : Rule
+other_line = tagged or (srcloc then located) or inst (classes.Value ∷ classes.Block ∷ [])
 
 abbrev pub line : Rule
-line = line_by named
+line = named or other_line
 
 -- a line, or the values of the `return` before it
 abbrev pub line_or_values : Rule
-line_or_values = line_by named_or_values
+line_or_values = named_or_values or other_line
 
 -- { line }, where the values of a `return` stand behind it
 abbrev pub lines : Rule

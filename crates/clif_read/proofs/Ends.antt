@@ -1,5 +1,5 @@
 -- Whether a text ends with a `return` word is told by what the text means.
-use Rattle.std.proofs.Common.{◌≡◌, ℕ, ◌==◌, Bool, true, false, List, [], ◌∷◌, ◌++◌, refl, sym, ap, subst, ◌∙◌, inl, inr}
+use Rattle.std.proofs.Common.{◌≡◌, Bool, true, false, List, [], refl, sym, ap, subst, ◌∙◌, inl, inr}
 use Rattle.std.specs.Prelude.{◌⊎◌}
 use Rattle.std.proofs.lemmas.Bool.{eq-eqb}
 use Rattle.grammar.specs.Rules.{Lexeme, Class, Kind, Rule, Tok, Seq, Alt, Refuse, Value, Derives, ends, nullable, heads, firsts}

@@ -1,11 +1,10 @@
 -- A line ends with a `return` word where it is a `return`.
-use Rattle.std.proofs.Common.{◌≡◌, ℕ, Bool, true, false, List, [], ◌∷◌, Option, Some, None, refl, inl, inr}
-use Rattle.std.specs.Prelude.{◌⊎◌}
-use Rattle.grammar.specs.Rules.{Lexeme, Class, Rule, Empty, Seq, Opt, Many, Value, Derives, ends}
+use Rattle.std.proofs.Common.{◌≡◌, ℕ, Bool, List, [], ◌∷◌, Option, Some, None, refl, inl, inr}
+use Rattle.grammar.specs.Rules.{Lexeme, Class, Rule, Empty, Many, Value, Derives, ends}
 use Rattle.clif_words.specs.declared.class.Class as words
 use Rattle.clif_words.specs.declared.class.Class.TheVariants as classes
 use Rattle.clif_words.specs.Classes.{code}
-use Rattle.clif_words.specs.Terminals.{◌then◌, ◌or◌, comma, arrow, equals, value, srcloc}
+use Rattle.clif_words.specs.Terminals.{◌then◌, comma, arrow, equals, value, srcloc}
 use Rattle.clif_insts.specs.Grammar.{commas, inst}
 use Rattle.clif_insts.specs.Reading.{name}
 use Rattle.clif_insts.specs.Values.{commas_value}
@@ -15,10 +14,9 @@ use Rattle.clif_insts.specs.declared.raw.RawInst.{RawInst}
 use Rattle.clif_read.specs.declared.raw.RawTag.{RawTag}
 use Rattle.clif_read.specs.declared.raw.RawLine.{RawLine}
 use Rattle.clif_read.specs.declared.raw.RawLine.TheVariants as raw_lines
-use Rattle.clif_read.specs.declared.lines.LinePart.{LinePart}
 use Rattle.clif_read.specs.declared.lines.LinePart.TheVariants.{Whole, Values}
 use Rattle.clif_read.specs.ModuleGrammar.{debug_tags, made, named, named_or_values, tagged, located, other_line, line, line_or_values}
-use Rattle.clif_read.specs.LineValues.{made_value, debug_tags_value, values_from, named_by, named_value, tagged_by, tagged_value, located_value, other_line_value, line_value, values_by, named_or_values_by, named_or_values_value, line_or_values_value}
+use Rattle.clif_read.specs.LineValues.{made_value, debug_tags_value, values_from, named_by, named_value, tagged_by, tagged_value, located_value, other_line_value, line_value, named_or_values_value, line_or_values_value}
 use Rattle.clif_read.specs.Lines.{returns, is_return}
 use Rattle.clif_read.proofs.Ends.{Ends, never_ends, token_ends, either_ends, refused_ends, then_ends, also_ends}
 

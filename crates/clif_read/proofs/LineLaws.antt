@@ -1,22 +1,21 @@
 -- The lines of a block are read as the grammar says.
-use Rattle.std.proofs.Common.{◌≡◌, ℕ, zero, suc, Bool, true, false, cond, List, [], ◌∷◌, ◌++◌, length, map, Option, Some, None, Ok, Err, refl, sym, ap, subst, ◌∙◌, inl, inr, append_assoc}
+use Rattle.std.proofs.Common.{◌≡◌, ℕ, zero, suc, Bool, true, false, cond, List, [], ◌∷◌, ◌++◌, length, map, Option, Some, None, Ok, Err, refl, sym, ap, ◌∙◌, inl, inr, append_assoc}
 use Rattle.std.specs.Prelude.{◌⊎◌}
-use Rattle.grammar.specs.Rules.{Lexeme, Rule, Opt, Many, Value, ByFlag, Derives, Out, ends, used, heads, firsts, chain, by_flag, read, ◌>>=◌}
+use Rattle.grammar.specs.Rules.{Lexeme, Opt, Many, Value, ByFlag, Derives, Out, ends, used, heads, firsts, chain, by_flag, read, ◌>>=◌}
 use Rattle.grammar.proofs.Chains.{used_is}
-use Rattle.grammar.proofs.Laws.{flag_firsts, sound, sound_flag, ok_is}
+use Rattle.grammar.proofs.Laws.{flag_firsts, sound, sound_flag}
 use Rattle.clif_words.specs.declared.class.Class.TheVariants as classes
 use Rattle.clif_words.specs.Classes.{code}
-use Rattle.clif_words.specs.Terminals.{◌then◌, ◌or◌, comma, arrow, equals, greater, value, srcloc}
+use Rattle.clif_words.specs.Terminals.{◌then◌, ◌or◌, comma, arrow, greater, value}
 use Rattle.clif_insts.specs.declared.opening.Opening.{Opening}
 use Rattle.clif_insts.specs.declared.opening.Opening.TheVariants.{AfterResults, AfterTags, LineStart}
 use Rattle.clif_insts.specs.declared.raw.RawName.{RawName}
 use Rattle.clif_insts.specs.Grammar.{commas, excepted, inst}
 use Rattle.clif_insts.specs.Reading.{name, name_at}
-use Rattle.clif_insts.specs.Arguments.{more_values_at}
 use Rattle.clif_insts.specs.Forms.{inst_at}
-use Rattle.clif_insts.specs.Values.{either, ◌otherwise◌, commas_value, seen}
+use Rattle.clif_insts.specs.Values.{commas_value, seen}
 use Rattle.clif_insts.specs.InstValues.{inst_value}
-use Rattle.clif_insts.proofs.Seen.{Is, then_is, map_is, also, opt_is, alt_is, name_is}
+use Rattle.clif_insts.proofs.Seen.{Is, then_is, map_is, opt_is, alt_is, name_is}
 use Rattle.clif_insts.proofs.PartLaws.{commas_is, number_is, values_is, more_values_is}
 use Rattle.clif_insts.proofs.InstLaws.{inst_is}
 use Rattle.clif_read.specs.declared.raw.RawTag.{RawTag}
@@ -28,8 +27,7 @@ use Rattle.clif_read.specs.declared.lines.LinePart.TheVariants.{Whole, Values}
 use Rattle.clif_read.specs.ModuleGrammar.{debug_tag, debug_tags, made, named, named_or_values, tagged, located, other_line, line, line_or_values, lines}
 use Rattle.clif_read.specs.LineValues.{made_value, debug_tag_value, debug_tags_value, values_from, named_by, named_value, tagged_by, tagged_value, located_value, other_line_value, line_value, values_by, named_or_values_by, named_or_values_value, line_or_values_value, with_values, lines_from, lines_of, part_value, lines_value}
 use Rattle.clif_read.specs.Tags.{debug_tag_at, comma_tag_at, more_tags_at, some_tags_at, debug_tags_at}
-use Rattle.clif_read.specs.Lines.{made_at, alias_at, results_at, named_at, plain_at, tagged_results_at, tagged_at, located_at, other_line_at, opt_made_at, named_or_values_at, line_at, is_return, to_last, add_part, more_lines_at, lines_at}
-use Rattle.clif_read.proofs.Ends.{Ends}
+use Rattle.clif_read.specs.Lines.{made_at, alias_at, results_at, named_at, plain_at, tagged_results_at, tagged_at, located_at, other_line_at, opt_made_at, values_or_results_at, named_or_values_at, line_at, is_return, to_last, add_part, more_lines_at, lines_at}
 use Rattle.clif_read.proofs.LineEnds.{line_ends, line_or_values_ends}
 
 -- ---- debug tags
@@ -106,12 +104,16 @@ opt_made_is : (values : List RawName) → Is (Opt made) (values_by values) (opt_
 unfolding opt_made_at
 opt_made_is values = opt_is (map_is made_is (λ inst. Whole (raw_lines.Inst None [] values inst))) (Values values)
 
+values_or_results_is : (first : RawName) → Is (Many (comma then value) then Opt made) (λ v. values_by (values_from first v.0) v.1) (values_or_results_at first)
+unfolding values_or_results_at
+values_or_results_is first = then_is (more_values_is (first ∷ [])) (Opt made) values_by opt_made_at opt_made_is
+
 named_or_values_is : Is named_or_values named_or_values_value named_or_values_at
 unfolding named_or_values_at
 named_or_values_is =
     then_is (name_is classes.Value) ((arrow then value) or (Many (comma then value) then Opt made)) named_or_values_by
-    (λ first ts. cond (heads (code classes.Arrow ∷ []) ts) (alias_at None first ts >>= λ l. Ok (Whole l.0, l.1)) (more_values_at (first ∷ []) ts >>= λ values. opt_made_at values.0 values.1))
-    (λ first. alt_is (map_is (alias_is None first) Whole) (then_is (more_values_is (first ∷ [])) (Opt made) values_by opt_made_at opt_made_is))
+    (λ first ts. cond (heads (code classes.Arrow ∷ []) ts) (alias_at None first ts >>= λ l. Ok (Whole l.0, l.1)) (values_or_results_at first ts))
+    (λ first. alt_is (map_is (alias_is None first) Whole) (values_or_results_is first))
 
 line_or_values_is : Is line_or_values line_or_values_value (line_at true)
 unfolding line_at
@@ -182,10 +184,17 @@ one_turn n turns before after_return ts (Ok x) h =
     ∙ ap (λ f. seen (behind (add_part before (part_value x.0))) (links f n x.1)) (sym (return_ends after_return ts x h))
     ∙ seen_more before x.0 (links (ends (code classes.Return) after_return (used ts x.1)) n x.1)
 
+-- a line and the values of a `return` begin alike
+same_firsts : (after_return : Bool) → flag_firsts line line_or_values after_return ≡ firsts line
+same_firsts true = refl
+same_firsts false = refl
+
 turns_are : (n : ℕ) → Turns n
 unfolding more_lines_at
 turns_are zero before after_return ts = refl
-turns_are (suc n) before after_return ts = go (turns_are n) (heads (firsts line) ts)
+turns_are (suc n) before after_return ts =
+    go (turns_are n) (heads (firsts line) ts)
+    ∙ ap (λ (cs : List ℕ). seen (behind before) (cond (heads cs ts) (rule_step n after_return ts (part after_return ts)) (Ok ([], ts)))) (sym (same_firsts after_return))
   where
     go : Turns n → (b : Bool) → cond b (code_step n before (line_at after_return ts)) (Ok (before, ts)) ≡ seen (behind before) (cond b (rule_step n after_return ts (part after_return ts)) (Ok ([], ts)))
     go turns true = ap (code_step n before) (part_is after_return ts) ∙ one_turn n turns before after_return ts (part after_return ts) refl

@@ -1,13 +1,15 @@
 -- The loop over the lines of a block.
-use Rattle.std.proofs.Common.{◌≡◌, ℕ, zero, suc, ◌≤◌, ◌<◌, Bool, true, false, List, [], ◌∷◌, length, Ok, Err, sym, ◌∙◌, arith, refl}
-use Rattle.grammar.specs.Rules.{Lexeme, Kind, Syntax, UnknownOpcode, Unsupported, Out, heads, firsts, ◌>>=◌}
+use Rattle.std.proofs.Common.{◌≡◌, ℕ, zero, suc, ◌+◌, ◌≤◌, ◌<◌, Bool, true, false, List, [], ◌∷◌, length, Ok, Err, slice_index_or, slice_set, ap, sym, ◌∙◌, arith, refl}
+use Rattle.grammar.specs.Rules.{Lexeme, Kind, Syntax, UnknownOpcode, Unsupported, Out, heads, firsts}
 use Rattle.clif_insts.specs.declared.stop.Stop.{Stop}
 use Rattle.clif_insts.specs.declared.stop.Stop.TheVariants as stops
 use Rattle.clif_insts.specs.Reading.{Stops}
+use Rattle.clif_insts.specs.declared.raw.RawName.{RawName}
 use Rattle.clif_read.specs.declared.raw.RawLine.{RawLine}
 use Rattle.clif_read.specs.declared.lines.LinePart.{LinePart}
 use Rattle.clif_read.specs.ModuleGrammar.{line}
-use Rattle.clif_read.specs.Lines.{line_at, is_return, add_part, more_lines_at}
+use Rattle.clif_read.specs.LineValues.{with_values}
+use Rattle.clif_read.specs.Lines.{line_at, is_return, to_last, add_part, more_lines_at}
 
 -- What the loop keeps: the lines so far, and what is still read, are what is read in all. Enough turns are left.
 abbrev pub KeepsLines : List RawLine → Bool → List Lexeme → Out (List RawLine) → Type 0
@@ -48,3 +50,11 @@ is_done before after_return ts total h (zero, le, so_far) = sym so_far
 is_done before after_return ts total h (suc n, le, so_far) =
     let one : more_lines_at (suc n) before after_return ts ≡ Ok (before, ts) = rw h refl in
     sym so_far ∙ one
+
+-- the last line, with its values
+pub last_set : (n : ℕ) (lines : List RawLine) (old new : RawLine) (values : List RawName) → n + 1 ≡ length lines → old ≡ slice_index_or lines n old → new ≡ with_values values old → slice_set lines n new ≡ to_last values lines
+last_set n [] old new values h e f = absurd (omega arith)
+last_set zero (l ∷ []) old new values h e f = rw (f, e) refl
+last_set (suc n) (l ∷ []) old new values h e f = absurd (omega arith)
+last_set zero (l ∷ next ∷ more) old new values h e f = absurd (omega arith)
+last_set (suc n) (l ∷ next ∷ more) old new values h e f = ap (λ (ls : List RawLine). l ∷ ls) (last_set n (next ∷ more) old new values (omega arith) e f)

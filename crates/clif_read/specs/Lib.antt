@@ -11,3 +11,5 @@ pub mod ModuleGrammar
 pub mod DeclarationValues
 pub mod LineValues
 pub mod ModuleValues
+pub mod Tags
+pub mod Lines

@@ -1,12 +1,12 @@
 -- What the trees of lines mean, one definition a rule. The values of a `return` stand behind it, and are given to it.
 use Rattle.std.specs.Prelude.{ℕ, List, [], ◌∷◌, map, Option, Some, None, ◌⊎◌}
-use Rattle.grammar.specs.Rules.{Rule, Opt, Many, Value}
+use Rattle.grammar.specs.Rules.{Opt, Many, Value}
 use Rattle.clif_words.specs.declared.class.Class.TheVariants as classes
 use Rattle.clif_insts.specs.declared.raw.RawName.{RawName}
 use Rattle.clif_insts.specs.declared.raw.RawInst.{RawInst}
 use Rattle.clif_insts.specs.declared.raw.RawOperands.TheVariants as operands
-use Rattle.clif_words.specs.Terminals.{◌then◌, ◌or◌, comma, arrow, value, slot}
-use Rattle.clif_insts.specs.Grammar.{commas, number, inst}
+use Rattle.clif_words.specs.Terminals.{◌then◌, ◌or◌, comma, arrow, value}
+use Rattle.clif_insts.specs.Grammar.{commas, inst}
 use Rattle.clif_insts.specs.Reading.{name}
 use Rattle.clif_insts.specs.Values.{◌otherwise◌, perhaps, commas_value, number_value}
 use Rattle.clif_insts.specs.InstValues.{raw, inst_value}

@@ -1,6 +1,6 @@
 -- What the trees of blocks, functions and modules mean, one definition a rule.
-use Rattle.std.specs.Prelude.{ℕ, List, [], ◌∷◌, map, Bool, true, false}
-use Rattle.grammar.specs.Rules.{Rule, Opt, Value}
+use Rattle.std.specs.Prelude.{List, [], ◌∷◌, map, Bool, true, false}
+use Rattle.grammar.specs.Rules.{Opt, Value}
 use Rattle.clif_words.specs.Terminals.{cold}
 use Rattle.clif_insts.specs.Reading.{name}
 use Rattle.clif_insts.specs.Values.{perhaps, commas_value, any_type_value}

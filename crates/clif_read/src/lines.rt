@@ -6,6 +6,7 @@ ghost use Rattle.clif_insts.specs.declared.stop.Stop.TheVariants.{NoMemory};
 ghost use Rattle.clif_insts.specs.Reading.{Gives, same};
 ghost use Rattle.clif_words.specs.Classes.{code};
 ghost use Rattle.clif_read.specs.ModuleGrammar as grammar;
+ghost use Rattle.clif_read.specs.LineValues as meaning;
 ghost use Rattle.clif_read.specs.Lines as spec;
 
 use crate::raw::{RawLine, RawTag};
@@ -36,11 +37,7 @@ fn made(alloc: Global, reader: &mut Reader<'_>) -> Result<RawInst, Stop>
 
 /// `-> vN`
 #[tactic(auto, unfolding(crate::specs::Lines::alias_at))]
-fn alias(
-    reader: &mut Reader<'_>,
-    location: Option<usize>,
-    alias: RawName,
-) -> Result<RawLine, Stop>
+fn alias(reader: &mut Reader<'_>, location: Option<usize>, alias: RawName) -> Result<RawLine, Stop>
     ensures is { Gives same reader.new result (spec.alias_at location alias reader.old) }
     ensures shorter { IfOk result (λ _. length reader.new < length reader.old) }
 {
@@ -77,11 +74,7 @@ fn results(
 
 /// What begins with a value: an alias, or results and their instruction.
 #[tactic(auto, unfolding(crate::specs::Lines::named_at))]
-fn named(
-    alloc: Global,
-    reader: &mut Reader<'_>,
-    location: Option<usize>,
-) -> Result<RawLine, Stop>
+fn named(alloc: Global, reader: &mut Reader<'_>, location: Option<usize>) -> Result<RawLine, Stop>
     ensures is { Gives same reader.new result (spec.named_at location reader.old) }
     ensures shorter { IfOk result (λ _. length reader.new < length reader.old) }
 {
@@ -137,11 +130,7 @@ fn tagged_results(
 
 /// What begins with tags.
 #[tactic(auto, unfolding(crate::specs::Lines::tagged_at))]
-fn tagged(
-    alloc: Global,
-    reader: &mut Reader<'_>,
-    location: Option<usize>,
-) -> Result<RawLine, Stop>
+fn tagged(alloc: Global, reader: &mut Reader<'_>, location: Option<usize>) -> Result<RawLine, Stop>
     ensures is { Gives same reader.new result (spec.tagged_at location reader.old) }
     ensures shorter { IfOk result (λ _. length reader.new < length reader.old) }
 {
@@ -188,11 +177,7 @@ fn other_line(alloc: Global, reader: &mut Reader<'_>) -> Result<RawLine, Stop>
 
 /// Values, and perhaps the instruction of which they are the results.
 #[tactic(auto, unfolding(crate::specs::Lines::opt_made_at))]
-fn opt_made(
-    alloc: Global,
-    reader: &mut Reader<'_>,
-    values: List<RawName>,
-) -> Result<LinePart, Stop>
+fn opt_made(alloc: Global, reader: &mut Reader<'_>, values: List<RawName>) -> Result<LinePart, Stop>
     ensures is { Gives same reader.new result (spec.opt_made_at values reader.old) }
     ensures shorter { IfOk result (λ _. length reader.new ≤ length reader.old) }
 {
@@ -209,6 +194,21 @@ fn opt_made(
     }
 }
 
+/// A first value, and those behind it.
+#[tactic(auto, unfolding(crate::specs::Lines::values_or_results_at))]
+fn values_or_results(
+    alloc: Global,
+    reader: &mut Reader<'_>,
+    first: RawName,
+) -> Result<LinePart, Stop>
+    ensures is { Gives same reader.new result (spec.values_or_results_at first reader.old) }
+    ensures shorter { IfOk result (λ _. length reader.new ≤ length reader.old) }
+{
+    let front = one_value(alloc, first)?;
+    let values = more_values(reader, front)?;
+    opt_made(alloc, reader, List::from_vec(values))
+}
+
 /// What begins with a value behind a `return`.
 #[tactic(auto, unfolding(crate::specs::Lines::named_or_values_at))]
 fn named_or_values(alloc: Global, reader: &mut Reader<'_>) -> Result<LinePart, Stop>
@@ -219,9 +219,7 @@ fn named_or_values(alloc: Global, reader: &mut Reader<'_>) -> Result<LinePart, S
     if reader.next_is(Class::Arrow) {
         Ok(LinePart::Whole(alias(reader, None, first)?))
     } else {
-        let front = one_value(alloc, first)?;
-        let values = more_values(reader, front)?;
-        opt_made(alloc, reader, List::from_vec(values))
+        values_or_results(alloc, reader, first)
     }
 }
 
@@ -270,12 +268,21 @@ fn begins_line(reader: &Reader<'_>) -> bool
     }
 }
 
-/// Gives the values to the last line, if it is an instruction.
+/// Gives the values to a line, if it is an instruction.
+fn give_values(line: &mut RawLine, values: List<RawName>)
+    ensures { line.new ≡ meaning.with_values values line.old }
+{
+    if let RawLine::Inst { inst, .. } = line {
+        inst.operands = RawOperands::Return(values);
+    }
+}
+
+/// Gives the values to the last line.
 fn give_to_last(lines: &mut Vec<RawLine>, values: List<RawName>)
     ensures { lines.new.items ≡ spec.to_last values lines.old.items }
 {
-    if let Some(RawLine::Inst { inst, .. }) = lines.last_mut() {
-        inst.operands = RawOperands::Return(values);
+    if let Some(line) = lines.last_mut() {
+        give_values(line, values);
     }
 }
 

@@ -14,3 +14,4 @@ pub mod Excepted
 pub mod Views
 pub mod Singles
 pub mod FlagLetter
+pub mod Next

@@ -30,3 +30,4 @@ pub mod Ends
 pub mod LineEnds
 pub mod LineLaws
 pub mod LineLoop
+pub mod AttributeLetter

@@ -13,3 +13,4 @@ pub mod LineValues
 pub mod ModuleValues
 pub mod Tags
 pub mod Lines
+pub mod AttributeLetter

@@ -4,10 +4,17 @@ ghost use Rattle.std.specs.Prelude.{◌≡◌, ℕ, List, Ok};
 ghost use Rattle.clif_lex.specs.declared.spans.Token.{Token};
 ghost use Rattle.clif_lex.specs.Lexing.{tokens_of};
 ghost use Rattle.ir_core.specs.Module.{Module};
+ghost use Rattle.grammar.specs.Rules.{Lexeme};
+ghost use Rattle.clif_read.specs.AttributeLetter.{AttributesLetter};
 ghost use Rattle.clif_read.specs.SimpleModule.{Means};
 ghost use Rattle.clif_read.specs.SimpleBack.{ReadsBack};
 
 /// The canonical text of a module that a simple text means is a simple text, and means that module alone.
 pub fn simple_text_reads_back()
     ensures { (text : List ℕ) (tokens : List Token) (m : Module) → tokens_of text ≡ Ok tokens → Means text tokens m → ReadsBack m }
+{}
+
+/// The attributes of a parameter are those of the EBNF, any number of the four words, at most one of each pair: the same texts, which mean the same, and the same beginnings.
+pub fn attributes_by_the_letter()
+    ensures { (tokens : List Lexeme) → AttributesLetter tokens }
 {}

@@ -94,22 +94,30 @@ pub(crate) fn word(spelling: &[u8]) -> (Class, u64)
     (plain_word(spelling), 0)
 }
 
+/// Whether a word is spelled so.
+#[inline(always)]
+fn spells(spelling: &[u8], word: &[u8]) -> bool
+    ensures { result ≡ bytes_eq spelling.now word.now }
+{
+    spelling.len() == word.len() && spelling.iter().zip(word).all(|(c, d)| c == d)
+}
+
 /// The class of a word that is no entity.
 #[inline]
 fn plain_word(spelling: &[u8]) -> Class
     ensures { result ≡ spec.plain_word spelling.now }
 {
-    if spelling == b"iadd".as_slice() {
+    if spells(spelling, b"iadd") {
         Class::Iadd
-    } else if spelling == b"iconst".as_slice() {
+    } else if spells(spelling, b"iconst") {
         Class::Iconst
-    } else if spelling == b"i64".as_slice() {
+    } else if spells(spelling, b"i64") {
         Class::I64
-    } else if spelling == b"return".as_slice() {
+    } else if spells(spelling, b"return") {
         Class::Return
-    } else if spelling == b"function".as_slice() {
+    } else if spells(spelling, b"function") {
         Class::Function
-    } else if spelling == b"fast".as_slice() {
+    } else if spells(spelling, b"fast") {
         Class::Fast
     } else {
         Class::Other

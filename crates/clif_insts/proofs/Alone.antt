@@ -4,16 +4,17 @@ use Rattle.std.specs.Prelude.{◌⊎◌}
 use Rattle.std.proofs.lemmas.Bool.{eqb-true}
 use Rattle.grammar.specs.Rules.{Lexeme, Rule, Many, Value, Kind, Syntax, Out, heads, exts, read, ◌>>=◌}
 use Rattle.grammar.proofs.Laws.{sound, complete}
-use Rattle.clif_insts.specs.declared.class.Class.{Class}
-use Rattle.clif_insts.specs.declared.class.Class.TheVariants as classes
+use Rattle.clif_words.specs.declared.class.Class.{Class}
+use Rattle.clif_words.specs.declared.class.Class.TheVariants as classes
 use Rattle.clif_insts.specs.declared.raw.RawName.{RawName}
+use Rattle.clif_insts.specs.declared.opening.Opening.TheVariants.{AfterResults}
 use Rattle.clif_insts.specs.declared.raw.RawInst.{RawInst}
 use Rattle.clif_insts.specs.declared.raw.RawOperands.TheVariants as operands
-use Rattle.clif_insts.specs.Classes.{code}
-use Rattle.clif_insts.specs.Terminals.{◌then◌, ◌or◌, arrow, comma, equals, value}
+use Rattle.clif_words.specs.Classes.{code}
+use Rattle.clif_words.specs.Terminals.{◌then◌, ◌or◌, arrow, comma, equals, value}
 use Rattle.clif_insts.specs.Grammar.{return_alone}
 use Rattle.clif_insts.specs.Reading.{next_is, name, name_at}
-use Rattle.clif_insts.specs.Parts.{more_values_at, values_at}
+use Rattle.clif_insts.specs.Arguments.{more_values_at, values_at}
 use Rattle.clif_insts.specs.Values.{◌otherwise◌, seen}
 use Rattle.clif_insts.specs.InstValues.{raw}
 use Rattle.clif_insts.specs.Forms.{inst_by, inst_at, return_inst_at, opt_values_at, return_values_at, whole_at, own_values_at, return_line_at, one_at}
@@ -109,15 +110,15 @@ decide ts = go (next_is classes.Value ts) refl
 
 -- ---- one instruction
 
-by_return : (p q : List Lexeme → Out RawInst) (ts : List Lexeme) → inst_by p ts ≡ cond (next_is classes.Return ts) (p ts) (inst_by q ts)
+by_return : (p q : List Lexeme → Out RawInst) (ts : List Lexeme) → inst_by AfterResults p ts ≡ cond (next_is classes.Return ts) (p ts) (inst_by AfterResults q ts)
 by_return p q [] = refl
 by_return p q (x ∷ xs) = go (code classes.Return == x.class) refl
   where
-    go : (b : Bool) → (code classes.Return == x.class) ≡ b → inst_by p (x ∷ xs) ≡ cond (next_is classes.Return (x ∷ xs)) (p (x ∷ xs)) (inst_by q (x ∷ xs))
+    go : (b : Bool) → (code classes.Return == x.class) ≡ b → inst_by AfterResults p (x ∷ xs) ≡ cond (next_is classes.Return (x ∷ xs)) (p (x ∷ xs)) (inst_by AfterResults q (x ∷ xs))
     go true e = let same : x.class ≡ code classes.Return = sym (eqb-true (code classes.Return) x.class e) in rw same refl
     go false e = rw e refl
 
-whole_by : (ts : List Lexeme) → whole_at ts ≡ cond (next_is classes.Return ts) (return_values_at ts) (inst_at ts)
+whole_by : (ts : List Lexeme) → whole_at ts ≡ cond (next_is classes.Return ts) (return_values_at ts) (inst_at AfterResults ts)
 unfolding whole_at inst_at
 whole_by ts = by_return return_values_at return_inst_at ts
 

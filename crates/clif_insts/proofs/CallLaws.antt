@@ -1,13 +1,17 @@
 -- Each form is read as its rule of the grammar says.
 use Rattle.std.proofs.Common.{[], None, Ok}
 use Rattle.grammar.specs.Rules.{Opt, ◌>>=◌}
-use Rattle.clif_insts.specs.declared.class.Class.TheVariants as classes
-use Rattle.clif_insts.specs.declared.parts.Place.TheVariants as places
+use Rattle.clif_words.specs.declared.class.Class.TheVariants as classes
+use Rattle.clif_insts.specs.declared.targets.Place.TheVariants as places
 use Rattle.clif_insts.specs.declared.raw.RawOperands.TheVariants as operands
-use Rattle.clif_insts.specs.Terminals.{◌then◌, value, comma, sig, callee, br_table, return_word, trap, trap_if, call, try_call, call_indirect, try_call_indirect}
+use Rattle.clif_words.specs.Terminals.{◌then◌, value, comma, sig, callee, br_table, return_word, trap, trap_if, call, try_call, call_indirect, try_call_indirect}
 use Rattle.clif_insts.specs.Grammar.{suffix, suffix_i64, any_trap, target, normal_target, table, args, target_list}
 use Rattle.clif_insts.specs.Reading.{name, name_at}
-use Rattle.clif_insts.specs.Parts.{opt_suffix_at, opt_suffix_i64_at, trap_at, args_at, target_at, target_list_at, table_at}
+use Rattle.clif_insts.specs.Types.{opt_suffix_at, opt_suffix_i64_at}
+use Rattle.clif_insts.specs.Codes.{trap_at}
+use Rattle.clif_insts.specs.Arguments.{args_at}
+use Rattle.clif_insts.specs.Targets.{target_at, target_list_at}
+use Rattle.clif_insts.specs.Tables.{table_at}
 use Rattle.clif_insts.specs.Values.{opt_suffix_value, trap_value, args_value, branch_value, normal_value, target_list_value, table_value}
 use Rattle.clif_insts.specs.InstValues.{raw, br_table_value, return_inst_value, trap_inst_value, trap_if_value, call_value, try_call_value, call_indirect_value, try_call_indirect_value}
 use Rattle.clif_insts.specs.Forms.{br_table_at, return_inst_at, trap_inst_at, trap_if_at, call_at, try_call_at, call_indirect_at, try_call_indirect_at}

@@ -3,15 +3,15 @@ use Rattle.std.proofs.Common.{◌≡◌, ℕ, Bool, true, false, cond, ◌==◌,
 use Rattle.std.proofs.lemmas.List.{append-nil}
 use Rattle.std.proofs.lemmas.Bool.{eqb-true}
 use Rattle.grammar.specs.Rules.{Lexeme, Rule, Opt, Many, Value, Unsupported, Out, heads, firsts, ◌>>=◌}
-use Rattle.clif_insts.specs.declared.class.Class.{Class}
-use Rattle.clif_insts.specs.declared.class.Class.TheVariants as classes
+use Rattle.clif_words.specs.declared.class.Class.{Class}
+use Rattle.clif_words.specs.declared.class.Class.TheVariants as classes
 use Rattle.clif_insts.specs.declared.raw.RawFlag.{RawFlag}
 use Rattle.clif_insts.specs.declared.raw.RawFlag.TheVariants as flag_words
-use Rattle.clif_insts.specs.Classes.{code}
-use Rattle.clif_insts.specs.Terminals.{◌then◌, ◌or◌, one, codes_of}
+use Rattle.clif_words.specs.Classes.{code}
+use Rattle.clif_words.specs.Terminals.{◌then◌, ◌or◌, one, codes_of}
 use Rattle.clif_insts.specs.Grammar.{plain_flag, flags}
 use Rattle.clif_insts.specs.Reading.{next_is, name_at, each, with_front}
-use Rattle.clif_insts.specs.Parts.{flag_of, begins_plain_flag, plain_flag_at, plain_flags_at, order_flag, ordered_flag_at, ordered_flags_at, flags_at}
+use Rattle.clif_insts.specs.Flags.{flag_of, begins_plain_flag, plain_flag_at, plain_flags_at, order_flag, ordered_flag_at, ordered_flags_at, flags_at}
 use Rattle.clif_insts.specs.Values.{either, ◌otherwise◌, perhaps, never, plain_flag_value, from_big, from_little, flags_value}
 use Rattle.clif_insts.proofs.Seen.{Is, then_is, map_is, also, opt_is, alt_is, many_is, refuse_is, name_is}
 

@@ -1,7 +1,4 @@
-pub mod Buckets
-pub mod Decimals
 pub mod Loops
-pub mod Tags
 pub mod Seen
 pub mod PartLaws
 pub mod FlagLaws
@@ -13,4 +10,5 @@ pub mod Alone
 pub mod Firm
 pub mod One
 pub mod Takes
+pub mod Excepted
 pub mod Views

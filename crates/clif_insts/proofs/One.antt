@@ -6,10 +6,10 @@ use Rattle.grammar.specs.Rules as rules
 use Rattle.grammar.proofs.Laws.{sound, complete, ok_is}
 use Rattle.grammar.proofs.Past.{Left, past}
 use Rattle.grammar.proofs.Exact.{exact}
-use Rattle.clif_insts.specs.declared.class.Class.TheVariants as classes
+use Rattle.clif_words.specs.declared.class.Class.TheVariants as classes
 use Rattle.clif_insts.specs.declared.raw.RawInst.{RawInst}
 use Rattle.clif_insts.specs.declared.raw.RawOperands.TheVariants as operands
-use Rattle.clif_insts.specs.Classes.{code}
+use Rattle.clif_words.specs.Classes.{code}
 use Rattle.clif_insts.specs.Grammar.{whole_inst}
 use Rattle.clif_insts.specs.declared.stop.Stop.{Stop}
 use Rattle.clif_insts.specs.declared.stop.Stop.TheVariants as stops

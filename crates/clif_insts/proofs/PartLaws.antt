@@ -2,21 +2,26 @@
 use Rattle.std.proofs.Common.{cond, List, [], ◌∷◌, ◌++◌, length, map, Option, Some, None, Ok}
 use Rattle.grammar.specs.Rules.{Lexeme, Rule, Opt, Many, Value, Unsupported, Out, heads, firsts, ◌>>=◌}
 use Rattle.ir_core.specs.declared.signatures.Ty.TheVariants as ty_words
-use Rattle.clif_insts.specs.declared.class.Class.{Class}
-use Rattle.clif_insts.specs.declared.class.Class.TheVariants as classes
-use Rattle.clif_insts.specs.declared.parts.Place.{Place}
-use Rattle.clif_insts.specs.declared.parts.Place.TheVariants as places
+use Rattle.clif_words.specs.declared.class.Class.{Class}
+use Rattle.clif_words.specs.declared.class.Class.TheVariants as classes
+use Rattle.clif_insts.specs.declared.targets.Place.{Place}
+use Rattle.clif_insts.specs.declared.targets.Place.TheVariants as places
 use Rattle.clif_insts.specs.declared.raw.RawName.{RawName}
 use Rattle.clif_insts.specs.declared.raw.RawArg.{RawArg}
 use Rattle.clif_insts.specs.declared.raw.RawArg.TheVariants as raw_args
 use Rattle.clif_insts.specs.declared.raw.RawTarget.{RawTarget}
 use Rattle.clif_insts.specs.declared.raw.RawEntry.{RawEntry}
 use Rattle.clif_insts.specs.declared.raw.RawTrap.TheVariants as traps
-use Rattle.clif_insts.specs.Classes.{code}
-use Rattle.clif_insts.specs.Terminals.{◌then◌, ◌or◌, one, value, comma, colon, ret, exn, ty_i64, left_paren, right_paren, condition, signed}
+use Rattle.clif_words.specs.Classes.{code}
+use Rattle.clif_words.specs.Terminals.{◌then◌, ◌or◌, one, value, comma, colon, ret, exn, ty_i64, left_paren, right_paren, condition, signed}
 use Rattle.clif_insts.specs.Grammar.{commas, number, refused_type, any_type, suffix, suffix_i64, any_trap, call_to, target, normal_target, handler, entry_name, entry, table, args, target_list}
 use Rattle.clif_insts.specs.Reading.{name, name_at, each, with_front}
-use Rattle.clif_insts.specs.Parts.{type_of, type_at, suffix_at, opt_suffix_at, i64_at, suffix_i64_at, opt_suffix_i64_at, condition_of, condition_at, trap_of, trap_at, comma_name_at, more_values_at, values_at, args_at, arg_at, comma_arg_at, more_args_at, some_args_at, target_args_at, opt_target_args_at, target_at, comma_target_at, more_targets_at, targets_at, target_list_at, entry_tag_at, entry_at, comma_entry_at, more_entries_at, entries_at, table_at, number_at, offset_at}
+use Rattle.clif_insts.specs.Types.{type_of, type_at, suffix_at, opt_suffix_at, i64_at, suffix_i64_at, opt_suffix_i64_at}
+use Rattle.clif_insts.specs.Codes.{condition_of, condition_at, trap_of, trap_at}
+use Rattle.clif_insts.specs.Arguments.{comma_name_at, more_values_at, values_at, args_at}
+use Rattle.clif_insts.specs.Targets.{arg_at, comma_arg_at, more_args_at, some_args_at, target_args_at, opt_target_args_at, target_at, comma_target_at, more_targets_at, targets_at, target_list_at}
+use Rattle.clif_insts.specs.Tables.{entry_tag_at, entry_at, comma_entry_at, more_entries_at, entries_at, table_at}
+use Rattle.clif_insts.specs.Numbers.{number_at, offset_at}
 use Rattle.clif_insts.specs.Values.{◌otherwise◌, perhaps, never, commas_value, any_type_value, suffix_value, opt_suffix_value, number_value, offset_value, condition_value, trap_value, args_value, value_arg, target_value, branch_value, normal_value, handler_value, target_list_value, entry_name_value, entry_value, table_value}
 use Rattle.clif_insts.proofs.Seen.{Is, then_is, map_is, opt_is, alt_is, many_is, refuse_is, name_is, amount_is}
 

@@ -1,8 +1,8 @@
 -- The place of a reader's next token.
 use Rattle.std.proofs.Common.{◌≡◌, ℕ, List, [], ◌∷◌, Some, None, refl}
 use Rattle.clif_lex.specs.declared.spans.Token.{Token}
-use Rattle.clif_insts.specs.declared.items.Meaning.{Meaning}
-use Rattle.clif_insts.specs.Lexemes.{lexemes, Upcoming}
+use Rattle.clif_words.specs.declared.items.Meaning.{Meaning}
+use Rattle.clif_words.specs.Lexemes.{lexemes, Upcoming}
 use Rattle.clif_insts.specs.Insts.{place_or}
 
 pub place_some : (text : List ℕ) (place : ℕ) (ts : List Token) (m : Meaning) (end : ℕ) → Upcoming text ts (Some m) → place ≡ place_or end (lexemes text place ts)

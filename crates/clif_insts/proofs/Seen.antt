@@ -1,11 +1,10 @@
 -- What a rule's reading gives, seen as the values that the code makes. One lemma for each way to make a rule of others.
 use Rattle.std.proofs.Common.{◌≡◌, ℕ, zero, suc, true, false, cond, List, [], ◌∷◌, length, map, Option, Some, None, Ok, Err, refl, sym, ap, ◌∙◌, inl, inr}
-use Rattle.grammar.specs.Rules.{Lexeme, Kind, Syntax, Rule, Tok, Seq, Alt, Opt, Many, Value, Out, heads, member, firsts, token, read, repeat, ◌>>=◌}
-use Rattle.clif_insts.specs.declared.class.Class.{Class}
-use Rattle.clif_insts.specs.Classes.{code}
-use Rattle.clif_insts.specs.Terminals.{one, refused, codes_of}
-use Rattle.clif_insts.specs.Reading.{name, amount, name_at, amount_at, each}
-use Rattle.clif_insts.specs.Parts.{refuse}
+use Rattle.grammar.specs.Rules.{Lexeme, Kind, Syntax, Rule, Tok, Seq, Alt, Opt, Many, Refuse, Value, Out, heads, member, firsts, token, read, repeat, ◌>>=◌}
+use Rattle.clif_words.specs.declared.class.Class.{Class}
+use Rattle.clif_words.specs.Classes.{code}
+use Rattle.clif_words.specs.Terminals.{one, refused, codes_of}
+use Rattle.clif_insts.specs.Reading.{name, amount, name_at, amount_at, each, refuse, refuse_codes}
 use Rattle.clif_insts.specs.Values.{either, perhaps, seen}
 
 -- the reading p is that of the rule r, seen through f
@@ -122,10 +121,13 @@ pub many_is : {A : Type 0} {r : Rule} {f : Value r → A} {p : List Lexeme → O
 many_is {A} {r} {f} {p} e = record { same = λ ts. each_same p (λ us. seen f (read r us)) (firsts r) e.same (length ts) ts ∙ each_rule r f (length ts) ts }
 
 -- a token that is refused
-pub refuse_is : {A : Type 0} (classes : List Class) (kind : Kind) (f : ⊥ → A) → Is (refused classes kind) f (refuse classes kind)
-refuse_is {A} classes kind f = record { same = go }
+pub refuse_codes_is : {A : Type 0} (codes : List ℕ) (kind : Kind) (f : ⊥ → A) → Is (Refuse codes kind) f (refuse_codes codes kind)
+refuse_codes_is {A} codes kind f = record { same = go }
   where
-    go : (ts : List Lexeme) → refuse {A = A} classes kind ts ≡ seen f (read (refused classes kind) ts)
+    go : (ts : List Lexeme) → refuse_codes {A = A} codes kind ts ≡ seen f (read (Refuse codes kind) ts)
     go [] = refl
     go (x ∷ xs) =
-        elim (member x.class (codes_of classes)) as (λ b. (let e : Out A = Err (cond b kind Syntax, x ∷ xs) in e) ≡ seen f (cond {A = Out ⊥} b (Err (kind, x ∷ xs)) (Err (Syntax, x ∷ xs)))) [ true ↦ refl | false ↦ refl ]
+        elim (member x.class codes) as (λ b. (let e : Out A = Err (cond b kind Syntax, x ∷ xs) in e) ≡ seen f (cond {A = Out ⊥} b (Err (kind, x ∷ xs)) (Err (Syntax, x ∷ xs)))) [ true ↦ refl | false ↦ refl ]
+
+pub refuse_is : {A : Type 0} (classes : List Class) (kind : Kind) (f : ⊥ → A) → Is (refused classes kind) f (refuse classes kind)
+refuse_is classes kind f = refuse_codes_is (codes_of classes) kind f

@@ -2,10 +2,10 @@
 use Rattle.std.proofs.Common.{◌≡◌, ℕ, Bool, true, false, ◌==◌, ◌||◌, List, [], ◌∷◌, drop, Ok, Err, refl, sym, ◌∙◌}
 use Rattle.std.proofs.lemmas.Bool.{eqb-true, eq-eqb}
 use Rattle.grammar.specs.Rules.{Lexeme, Syntax}
-use Rattle.clif_insts.specs.declared.class.Class.{Class}
+use Rattle.clif_words.specs.declared.class.Class.{Class}
 use Rattle.clif_insts.specs.declared.raw.RawName.{RawName}
 use Rattle.clif_insts.specs.declared.raw.RawNumber.{RawNumber}
-use Rattle.clif_insts.specs.Classes.{code}
+use Rattle.clif_words.specs.Classes.{code}
 use Rattle.clif_insts.specs.Reading.{next_is, name, name_at, amount, amount_at}
 
 or_false : (b : Bool) → (b || false) ≡ b

@@ -1,14 +1,22 @@
 -- Instructions, read from left to right, one definition a form.
 use Rattle.std.specs.Prelude.{if◌then◌else◌, List, [], ◌∷◌, Some, None, Ok, Err}
 use Rattle.grammar.specs.Rules.{Lexeme, UnknownOpcode, Unsupported, Out, ◌>>=◌}
-use Rattle.clif_insts.specs.declared.class.Class.TheVariants as classes
-use Rattle.clif_insts.specs.declared.parts.Place.TheVariants as places
+use Rattle.clif_words.specs.declared.class.Class.TheVariants as classes
+use Rattle.clif_insts.specs.declared.opening.Opening.{Opening}
+use Rattle.clif_insts.specs.declared.opening.Opening.TheVariants.{AfterResults}
+use Rattle.clif_insts.specs.declared.targets.Place.TheVariants as places
 use Rattle.clif_insts.specs.declared.raw.RawName.{RawName}
 use Rattle.clif_insts.specs.declared.raw.RawInst.{RawInst}
 use Rattle.clif_insts.specs.declared.raw.RawOperands.TheVariants as operands
-use Rattle.clif_insts.specs.Terminals.{words}
-use Rattle.clif_insts.specs.Reading.{next_is, name_at}
-use Rattle.clif_insts.specs.Parts.{refuse, suffix_at, opt_suffix_at, suffix_i64_at, opt_suffix_i64_at, condition_at, trap_at, number_at, offset_at, flags_at, more_values_at, values_at, args_at, target_at, target_list_at, table_at}
+use Rattle.clif_insts.specs.Grammar.{excepted, words_but}
+use Rattle.clif_insts.specs.Reading.{next_is, name_at, refuse_codes}
+use Rattle.clif_insts.specs.Types.{suffix_at, opt_suffix_at, suffix_i64_at, opt_suffix_i64_at}
+use Rattle.clif_insts.specs.Codes.{condition_at, trap_at}
+use Rattle.clif_insts.specs.Arguments.{more_values_at, values_at, args_at}
+use Rattle.clif_insts.specs.Targets.{target_at, target_list_at}
+use Rattle.clif_insts.specs.Tables.{table_at}
+use Rattle.clif_insts.specs.Numbers.{number_at, offset_at}
+use Rattle.clif_insts.specs.Flags.{flags_at}
 
 unfoldable pub iconst_at : List Lexeme → Out RawInst
 iconst_at ts = do
@@ -230,9 +238,9 @@ try_call_indirect_at ts = do
   table ← table_at s7.1
   Ok (record { opcode = opcode.0; suffix = None; operands = operands.TryCallIndirect address.0 args.0 sig.0 normal.0 table.0 }, table.1)
 
--- an instruction, where a `return` is read in this way
-abbrev pub inst_by : (List Lexeme → Out RawInst) → List Lexeme → Out RawInst
-inst_by returned_at ts =
+-- an instruction behind what stands before it, where a `return` is read in this way
+abbrev pub inst_by : Opening → (List Lexeme → Out RawInst) → List Lexeme → Out RawInst
+inst_by opening returned_at ts =
     if next_is classes.Iconst ts then iconst_at ts
     else if next_is classes.Binary ts then binary_at ts
     else if next_is classes.Unary ts then unary_at ts
@@ -259,11 +267,11 @@ inst_by returned_at ts =
     else if next_is classes.CallIndirect ts then call_indirect_at ts
     else if next_is classes.TryCallIndirect ts then try_call_indirect_at ts
     else if next_is classes.RefusedOpcode ts then Err (Unsupported, ts)
-    else refuse words UnknownOpcode ts
+    else refuse_codes (words_but (excepted opening)) UnknownOpcode ts
 
 -- An instruction. The values of a `return` stand behind it.
-unfoldable pub inst_at : List Lexeme → Out RawInst
-inst_at ts = inst_by return_inst_at ts
+unfoldable pub inst_at : Opening → List Lexeme → Out RawInst
+inst_at opening ts = inst_by opening return_inst_at ts
 
 -- the values of a `return`, if there are any
 unfoldable pub opt_values_at : List Lexeme → Out (List RawName)
@@ -278,7 +286,7 @@ return_values_at ts = do
 
 -- an instruction, with the values of a `return`
 unfoldable pub whole_at : List Lexeme → Out RawInst
-whole_at ts = inst_by return_values_at ts
+whole_at ts = inst_by AfterResults return_values_at ts
 
 -- The values of a `return`, but none where they would be the results of the next line, or its alias.
 unfoldable pub own_values_at : List Lexeme → Out (List RawName)
@@ -296,4 +304,4 @@ return_line_at ts = do
 
 -- one instruction of a block, with the values of a `return` that are its own
 unfoldable pub one_at : List Lexeme → Out RawInst
-one_at ts = if next_is classes.Return ts then return_line_at ts else inst_at ts
+one_at ts = if next_is classes.Return ts then return_line_at ts else inst_at AfterResults ts

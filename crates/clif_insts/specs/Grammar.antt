@@ -3,9 +3,11 @@
 use Rattle.std.specs.Prelude.{◌≡◌, ℕ, true, not, List, [], ◌∷◌, refl}
 use Rattle.std.specs.List.{filter}
 use Rattle.grammar.specs.Rules.{Rule, Opt, Many, Refuse, UnknownOpcode, Unsupported, member, good}
-use Rattle.clif_insts.specs.declared.class.Class.{Class}
-use Rattle.clif_insts.specs.declared.class.Class.TheVariants as classes
-use Rattle.clif_insts.specs.Terminals.{◌then◌, ◌or◌, codes_of, refused, words, unsigned, signed, left_paren, right_paren, left_bracket, right_bracket, comma, colon, dot, arrow, equals, ty, ty_i64, vmctx, flag, little, big, trap_code, user_trap, condition, value, block, slot, sig, callee, tag, ret, exn, default_word, iconst, binary, unary, icmp, select, convert, binary_imm, icmp_imm, load, load_wide, store, stack_load, stack_store, func_addr, nullary, jump, brif, br_table, return_word, trap, trap_if, call, try_call, call_indirect, try_call_indirect}
+use Rattle.clif_words.specs.declared.class.Class.{Class}
+use Rattle.clif_words.specs.declared.class.Class.TheVariants as classes
+use Rattle.clif_insts.specs.declared.opening.Opening.{Opening}
+use Rattle.clif_insts.specs.declared.opening.Opening.TheVariants.{AfterResults, AfterTags, LineStart}
+use Rattle.clif_words.specs.Terminals.{◌then◌, ◌or◌, codes_of, refused, words, unsigned, signed, left_paren, right_paren, left_bracket, right_bracket, comma, colon, dot, arrow, equals, ty, ty_i64, vmctx, flag, little, big, trap_code, user_trap, condition, value, block, slot, sig, callee, tag, ret, exn, default_word, iconst, binary, unary, icmp, select, convert, binary_imm, icmp_imm, load, load_wide, store, stack_load, stack_store, func_addr, nullary, jump, brif, br_table, return_word, trap, trap_if, call, try_call, call_indirect, try_call_indirect}
 
 abbrev pub commas : Rule → Rule
 commas a = a then Many (comma then a)
@@ -79,6 +81,12 @@ table = left_bracket then Opt (commas entry) then right_bracket
 abbrev pub args : Rule
 args = left_paren then Opt (commas value) then right_paren
 
+-- The classes of the words that may begin something else where an instruction may begin: results behind tags and a location, and at the line's beginning results or the head of a block.
+abbrev pub excepted : Opening → List Class
+excepted AfterResults = []
+excepted AfterTags = classes.Value ∷ []
+excepted LineStart = classes.Value ∷ classes.Block ∷ []
+
 -- the words but opcodes and those of these classes
 abbrev pub words_but : List Class → List ℕ
 words_but excepted = filter (λ c. not (member c (codes_of excepted))) (codes_of words)
@@ -131,7 +139,7 @@ abbrev pub return_alone : Rule
 return_alone = return_word then value then (arrow or (Many (comma then value) then equals))
 
 -- the next token always says which way to go
-pub inst_is_good : (good (inst []) ≡ true) × (good (inst (classes.Value ∷ [])) ≡ true) × (good (inst (classes.Value ∷ classes.Block ∷ [])) ≡ true)
+pub inst_is_good : (good (inst (excepted AfterResults)) ≡ true) × (good (inst (excepted AfterTags)) ≡ true) × (good (inst (excepted LineStart)) ≡ true)
 inst_is_good = (refl, refl, refl)
 
 pub whole_inst_is_good : (good whole_inst ≡ true) × (good return_alone ≡ true)

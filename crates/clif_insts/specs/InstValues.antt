@@ -2,12 +2,12 @@
 use Rattle.std.specs.Prelude.{List, [], Option, Some, None}
 use Rattle.grammar.specs.Rules.{Rule, Opt, Value}
 use Rattle.ir_core.specs.declared.signatures.Ty.{Ty}
-use Rattle.clif_insts.specs.declared.class.Class.{Class}
+use Rattle.clif_words.specs.declared.class.Class.{Class}
 use Rattle.clif_insts.specs.declared.raw.RawName.{RawName}
 use Rattle.clif_insts.specs.declared.raw.RawInst.{RawInst}
 use Rattle.clif_insts.specs.declared.raw.RawOperands.{RawOperands}
 use Rattle.clif_insts.specs.declared.raw.RawOperands.TheVariants as operands
-use Rattle.clif_insts.specs.Terminals.{◌then◌, signed, value, comma, condition, slot, sig, callee, iconst, binary, unary, icmp, select, convert, binary_imm, icmp_imm, load, load_wide, store, stack_load, stack_store, func_addr, nullary, jump, brif, br_table, return_word, trap, trap_if, call, try_call, call_indirect, try_call_indirect}
+use Rattle.clif_words.specs.Terminals.{◌then◌, signed, value, comma, condition, slot, sig, callee, iconst, binary, unary, icmp, select, convert, binary_imm, icmp_imm, load, load_wide, store, stack_load, stack_store, func_addr, nullary, jump, brif, br_table, return_word, trap, trap_if, call, try_call, call_indirect, try_call_indirect}
 use Rattle.clif_insts.specs.Grammar.{number, suffix, suffix_i64, any_trap, flags, target, normal_target, table, args, target_list, instruction, inst, return_values, whole_inst}
 use Rattle.clif_insts.specs.Reading.{name}
 use Rattle.clif_insts.specs.Values.{◌otherwise◌, perhaps, never, commas_value, suffix_value, opt_suffix_value, number_value, offset_value, condition_value, trap_value, args_value, flags_value, branch_value, normal_value, target_list_value, table_value}
@@ -120,8 +120,8 @@ instruction_value returned excepted returned_value =
     try_call_indirect_value otherwise
     never otherwise never
 
-abbrev pub inst_value : Value (inst []) → RawInst
-inst_value = instruction_value return_word [] return_inst_value
+abbrev pub inst_value : (excepted : List Class) → Value (inst excepted) → RawInst
+inst_value excepted = instruction_value return_word excepted return_inst_value
 
 -- `return` with its values
 abbrev pub return_values_value : Value return_values → RawInst

@@ -1,12 +1,13 @@
 -- Reading from left to right: a value and the tokens behind it, or why reading stopped and the tokens from there on.
 use Rattle.std.specs.Prelude.{◌≡◌, ℕ, zero, suc, Bool, if◌then◌else◌, List, [], ◌∷◌, ◌++◌, Result, Ok, Err}
-use Rattle.grammar.specs.Rules.{Lexeme, Syntax, UnknownOpcode, Unsupported, Out, heads, token, ◌>>=◌}
-use Rattle.clif_insts.specs.declared.class.Class.{Class}
+use Rattle.grammar.specs.Rules.{Lexeme, Kind, Syntax, UnknownOpcode, Unsupported, Out, heads, token, ◌>>=◌}
+use Rattle.clif_words.specs.declared.class.Class.{Class}
 use Rattle.clif_insts.specs.declared.raw.RawName.{RawName}
 use Rattle.clif_insts.specs.declared.raw.RawNumber.{RawNumber}
 use Rattle.clif_insts.specs.declared.stop.Stop.{Stop}
 use Rattle.clif_insts.specs.declared.stop.Stop.TheVariants as stops
-use Rattle.clif_insts.specs.Classes.{code}
+use Rattle.clif_words.specs.Classes.{code}
+use Rattle.clif_words.specs.Terminals.{codes_of}
 
 -- whether the next token is of the class
 abbrev pub next_is : Class → List Lexeme → Bool
@@ -51,3 +52,10 @@ unfoldable pub amount_at : Class → List Lexeme → Out RawNumber
 amount_at class ts = do
   x ← token (code class) ts
   Ok (amount x.0, x.1)
+
+-- no token fits here; those of the classes are refused as this kind
+abbrev pub refuse_codes : {A : Type 0} → List ℕ → Kind → List Lexeme → Out A
+refuse_codes codes kind ts = Err ((if heads codes ts then kind else Syntax), ts)
+
+abbrev pub refuse : {A : Type 0} → List Class → Kind → List Lexeme → Out A
+refuse classes kind ts = refuse_codes (codes_of classes) kind ts

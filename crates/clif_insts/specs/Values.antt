@@ -15,10 +15,12 @@ use Rattle.clif_insts.specs.declared.raw.RawFlag.{RawFlag}
 use Rattle.clif_insts.specs.declared.raw.RawFlag.TheVariants as flag_words
 use Rattle.clif_insts.specs.declared.raw.RawTrap.{RawTrap}
 use Rattle.clif_insts.specs.declared.raw.RawTrap.TheVariants as traps
-use Rattle.clif_insts.specs.Terminals.{◌then◌, ◌or◌, value, ret, exn, big, little, signed}
+use Rattle.clif_words.specs.Terminals.{◌then◌, ◌or◌, value, ret, exn, big, little, signed}
 use Rattle.clif_insts.specs.Grammar.{commas, number, any_type, suffix, any_trap, plain_flag, flags, call_to, target, normal_target, handler, entry_name, entry, table, args, target_list}
 use Rattle.clif_insts.specs.Reading.{name, amount}
-use Rattle.clif_insts.specs.Parts.{type_of, condition_of, trap_of, flag_of}
+use Rattle.clif_insts.specs.Types.{type_of}
+use Rattle.clif_insts.specs.Codes.{condition_of, trap_of}
+use Rattle.clif_insts.specs.Flags.{flag_of}
 
 -- of one of two, by what it is
 infixr 3 ◌otherwise◌

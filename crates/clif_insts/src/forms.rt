@@ -4,14 +4,18 @@ ghost use Rattle.std.specs.Prelude.{◌≡◌, ◌<◌, length, IfOk};
 ghost use Rattle.clif_insts.specs.Reading.{Gives, same};
 ghost use Rattle.clif_insts.specs.Forms as forms;
 
-use crate::class::Class;
-use crate::parts::{
-    Place, args, condition, flags, number, offset, opt_suffix, opt_suffix_i64, suffix, suffix_i64,
-    table, target, target_list, trap,
-};
+use crate::arguments::args;
+use crate::codes::{condition, trap};
+use crate::flags::flags;
+use crate::numbers::{number, offset};
+use crate::opening::Opening;
 use crate::raw::{RawInst, RawOperands};
 use crate::reader::Reader;
 use crate::stop::Stop;
+use crate::tables::table;
+use crate::targets::{Place, target, target_list};
+use crate::types::{opt_suffix, opt_suffix_i64, suffix, suffix_i64};
+use clif_words::Class;
 use ir_core::List;
 use std::alloc::Global;
 
@@ -504,10 +508,10 @@ fn try_call_indirect(alloc: Global, reader: &mut Reader<'_>) -> Result<RawInst, 
     })
 }
 
-/// An instruction. The values of a `return` are not part of it.
+/// An instruction behind what stands before it. The values of a `return` are not part of it.
 #[tactic(auto, unfolding(crate::specs::Forms::inst_at))]
-pub fn any_inst(alloc: Global, reader: &mut Reader<'_>) -> Result<RawInst, Stop>
-    ensures is { Gives same reader.new result (forms.inst_at reader.old) }
+pub fn any_inst(alloc: Global, reader: &mut Reader<'_>, opening: Opening) -> Result<RawInst, Stop>
+    ensures is { Gives same reader.new result (forms.inst_at opening reader.old) }
     ensures shorter { IfOk result (λ _. length reader.new < length reader.old) }
 {
     if reader.next_is(Class::Iconst) {
@@ -562,7 +566,7 @@ pub fn any_inst(alloc: Global, reader: &mut Reader<'_>) -> Result<RawInst, Stop>
         try_call_indirect(alloc, reader)
     } else if reader.next_is(Class::RefusedOpcode) {
         Err(Stop::Unsupported)
-    } else if reader.next_is_word() {
+    } else if reader.next_is_refused(opening) {
         Err(Stop::UnknownOpcode)
     } else {
         Err(Stop::Syntax)

@@ -2,19 +2,20 @@
 
 ghost use Rattle.std.specs.Prelude.{◌≡◌, ◌<◌, ◌≤◌, length, drop, Ok, IfOk, IfErr};
 ghost use Rattle.clif_lex.specs.Lexing.{tokens_of};
-ghost use Rattle.clif_insts.specs.Lexemes.{lexemes};
+ghost use Rattle.clif_words.specs.Lexemes.{lexemes};
 ghost use Rattle.clif_insts.specs.Reading.{Gives, same};
 ghost use Rattle.clif_insts.specs.Forms as forms;
 ghost use Rattle.clif_insts.specs.Insts.{Found, Stopped};
 ghost use Rattle.clif_insts.specs.Insts as insts;
 
-use crate::class::Class;
+use crate::arguments::{more_values, one_value};
 use crate::forms::any_inst;
-use crate::parts::{more_values, one_value};
+use crate::opening::Opening;
 use crate::raw::{RawInst, RawName, RawOperands};
 use crate::reader::Reader;
 use crate::stop::Stop;
 use clif_lex::Tokens;
+use clif_words::Class;
 use ir_core::List;
 use std::alloc::Global;
 
@@ -88,7 +89,7 @@ fn one_inst(alloc: Global, reader: &mut Reader<'_>) -> Result<RawInst, Stop>
     if reader.next_is(Class::Return) {
         return_line(alloc, reader)
     } else {
-        any_inst(alloc, reader)
+        any_inst(alloc, reader, Opening::AfterResults)
     }
 }
 

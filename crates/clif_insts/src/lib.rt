@@ -1,29 +1,32 @@
 //! The reader of one instruction.
 #![tactic(auto)]
 
-mod class;
+mod arguments;
+mod codes;
+mod flags;
 mod forms;
 mod insts;
-mod items;
 mod laws;
-mod opcodes;
-mod parts;
+mod numbers;
+mod opening;
 mod raw;
 mod reader;
 mod stop;
+mod tables;
+mod targets;
 #[cfg(test)]
 mod tests;
-mod words;
+mod types;
 
-pub use class::Class;
+pub use arguments::{comma_value, more_values, one_value, values};
 pub use forms::any_inst;
 pub use insts::{SyntaxErr, inst};
-pub use items::{Meaning, token_meaning};
-pub use opcodes::{OPCODES, Opcode, OpcodeRow};
-pub use parts::Place;
+pub use numbers::number;
+pub use opening::Opening;
 pub use raw::{
     RawArg, RawEntry, RawFlag, RawInst, RawName, RawNumber, RawOperands, RawTarget, RawTrap,
 };
 pub use reader::Reader;
 pub use stop::Stop;
-pub use words::Entry;
+pub use targets::Place;
+pub use types::any_type;

@@ -1,21 +1,21 @@
 //! The tokens of a text, read one after the other.
 
 ghost use Rattle.std.specs.Prelude.{◌≡◌, ◌≢◌, List, ◌∷◌, [], ◌<◌, ◌≤◌, length, drop, slice_get, false, IfOk, IfErr, IfSome};
-ghost use Rattle.grammar.specs.Rules.{Lexeme, heads, member};
-ghost use Rattle.clif_insts.specs.Terminals.{codes_of, words};
+ghost use Rattle.grammar.specs.Rules.{Lexeme, heads};
 ghost use Rattle.clif_lex.specs.Lexing.{tokens_of};
-ghost use Rattle.clif_insts.specs.Classes.{code};
-ghost use Rattle.clif_insts.specs.Lexemes.{lexemes};
-ghost use Rattle.clif_insts.specs.Lexemes as lexeme_specs;
+ghost use Rattle.clif_words.specs.Classes.{code};
+ghost use Rattle.clif_words.specs.Lexemes.{lexemes};
+ghost use Rattle.clif_words.specs.Lexemes as lexeme_specs;
+ghost use Rattle.clif_insts.specs.Grammar.{excepted, words_but};
 ghost use Rattle.clif_insts.specs.Insts.{place_or};
 ghost use Rattle.clif_insts.specs.Reading as spec;
 ghost use Rattle.clif_insts.specs.Reading.{Gives, same};
 
-use crate::class::Class;
-use crate::items::{Meaning, token_meaning};
+use crate::opening::Opening;
 use crate::raw::{RawName, RawNumber};
 use crate::stop::Stop;
 use clif_lex::{TokenKind, Tokens};
+use clif_words::{Class, Meaning, token_meaning};
 use std::marker::Model;
 
 /// The tokens that are still to be read. Comments are passed over.
@@ -34,7 +34,7 @@ impl<'a> Model for Reader<'a> {
     ghost use Rattle.std.specs.Prelude.{List, drop, ◌≡◌, ◌≤◌, length, Ok};
     ghost use Rattle.grammar.specs.Rules.{Lexeme};
     ghost use Rattle.clif_lex.specs.Lexing.{tokens_of};
-    ghost use Rattle.clif_insts.specs.Lexemes.{lexemes, Upcoming};
+    ghost use Rattle.clif_words.specs.Lexemes.{lexemes, Upcoming};
 
     ghost Value = { List Lexeme };
 
@@ -90,14 +90,6 @@ fn upcoming(text: &[u8], tokens: &Tokens, at: usize) -> Option<Meaning>
     } else {
         None
     }
-}
-
-/// Whether the class is that of words that are no opcodes.
-#[inline]
-fn is_word(class: Class) -> bool
-    ensures { result ≡ member (code class) (codes_of words) }
-{
-    Class::Function as u8 <= class as u8 && class as u8 <= Class::Other as u8
 }
 
 impl<'a> Reader<'a> {
@@ -209,13 +201,13 @@ impl<'a> Reader<'a> {
         RawNumber { value, spot }
     }
 
-    /// Whether the next token is a word that is no opcode.
+    /// Whether the next token is an unknown opcode, if an instruction is to begin here.
     #[inline]
-    pub fn next_is_word(&self) -> bool
-        ensures { result ≡ heads (codes_of words) self.now }
+    pub fn next_is_refused(&self, opening: Opening) -> bool
+        ensures { result ≡ heads (words_but (excepted opening)) self.now }
     {
         match self.next {
-            Some(next) => is_word(next.class),
+            Some(next) => opening.refuses(next.class),
             None => false,
         }
     }

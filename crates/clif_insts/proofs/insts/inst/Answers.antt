@@ -1,5 +1,5 @@
 use Rattle.std.proofs.Common.{drop, length}
-use Rattle.clif_insts.specs.Lexemes.{lexemes}
+use Rattle.clif_words.specs.Lexemes.{lexemes}
 use Rattle.clif_insts.proofs.One.{found_at, stopped_at}
 use Rattle.clif_insts.proofs.insts.inst.Goals as goal
 

@@ -2,4 +2,4 @@ use Rattle.clif_insts.proofs.InstLaws.{inst_is}
 use Rattle.clif_insts.proofs.laws.read_by_the_grammar.Goals as goal
 
 pub returns : goal.returns
-returns c = inst_is.same
+returns c = λ opening. (inst_is opening).same

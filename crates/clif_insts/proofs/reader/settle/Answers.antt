@@ -1,7 +1,7 @@
 use Rattle.std.proofs.Common.{◌≡◌, false, sym, ◌∙◌, arith}
 use Rattle.std.proofs.lemmas.Option.{slice_get_past}
 use Rattle.clif_lex.specs.declared.spans.Token.{Token}
-use Rattle.clif_insts.specs.Lexemes.{is_comment}
+use Rattle.clif_words.specs.Lexemes.{is_comment}
 use Rattle.clif_insts.proofs.Views.{skips, if_none}
 use Rattle.clif_insts.proofs.reader.settle.Goals as goal
 

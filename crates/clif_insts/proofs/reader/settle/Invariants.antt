@@ -1,5 +1,5 @@
 use Rattle.std.proofs.Common.{◌≡◌, ◌≤◌, ◌-◌, length, drop}
-use Rattle.clif_insts.specs.Lexemes.{lexemes}
+use Rattle.clif_words.specs.Lexemes.{lexemes}
 use Rattle.clif_insts.proofs.reader.settle.Given as goal
 
 abbrev pub invariant-comments : goal.invariant-comments

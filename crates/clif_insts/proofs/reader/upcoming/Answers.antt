@@ -1,6 +1,6 @@
 use Rattle.std.proofs.Common.{◌≡◌, false, length, ◌<◌, arith}
 use Rattle.clif_lex.specs.declared.spans.Token.{Token}
-use Rattle.clif_insts.specs.Lexemes.{is_comment, meaning}
+use Rattle.clif_words.specs.Lexemes.{is_comment, meaning}
 use Rattle.clif_insts.proofs.Views.{if_some, upcoming_some, some_at}
 use Rattle.clif_insts.proofs.reader.upcoming.Goals as goal
 

@@ -6,7 +6,7 @@ use Rattle.clif_lex.specs.declared.spans.Token.{Token}
 use Rattle.clif_lex.specs.declared.spans.TokenKind.TheVariants.{Number}
 use Rattle.clif_lex.specs.Numbers.{spelled_number}
 use Rattle.clif_lex.specs.Spans.{spelling}
-use Rattle.clif_insts.specs.Lexemes.{is_number}
+use Rattle.clif_words.specs.Lexemes.{is_number}
 use Rattle.clif_insts.proofs.Views.{some_next, amount_is, number_kind, if_some, to_if_some}
 use Rattle.clif_insts.proofs.reader.Reader.front_amount.Goals as goal
 

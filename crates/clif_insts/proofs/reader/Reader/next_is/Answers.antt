@@ -1,4 +1,4 @@
-use Rattle.clif_insts.proofs.Tags.{tag-code}
+use Rattle.clif_words.proofs.Tags.{tag-code}
 use Rattle.clif_insts.proofs.Views.{heads_some, heads_none}
 use Rattle.clif_insts.proofs.reader.Reader.next_is.Goals as goal
 

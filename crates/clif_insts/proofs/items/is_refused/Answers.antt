@@ -1,7 +1,0 @@
-use Rattle.std.proofs.Common.{ap, ◌∙◌, is_some}
-use Rattle.clif_insts.specs.Words.{refused_stems, is_refused}
-use Rattle.clif_insts.proofs.items.is_refused.Goals as goal
-
-pub returns : goal.returns
-unfolding is_refused refused_stems
-returns c = c.is_some.ensures ∙ ap is_some c.look_up.ensures

@@ -1,6 +1,0 @@
-use Rattle.std.proofs.Common.{◌≡◌, map, drop}
-use Rattle.clif_insts.specs.Words.{row_of, look_up}
-use Rattle.clif_insts.proofs.items.look_up.Given as goal
-
-abbrev pub invariant-loop-entry : goal.invariant-loop-entry
-invariant-loop-entry l = look_up (map row_of (drop l.entry-index l.table)) l.word ≡ look_up (map row_of l.table) l.word

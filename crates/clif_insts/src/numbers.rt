@@ -1,0 +1,36 @@
+//! Numbers and offsets.
+
+ghost use Rattle.std.specs.Prelude.{◌<◌, ◌≤◌, length, IfOk};
+ghost use Rattle.clif_insts.specs.Reading.{Gives, same};
+ghost use Rattle.clif_insts.specs.Numbers as spec;
+
+use crate::raw::RawNumber;
+use crate::reader::Reader;
+use crate::stop::Stop;
+use clif_words::Class;
+
+/// A number.
+#[tactic(auto, unfolding(crate::specs::Numbers::number_at))]
+pub fn number(reader: &mut Reader<'_>) -> Result<RawNumber, Stop>
+    ensures is { Gives same reader.new result (spec.number_at reader.old) }
+    ensures shorter { IfOk result (λ _. length reader.new < length reader.old) }
+{
+    if reader.next_is(Class::Unsigned) {
+        reader.take_number(Class::Unsigned)
+    } else {
+        reader.take_number(Class::Signed)
+    }
+}
+
+/// An offset, if there is one.
+#[tactic(auto, unfolding(crate::specs::Numbers::offset_at))]
+pub(crate) fn offset(reader: &mut Reader<'_>) -> Result<Option<RawNumber>, Stop>
+    ensures is { Gives same reader.new result (spec.offset_at reader.old) }
+    ensures shorter { IfOk result (λ _. length reader.new ≤ length reader.old) }
+{
+    if reader.next_is(Class::Signed) {
+        Ok(Some(reader.take_number(Class::Signed)?))
+    } else {
+        Ok(None)
+    }
+}

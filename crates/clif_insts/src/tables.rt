@@ -1,0 +1,105 @@
+//! Exception tables.
+
+ghost use Rattle.std.specs.Prelude.{◌≡◌, ◌∷◌, [], ◌<◌, ◌≤◌, length, IfOk, IfErr};
+ghost use Rattle.clif_insts.specs.declared.stop.Stop.TheVariants.{NoMemory};
+ghost use Rattle.clif_insts.specs.Reading.{Gives, same};
+ghost use Rattle.clif_insts.specs.Tables as spec;
+
+use crate::raw::{RawEntry, RawName};
+use crate::reader::Reader;
+use crate::stop::Stop;
+use crate::targets::{Place, target};
+use clif_words::Class;
+use std::alloc::Global;
+
+/// `tagN` or `default`.
+#[tactic(auto, unfolding(crate::specs::Tables::entry_tag_at))]
+pub(crate) fn entry_tag(reader: &mut Reader<'_>) -> Result<Option<RawName>, Stop>
+    ensures is { Gives same reader.new result (spec.entry_tag_at reader.old) }
+    ensures shorter { IfOk result (λ _. length reader.new < length reader.old) }
+{
+    if reader.next_is(Class::Tag) {
+        Ok(Some(reader.take(Class::Tag)?))
+    } else if reader.next_is(Class::Default) {
+        reader.take(Class::Default)?;
+        Ok(None)
+    } else {
+        Err(if reader.next_is(Class::Context) {
+            Stop::Unsupported
+        } else {
+            Stop::Syntax
+        })
+    }
+}
+
+/// An entry of an exception table.
+#[tactic(auto, unfolding(crate::specs::Tables::entry_at))]
+pub(crate) fn entry(alloc: Global, reader: &mut Reader<'_>) -> Result<RawEntry, Stop>
+    ensures is { Gives same reader.new result (spec.entry_at reader.old) }
+    ensures shorter { IfOk result (λ _. length reader.new < length reader.old) }
+{
+    let tag = entry_tag(reader)?;
+    reader.take(Class::Colon)?;
+    let target = target(alloc, reader, Place::Handler)?;
+    Ok(RawEntry { tag, target })
+}
+
+#[tactic(auto, unfolding(crate::specs::Tables::comma_entry_at))]
+pub(crate) fn comma_entry(alloc: Global, reader: &mut Reader<'_>) -> Result<RawEntry, Stop>
+    ensures is { Gives same reader.new result (spec.comma_entry_at reader.old) }
+    ensures shorter { IfOk result (λ _. length reader.new < length reader.old) }
+{
+    reader.take(Class::Comma)?;
+    entry(alloc, reader)
+}
+
+fn one_entry(alloc: Global, item: RawEntry) -> Result<Vec<RawEntry>, Stop>
+    ensures some { IfOk result (λ list. list.items ≡ item ∷ []) }
+    ensures none { IfErr result (λ e. e ≡ NoMemory) }
+{
+    let mut list = Vec::new(alloc);
+    list.push(item)?;
+    Ok(list)
+}
+
+/// Those behind commas, after those in front.
+pub(crate) fn more_entries(
+    alloc: Global,
+    reader: &mut Reader<'_>,
+    front: Vec<RawEntry>,
+) -> Result<Vec<RawEntry>, Stop>
+    ensures is { Gives (λ x. x.items) reader.new result (spec.more_entries_at front.items reader.old) }
+    ensures shorter { IfOk result (λ _. length reader.new ≤ length reader.old) }
+{
+    let mut list = front;
+    'list: while reader.next_is(Class::Comma) {
+        let item = comma_entry(alloc, reader)?;
+        list.push(item)?;
+    }
+    Ok(list)
+}
+
+#[tactic(auto, unfolding(crate::specs::Tables::entries_at))]
+pub(crate) fn entries(alloc: Global, reader: &mut Reader<'_>) -> Result<Vec<RawEntry>, Stop>
+    ensures is { Gives (λ x. x.items) reader.new result (spec.entries_at reader.old) }
+    ensures shorter { IfOk result (λ _. length reader.new < length reader.old) }
+{
+    let first = entry(alloc, reader)?;
+    let front = one_entry(alloc, first)?;
+    more_entries(alloc, reader, front)
+}
+
+#[tactic(auto, unfolding(crate::specs::Tables::table_at))]
+pub(crate) fn table(alloc: Global, reader: &mut Reader<'_>) -> Result<Vec<RawEntry>, Stop>
+    ensures is { Gives (λ x. x.items) reader.new result (spec.table_at reader.old) }
+    ensures shorter { IfOk result (λ _. length reader.new < length reader.old) }
+{
+    reader.take(Class::LeftBracket)?;
+    let list = if reader.next_is_one_of(Class::Tag, Class::Default, Class::Context) {
+        entries(alloc, reader)?
+    } else {
+        Vec::new(alloc)
+    };
+    reader.take(Class::RightBracket)?;
+    Ok(list)
+}

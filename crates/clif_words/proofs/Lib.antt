@@ -1,0 +1,3 @@
+mod Buckets
+mod Decimals
+pub mod Tags

@@ -1,0 +1,5 @@
+pub mod Classes
+pub mod Table
+pub mod Words
+pub mod Lexemes
+pub mod Terminals

@@ -1,0 +1,253 @@
+//! What tokens are to the grammar.
+
+ghost use Rattle.std.specs.Prelude.{◌≡◌, ◌==◌, ◌&&◌, ◌||◌, not, ◌<◌, ◌≤◌, ◌^◌, length, slice_get, IfSome, map};
+ghost use Rattle.std.specs.Char.{digit_value, is_ascii_digit};
+ghost use Rattle.std.specs.List.{suffix_len, prefix_len};
+ghost use Rattle.clif_lex.specs.Bytes.{first, is_sign};
+ghost use Rattle.clif_lex.specs.Lexing.{tokens_of};
+ghost use Rattle.clif_words.specs.Table as table;
+ghost use Rattle.clif_words.specs.Words as words;
+ghost use Rattle.clif_words.specs.Lexemes as spec;
+
+use crate::class::Class;
+use crate::words::*;
+use clif_lex::{TokenKind, Tokens};
+
+/// What a token is to the grammar: its class, and which of the words of the class it is.
+#[derive(Clone, Copy, Debug)]
+pub struct Meaning {
+    pub class: Class,
+    pub number: u64,
+}
+
+#[inline]
+fn means(class: Class, number: u64) -> Meaning
+    ensures { result ≡ words.means class number }
+{
+    Meaning { class, number }
+}
+
+/// The byte at the front, or 0 in an empty text.
+#[inline]
+fn front(text: &[u8]) -> u8
+    ensures { result ≡ first text.now }
+{
+    match text.first() {
+        Some(byte) => *byte,
+        None => 0,
+    }
+}
+
+/// The first row of the table that has the word.
+#[inline]
+fn look_up(table: &[Entry], word: &[u8]) -> Option<Meaning>
+    ensures { result ≡ words.look_up (map words.row_of table.now) word.now }
+{
+    for entry in table {
+        if entry.0.as_bytes() == word {
+            return Some(means(entry.1, entry.2));
+        }
+    }
+    None
+}
+
+/// The meaning of a word that has one of its own.
+fn own_meaning(word: &[u8]) -> Option<Meaning>
+    ensures { result ≡ words.look_up table.all_words word.now }
+{
+    match front(word) {
+        b'a' => look_up(&WORDS_A, word),
+        b'b' => look_up(&WORDS_B, word),
+        b'c' => look_up(&WORDS_C, word),
+        b'd' => look_up(&WORDS_D, word),
+        b'e' => look_up(&WORDS_E, word),
+        b'f' => look_up(&WORDS_F, word),
+        b'g' => look_up(&WORDS_G, word),
+        b'h' => look_up(&WORDS_H, word),
+        b'i' => look_up(&WORDS_I, word),
+        b'j' => look_up(&WORDS_J, word),
+        b'l' => look_up(&WORDS_L, word),
+        b'n' => look_up(&WORDS_N, word),
+        b'p' => look_up(&WORDS_P, word),
+        b'r' => look_up(&WORDS_R, word),
+        b's' => look_up(&WORDS_S, word),
+        b't' => look_up(&WORDS_T, word),
+        b'u' => look_up(&WORDS_U, word),
+        b'v' => look_up(&WORDS_V, word),
+        b'w' => look_up(&WORDS_W, word),
+        _ => None,
+    }
+}
+
+/// The value of a digit or a letter, or 36 for any other byte.
+#[inline]
+fn digit(c: u8) -> u64
+    ensures value { result ≡ digit_value c }
+    ensures small { result ≤ 36 }
+{
+    match c {
+        b'0'..=b'9' => (c - b'0') as u64,
+        b'A'..=b'Z' => (c - b'A') as u64 + 10,
+        b'a'..=b'z' => (c - b'a') as u64 + 10,
+        _ => 36,
+    }
+}
+
+#[tactic(auto, unfolding(crate::specs::Words::entity_number))]
+/// The number that digits write, or `u64::MAX` where it is above that.
+fn entity_number(digits: &[u8]) -> u64
+    ensures { result ≡ words.entity_number digits.now }
+{
+    let mut number: u64 = 0;
+    for c in digits {
+        let next = u128::from(number) * 10 + u128::from(digit(*c));
+        if next > u64::MAX as u128 {
+            return u64::MAX;
+        }
+        number = next as u64;
+    }
+    number
+}
+
+/// Whether digits have no superfluous leading zero.
+#[inline]
+fn is_plain(digits: &[u8]) -> bool
+    ensures { result ≡ words.is_plain digits.now }
+{
+    front(digits) != b'0' || digits.len() == 1
+}
+
+/// How many digits stand at the front.
+#[inline]
+fn digit_run(text: &[u8]) -> usize
+    ensures len { result ≡ prefix_len is_ascii_digit text.now }
+    ensures within { result ≤ length text.now }
+{
+    text.iter().take_while(|c| c.is_ascii_digit()).count()
+}
+
+/// How many digits stand at the end.
+#[inline]
+fn digits_len(word: &[u8]) -> usize
+    ensures len { result ≡ words.digits_len word.now }
+    ensures within { result ≤ length word.now }
+{
+    word.iter().rev().take_while(|c| c.is_ascii_digit()).count()
+}
+
+fn is_digits_x(text: &[u8]) -> bool
+    ensures { result ≡ words.is_digits_x text.now }
+{
+    let count = digit_run(text);
+    count != 0 && text.split_at(count).1 == b"x".as_slice()
+}
+
+/// Whether a vector's type stands before its last digits.
+#[tactic(auto, unfolding(crate::specs::Words::is_lanes))]
+fn is_lanes(stem: &[u8]) -> bool
+    ensures { result ≡ words.is_lanes stem.now }
+{
+    match stem.split_first() {
+        None => false,
+        Some((letter, rest)) => (*letter == b'i' || *letter == b'f') && is_digits_x(rest),
+    }
+}
+
+/// The class of the words that a number makes of the stem.
+fn entity(stem: &[u8]) -> Option<Meaning>
+    ensures { result ≡ words.look_up words.stems stem.now }
+{
+    look_up(&STEMS, stem)
+}
+
+/// Whether the stem and a number begin another declaration.
+fn is_refused(stem: &[u8]) -> bool
+    ensures { result ≡ words.is_refused stem.now }
+{
+    look_up(&REFUSED_STEMS, stem).is_some()
+}
+
+/// The meaning of a word with a number behind it.
+#[tactic(auto, unfolding(crate::specs::Words::numbered_meaning))]
+fn numbered_meaning(word: &[u8]) -> Meaning
+    ensures { result ≡ words.numbered_meaning word.now }
+{
+    let count = digits_len(word);
+    if count == 0 {
+        return means(Class::Other, 0);
+    }
+    let (stem, digits) = word.split_at(word.len() - count);
+    if let Some(entity) = entity(stem) {
+        return if is_plain(digits) {
+            means(entity.class, entity_number(digits))
+        } else {
+            means(Class::Other, 0)
+        };
+    }
+    if is_refused(stem) {
+        means(Class::RefusedDecl, 0)
+    } else if is_lanes(stem) {
+        means(Class::RefusedType, 0)
+    } else {
+        means(Class::Other, 0)
+    }
+}
+
+/// The meaning of a word.
+#[tactic(auto, unfolding(crate::specs::Words::word_meaning))]
+pub fn word_meaning(word: &[u8]) -> Meaning
+    ensures { result ≡ words.word_meaning word.now }
+{
+    match own_meaning(word) {
+        Some(meaning) => meaning,
+        None => numbered_meaning(word),
+    }
+}
+
+fn mark_class(byte: u8) -> Class
+    ensures { result ≡ spec.mark_class byte }
+{
+    match byte {
+        b'(' => Class::LeftParen,
+        b')' => Class::RightParen,
+        b'{' => Class::LeftBrace,
+        b'}' => Class::RightBrace,
+        b'[' => Class::LeftBracket,
+        b']' => Class::RightBracket,
+        b',' => Class::Comma,
+        b':' => Class::Colon,
+        b'=' => Class::Equals,
+        b'.' => Class::Dot,
+        b'<' => Class::Less,
+        b'>' => Class::Greater,
+        _ => Class::Other,
+    }
+}
+
+fn number_class(number: &[u8]) -> Class
+    ensures { result ≡ spec.number_class number.now }
+{
+    match front(number) {
+        b'+' | b'-' => Class::Signed,
+        _ => Class::Unsigned,
+    }
+}
+
+/// The meaning of a token of the text.
+#[inline]
+pub fn token_meaning(text: &[u8], tokens: &Tokens, i: usize) -> Meaning
+    requires whole { tokens_of text.now ≡ Ok tokens.now }
+    requires below { i < length tokens.now }
+    ensures { IfSome (slice_get tokens.now i) (λ token. result ≡ spec.meaning text.now token) }
+{
+    match tokens.get(i).kind {
+        TokenKind::Header => means(Class::Header, 0),
+        TokenKind::Comment => means(Class::Other, 0),
+        TokenKind::Name => means(Class::Name, 0),
+        TokenKind::Word => word_meaning(tokens.spelling(text, i)),
+        TokenKind::Number => means(number_class(tokens.spelling(text, i)), 0),
+        TokenKind::Srcloc => means(Class::Srcloc, 0),
+        TokenKind::Arrow => means(Class::Arrow, 0),
+        TokenKind::Mark(byte) => means(mark_class(byte), 0),
+    }
+}

@@ -1,5 +1,6 @@
 //! The words that simple texts tell apart.
 ghost use Rattle.std.specs.Prelude.{◌≡◌, ◌≤◌, drop, length};
+ghost use Rattle.std.specs.Str.{bytes_eq};
 ghost use Rattle.clif_read.specs.SimpleWords as spec;
 
 /// What the grammar tells apart.
@@ -99,7 +100,14 @@ pub(crate) fn word(spelling: &[u8]) -> (Class, u64)
 fn spells(spelling: &[u8], word: &[u8]) -> bool
     ensures { result ≡ bytes_eq spelling.now word.now }
 {
-    spelling.len() == word.len() && spelling.iter().zip(word).all(|(c, d)| c == d)
+    let mut rest = spelling;
+    'bytes: for c in word {
+        match rest.split_first() {
+            Some((d, after)) if *d == *c => rest = after,
+            _ => return false,
+        }
+    }
+    rest.is_empty()
 }
 
 /// The class of a word that is no entity.

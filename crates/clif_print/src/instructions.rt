@@ -273,12 +273,7 @@ fn put_br_table<O: Output>(
     put_target_list(out, numbers, entries.as_slice());
 }
 
-fn put_return<O: Output>(
-    out: &mut O,
-    numbers: &FuncNumbers,
-    suffix: Option<Ty>,
-    values: &Values,
-)
+fn put_return<O: Output>(out: &mut O, numbers: &FuncNumbers, suffix: Option<Ty>, values: &Values)
     ensures { Puts O.holds out.old out.new (spelled (instruction numbers.now suffix (instruction_of (form.Return values.now)))) }
 {
     out.put(b"return");

@@ -187,11 +187,7 @@ fn add_lines(
 }
 
 /// The numbers of the values that are returned.
-fn returned_values(
-    alloc: Global,
-    numbers: &Numbers,
-    returned: &[u64],
-) -> Result<Values, SimpleErr>
+fn returned_values(alloc: Global, numbers: &Numbers, returned: &[u64]) -> Result<Values, SimpleErr>
     requires right { AreRight numbers.now }
     ensures defined { OnOk result (list_all (spec.is_defined numbers.now.words.items) returned.now ≡ true) }
     ensures ok { IfOk result (λ l. l ≡ map (spec.number numbers.now.words.items) returned.now) }

@@ -26,7 +26,7 @@ use Rattle.clif_insts.specs.Values.{◌otherwise◌, perhaps, never, commas_valu
 use Rattle.clif_insts.proofs.Seen.{Is, then_is, map_is, opt_is, alt_is, many_is, refuse_is, name_is, amount_is}
 
 -- a { "," a }
-commas_is : {A : Type 0} {a : Rule} {f : Value a → A} {p : List Lexeme → Out A} → Is a f p
+pub commas_is : {A : Type 0} {a : Rule} {f : Value a → A} {p : List Lexeme → Out A} → Is a f p
     → Is (commas a) (commas_value a f) (λ ts. p ts >>= λ x. with_front (x.0 ∷ []) (each (λ us. name_at classes.Comma us >>= λ c. p c.1) (code classes.Comma ∷ []) (length x.1) x.1))
 commas_is {A} {a} {f} {p} e =
     then_is e (Many (comma then a)) (λ x vs. x ∷ map (λ v. f v.1) vs) (λ x ts. with_front (x ∷ []) (each (λ us. name_at classes.Comma us >>= λ c. p c.1) (code classes.Comma ∷ []) (length ts) ts))

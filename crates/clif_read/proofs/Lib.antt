@@ -26,3 +26,7 @@ mod SimpleRight
 mod SimpleRules
 mod SimpleSeen
 mod SimpleWhole
+pub mod Ends
+pub mod LineEnds
+pub mod LineLaws
+pub mod LineLoop

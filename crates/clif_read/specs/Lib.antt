@@ -7,3 +7,9 @@ pub mod SimpleModule
 pub mod SimpleNumbers
 pub mod SimpleReading
 pub mod SimpleWords
+pub mod ModuleGrammar
+pub mod DeclarationValues
+pub mod LineValues
+pub mod ModuleValues
+pub mod Tags
+pub mod Lines

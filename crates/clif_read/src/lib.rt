@@ -2,6 +2,13 @@
 #![tactic(auto)]
 
 pub mod laws;
+mod lines;
+mod raw;
 mod simple;
+mod tags;
 
+pub use raw::{
+    RawAttribute, RawBlock, RawBlockParam, RawCalleeSig, RawDecl, RawFuncName, RawFunction,
+    RawLine, RawModule, RawParam, RawSignature, RawTag,
+};
 pub use simple::{SimpleErr, read_simple};

@@ -12,4 +12,6 @@ pub mod One
 pub mod Takes
 pub mod Excepted
 pub mod Views
+pub mod Singles
+pub mod FlagLetter
 pub mod Next

@@ -30,3 +30,7 @@ pub mod Ends
 pub mod LineEnds
 pub mod LineLaws
 pub mod LineLoop
+pub mod Alike
+pub mod Given
+pub mod LetterInsts
+pub mod LetterLines

@@ -31,3 +31,8 @@ pub mod LineEnds
 pub mod LineLaws
 pub mod LineLoop
 pub mod AttributeLetter
+pub mod Alike
+pub mod Given
+pub mod LetterInsts
+pub mod LetterLines
+pub mod LetterModule

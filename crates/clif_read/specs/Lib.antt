@@ -14,3 +14,6 @@ pub mod ModuleValues
 pub mod Tags
 pub mod Lines
 pub mod AttributeLetter
+pub mod Alike
+pub mod LetterLines
+pub mod LetterModule

@@ -1,15 +1,14 @@
 -- The attributes of a parameter are those of the EBNF: any number of the four words, at most one of each pair.
-use Rattle.std.proofs.Common.{◌≡◌, ℕ, zero, suc, ◌+◌, ◌≤◌, ◌==◌, ◌||◌, Bool, true, false, List, [], ◌∷◌, ◌++◌, length, map, Option, Some, None, refl, sym, ap, subst, ◌∙◌, inl, inr, arith}
+use Rattle.std.proofs.Common.{◌≡◌, ℕ, suc, ◌+◌, ◌≤◌, ◌==◌, Bool, true, false, List, [], ◌∷◌, ◌++◌, length, map, Option, Some, None, refl, sym, ap, subst, ◌∙◌, inl, inr, arith}
 use Rattle.std.specs.Prelude.{◌⊎◌}
 use Rattle.std.proofs.lemmas.Bool.{eqb-true}
-use Rattle.std.proofs.lemmas.List.{append-nil}
-use Rattle.grammar.specs.Rules.{Lexeme, Rule, Seq, Opt, Many, Value, Cut, Derives, Begins, member}
+use Rattle.grammar.specs.Rules.{Lexeme, Rule, Seq, Opt, Many, Value, Derives, Begins, member}
 use Rattle.grammar.proofs.Sets.{both}
 use Rattle.grammar.proofs.Past.{derives_begins}
 use Rattle.clif_words.specs.declared.class.Class.TheVariants as classes
 use Rattle.clif_words.specs.Classes.{code}
-use Rattle.clif_words.specs.Terminals.{◌then◌, ◌or◌, ext, vmctx, sret}
-use Rattle.clif_insts.specs.Values.{◌otherwise◌, perhaps}
+use Rattle.clif_words.specs.Terminals.{◌then◌, ext, vmctx, sret}
+use Rattle.clif_insts.specs.Values.{perhaps}
 use Rattle.clif_insts.specs.FlagLetter.{Means, ◌iff◌}
 use Rattle.clif_insts.proofs.Singles.{all_in, Single, single_tok, single_or, many_means, many_made, many_begun, many_begins}
 use Rattle.clif_read.specs.declared.raw.RawAttribute.{RawAttribute}

@@ -1,18 +1,18 @@
 -- A module of the grammar is one of the EBNF.
-use Rattle.std.proofs.Common.{Bool, List, ◌∷◌, [], map, refl}
-use Rattle.grammar.specs.Rules.{Lexeme, Rule, Opt, Many, Value}
-use Rattle.clif_words.specs.Terminals.{◌then◌, function_word, left_brace, right_brace, colon, block, cold}
+use Rattle.std.proofs.Common.{List, ◌∷◌, [], map, refl}
+use Rattle.grammar.specs.Rules.{Lexeme, Opt, Many, Value}
+use Rattle.clif_words.specs.Terminals.{◌then◌, right_brace, cold}
 use Rattle.clif_insts.specs.Reading.{name}
 use Rattle.clif_insts.specs.Values.{perhaps}
 use Rattle.clif_read.specs.declared.raw.RawBlock.{RawBlock}
 use Rattle.clif_read.specs.declared.raw.RawFunction.{RawFunction}
 use Rattle.clif_read.specs.declared.raw.RawModule.{RawModule}
 use Rattle.clif_read.specs.declared.raw.RawLine.{RawLine}
-use Rattle.clif_read.specs.ModuleGrammar.{block_params, func_name, signature, decl, lines, block_rule, function, module_rule}
+use Rattle.clif_read.specs.ModuleGrammar.{block_params, func_name, signature, decl, block_rule, function, module_rule}
 use Rattle.clif_read.specs.DeclarationValues.{func_name_value, signature_value, decl_value}
 use Rattle.clif_read.specs.LineValues.{lines_value}
 use Rattle.clif_read.specs.ModuleValues.{block_params_value, is_cold, block_value, function_value, module_value}
-use Rattle.clif_read.specs.LetterLines.{letter_lines, letter_lines_value}
+use Rattle.clif_read.specs.LetterLines.{letter_lines_value}
 use Rattle.clif_read.specs.LetterModule.{letter_block, letter_function, letter_module, letter_block_value, letter_function_value, letter_module_value}
 use Rattle.clif_read.specs.Alike.{Alike}
 use Rattle.clif_read.proofs.Alike.{alike_same, alike_map, seq_alike, seq_second, many_alike}

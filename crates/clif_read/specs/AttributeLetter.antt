@@ -7,7 +7,7 @@ use Rattle.clif_words.specs.declared.class.Class.{Class}
 use Rattle.clif_words.specs.declared.class.Class.TheVariants as classes
 use Rattle.clif_words.specs.Terminals.{◌then◌, ◌or◌, codes_of, ext, vmctx, sret}
 use Rattle.clif_insts.specs.Grammar.{any_type}
-use Rattle.clif_insts.specs.Values.{◌otherwise◌, perhaps, any_type_value}
+use Rattle.clif_insts.specs.Values.{◌otherwise◌, perhaps}
 use Rattle.clif_insts.specs.FlagLetter.{Means, ◌iff◌}
 use Rattle.clif_read.specs.declared.raw.RawAttribute.{RawAttribute}
 use Rattle.clif_read.specs.declared.raw.RawAttribute.TheVariants as words

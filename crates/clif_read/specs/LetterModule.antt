@@ -1,7 +1,7 @@
 -- A module whose blocks have lines by the letter of the EBNF:
 -- function = "function" name signature "{" { decl } block { block } "}"
 -- block = blockN [ "(" [ bparam { "," bparam } ] ")" ] [ "cold" ] ":" { line }
-use Rattle.std.specs.Prelude.{List, [], ◌∷◌, map}
+use Rattle.std.specs.Prelude.{[], ◌∷◌, map}
 use Rattle.grammar.specs.Rules.{Rule, Opt, Many, Value}
 use Rattle.clif_words.specs.Terminals.{◌then◌, header, function_word, left_brace, right_brace, colon, block, cold}
 use Rattle.clif_insts.specs.Reading.{name}

@@ -12,3 +12,4 @@ pub mod One
 pub mod Takes
 pub mod Excepted
 pub mod Views
+pub mod Names

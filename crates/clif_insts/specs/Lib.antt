@@ -11,3 +11,4 @@ pub mod Values
 pub mod Forms
 pub mod InstValues
 pub mod Insts
+pub mod Names

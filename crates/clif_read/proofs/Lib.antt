@@ -26,3 +26,8 @@ mod SimpleRight
 mod SimpleRules
 mod SimpleSeen
 mod SimpleWhole
+pub mod AttributeLaws
+pub mod SignatureLaws
+pub mod DeclarationLaws
+pub mod HeadLaws
+pub mod LetterAttributes

@@ -7,3 +7,11 @@ pub mod SimpleModule
 pub mod SimpleNumbers
 pub mod SimpleReading
 pub mod SimpleWords
+pub mod ModuleGrammar
+pub mod DeclarationValues
+pub mod HeadValues
+pub mod Attributes
+pub mod Signatures
+pub mod Declarations
+pub mod Heads
+pub mod LetterAttributes

@@ -4,7 +4,8 @@ use Rattle.std.proofs.Common.{◌≡◌, ◌⊎◌, inl, inr, ℕ, zero, suc, �
 use Rattle.std.specs.Prelude.{not, if◌then◌else◌}
 use Rattle.ir_core.specs.declared.names.FuncName.{FuncName}
 use Rattle.ir_core.specs.Module.{Module}
-use Rattle.ir_core.specs.Lookup.{In, same_name, find_function}
+use Rattle.ir_core.specs.Lookup.{same_name, find_function}
+use Rattle.ir_core.specs.Lists.{In}
 use Rattle.ir_core.specs.Whole.{DifferentNames}
 use Rattle.ir_core.proofs.Equal.{name_equal, equal_name, both_true}
 use Rattle.call_graph.specs.Reach.{calls_of, reaches, one_piece, apart}

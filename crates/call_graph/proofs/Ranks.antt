@@ -3,7 +3,8 @@ use Rattle.std.proofs.Common.{◌≡◌, ℕ, suc, ◌<◌, ◌≤◌, inl, inr,
 use Rattle.std.specs.Prelude.{not, if◌then◌else◌}
 use Rattle.ir_core.specs.declared.names.FuncName.{FuncName}
 use Rattle.ir_core.specs.Module.{Module}
-use Rattle.ir_core.specs.Lookup.{In, same_name}
+use Rattle.ir_core.specs.Lookup.{same_name}
+use Rattle.ir_core.specs.Lists.{In}
 use Rattle.call_graph.specs.Reach.{calls_of, reaches, apart}
 use Rattle.call_graph.specs.Laws.{Leads, calls, by_way}
 use Rattle.call_graph.specs.Order.{names_of}

@@ -1,7 +1,8 @@
 -- A name that is found in a list stands there.
 use Rattle.std.proofs.Common.{◌≡◌, List, Bool, true, false, refl, sym, subst}
 use Rattle.ir_core.specs.declared.names.FuncName.{FuncName}
-use Rattle.ir_core.specs.Lookup.{In, same_name}
+use Rattle.ir_core.specs.Lookup.{same_name}
+use Rattle.ir_core.specs.Lists.{In}
 use Rattle.ir_core.proofs.Equal.{name_equal, name_same}
 use Rattle.call_graph.specs.Order.{stands}
 use Rattle.call_graph.proofs.Walks.{some_of, of_some}

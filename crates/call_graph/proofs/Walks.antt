@@ -3,7 +3,8 @@ use Rattle.std.proofs.Common.{◌≡◌, ◌⊎◌, inl, inr, ℕ, zero, suc, �
 use Rattle.std.specs.Prelude.{if◌then◌else◌}
 use Rattle.ir_core.specs.declared.names.FuncName.{FuncName}
 use Rattle.ir_core.specs.Module.{Function, Module}
-use Rattle.ir_core.specs.Lookup.{In, same_name, find_function}
+use Rattle.ir_core.specs.Lookup.{same_name, find_function}
+use Rattle.ir_core.specs.Lists.{In}
 use Rattle.ir_core.proofs.Equal.{name_equal, name_same, equal_name, cases_name}
 use Rattle.call_graph.specs.Reach.{called_names, calls_of, some_name, reaches_in}
 use Rattle.call_graph.specs.Laws.{Leads, calls, by_way, ReachIsByLists}

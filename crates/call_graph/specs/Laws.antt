@@ -2,7 +2,7 @@
 use Rattle.std.specs.Prelude.{◌≡◌, true}
 use Rattle.ir_core.specs.declared.names.FuncName.{FuncName}
 use Rattle.ir_core.specs.Module.{Module}
-use Rattle.ir_core.specs.Lookup.{In}
+use Rattle.ir_core.specs.Lists.{In}
 use Rattle.call_graph.specs.Reach.{calls_of, reaches}
 
 -- a list of functions leads from x to y, each of which calls the next

@@ -4,7 +4,8 @@
 use Rattle.std.specs.Prelude.{◌≡◌, ⊤, ℕ, zero, suc, List, [], ◌∷◌, ◌++◌, length, map, Option, Some, None, Bool, true, not, ◌&&◌, ◌||◌, if◌then◌else◌}
 use Rattle.ir_core.specs.declared.names.FuncName.{FuncName}
 use Rattle.ir_core.specs.Module.{Module}
-use Rattle.ir_core.specs.Lookup.{In, same_name}
+use Rattle.ir_core.specs.Lookup.{same_name}
+use Rattle.ir_core.specs.Lists.{In}
 use Rattle.call_graph.specs.Reach.{calls_of, some_name, one_piece, apart}
 
 abbrev pub names_of : Module → List FuncName

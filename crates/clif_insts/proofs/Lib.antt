@@ -13,3 +13,4 @@ pub mod Takes
 pub mod Excepted
 pub mod Views
 pub mod Names
+pub mod Next

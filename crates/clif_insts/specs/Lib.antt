@@ -12,3 +12,4 @@ pub mod Forms
 pub mod InstValues
 pub mod Insts
 pub mod Names
+pub mod Next

@@ -1,7 +1,7 @@
 //! The tokens of a text, read one after the other.
 
-ghost use Rattle.std.specs.Prelude.{◌≡◌, ◌≢◌, List, ◌∷◌, [], ◌<◌, ◌≤◌, length, drop, slice_get, false, IfOk, IfErr, IfSome};
-ghost use Rattle.grammar.specs.Rules.{Lexeme, heads};
+ghost use Rattle.std.specs.Prelude.{◌≡◌, ◌≢◌, ℕ, not, List, ◌∷◌, [], ◌<◌, ◌≤◌, length, drop, slice_get, false, IfOk, IfErr, IfSome};
+ghost use Rattle.grammar.specs.Rules.{Lexeme, heads, heads_any};
 ghost use Rattle.clif_lex.specs.Lexing.{tokens_of};
 ghost use Rattle.clif_words.specs.Classes.{code};
 ghost use Rattle.clif_words.specs.Lexemes.{lexemes};
@@ -10,6 +10,8 @@ ghost use Rattle.clif_insts.specs.declared.stop.Stop.TheVariants.{NoMemory};
 ghost use Rattle.clif_insts.specs.Grammar.{excepted, words_but};
 ghost use Rattle.clif_insts.specs.Insts.{place_or};
 ghost use Rattle.clif_insts.specs.Names as names;
+ghost use Rattle.clif_insts.specs.Next.{is_among};
+ghost use Rattle.clif_insts.specs.Next as next;
 ghost use Rattle.clif_insts.specs.Reading as spec;
 ghost use Rattle.clif_insts.specs.Reading.{Gives, same};
 
@@ -184,6 +186,38 @@ impl<'a> Reader<'a> {
         ensures { result ≡ heads (code first ∷ code second ∷ code third ∷ []) self.now }
     {
         self.next_is(first) || self.next_is_either(second, third)
+    }
+
+    /// The class of the next token, if there is one.
+    #[inline]
+    pub fn next_class(&self) -> Option<Class>
+        ensures { (codes : List ℕ) → is_among result codes ≡ heads codes self.now }
+    {
+        match self.next {
+            Some(next) => Some(next.class),
+            None => None,
+        }
+    }
+
+    /// Whether no token is left.
+    #[inline]
+    pub fn is_at_end(&self) -> bool
+        ensures { result ≡ not (heads_any self.now) }
+    {
+        match self.next {
+            Some(_) => false,
+            None => true,
+        }
+    }
+
+    /// The first byte of the next token, or this end where there is none.
+    pub fn spot_or(&self, end: usize) -> usize
+        ensures { result ≡ next.spot_or end self.now }
+    {
+        match self.next {
+            Some(_) => self.tokens.get(self.at).start,
+            None => end,
+        }
     }
 
     /// The name that the next token spells.

@@ -13,10 +13,13 @@ use Rattle.clif_insts.proofs.Seen.{Is, then_is, map_is, many_is, name_is}
 use Rattle.clif_insts.proofs.PartLaws.{type_is, commas_is, within_is}
 use Rattle.clif_read.specs.declared.raw.RawBlockParam.{RawBlockParam}
 use Rattle.clif_read.specs.ModuleGrammar.{block_param, block_params}
-use Rattle.clif_read.specs.HeadValues.{header_value, block_param_value, block_params_value}
+use Rattle.clif_read.specs.ModuleValues.{block_param_value, block_params_value}
 use Rattle.clif_read.specs.Heads.{header_at, headers_at, block_param_at, comma_block_param_at, more_block_params_at, some_block_params_at, block_params_at}
 
 -- ---- headers
+
+abbrev header_value : Lexeme → ℕ
+header_value x = x.spot
 
 header_is : Is header header_value header_at
 unfolding header_at

@@ -31,3 +31,7 @@ pub mod SignatureLaws
 pub mod DeclarationLaws
 pub mod HeadLaws
 pub mod LetterAttributes
+pub mod Ends
+pub mod LineEnds
+pub mod LineLaws
+pub mod LineLoop

@@ -15,7 +15,7 @@ use Rattle.ir_core.specs.Lists.{In, Different, Below}
 use Rattle.ir_core.specs.Module.{Instruction, Return, Line, Function}
 use Rattle.ir_core.specs.Edits.{at_block, put_param, put_line, lines_of, params_of}
 use Rattle.ir_core.specs.Lookup.{definitions, line_definitions}
-use Rattle.ir_core.specs.Operands.{used_values, used_blocks, used_slots, used_sigs, used_callees}
+use Rattle.ir_core.specs.Uses.{values_used, slots_used, callees_used, sigs_used, blocks_used}
 use Rattle.ir_core.specs.Sound.{LineInRange, Counts, IsWhole}
 use Rattle.clif_read.specs.declared.simple.written.Computation.{Computation}
 use Rattle.clif_read.specs.declared.simple.written.Computation.TheVariants.{Iconst, Iadd}
@@ -135,7 +135,7 @@ pub params_draft : (n : FuncName) (s : Sig) (ws : List ℕ) (f : Function) → f
 params_draft n s ws f e = is_draft n s ws (numbers ws) [] f e (append-nil (numbers ws)) (omega arith)
 
 -- each value that an instruction uses is there
-pub uses_below : (n : ℕ) (ws : List ℕ) (c : Computation) → length ws ≤ n → may_compute ws c ≡ true → Below n (used_values (instruction ws c))
+pub uses_below : (n : ℕ) (ws : List ℕ) (c : Computation) → length ws ≤ n → may_compute ws c ≡ true → Below n (values_used (instruction ws c))
 uses_below n ws (Iconst i) le h = tt
 uses_below n ws (Iadd a b) le h =
     let t = both (is_defined ws a) (is_defined ws b) h in
@@ -146,29 +146,30 @@ line_in_range n ws l lt h = record {
   values = uses_below n.values ws l.computation (omega arith) h;
   blocks = none_blocks l.computation;
   slots = none_slots l.computation;
-  sigs = none_sigs l.computation;
+  shown = tt;
   callees = none_callees l.computation;
+  sigs = none_sigs l.computation;
   results = (lt, tt);
 }
   where
-    none_blocks : (c : Computation) → Below n.blocks (used_blocks (instruction ws c))
+    none_blocks : (c : Computation) → Below n.blocks (blocks_used (instruction ws c))
     none_blocks (Iconst i) = tt
     none_blocks (Iadd a b) = tt
 
-    none_slots : (c : Computation) → Below n.slots (used_slots (instruction ws c))
+    none_slots : (c : Computation) → Below n.slots (slots_used (instruction ws c))
     none_slots (Iconst i) = tt
     none_slots (Iadd a b) = tt
 
-    none_sigs : (c : Computation) → Below n.sigs (used_sigs (instruction ws c))
+    none_sigs : (c : Computation) → Below n.sigs (sigs_used (instruction ws c))
     none_sigs (Iconst i) = tt
     none_sigs (Iadd a b) = tt
 
-    none_callees : (c : Computation) → Below n.callees (used_callees (instruction ws c))
+    none_callees : (c : Computation) → Below n.callees (callees_used (instruction ws c))
     none_callees (Iconst i) = tt
     none_callees (Iadd a b) = tt
 
 pub return_in_range : (n : Counts) (ws vs : List ℕ) → length ws ≤ n.values → list_all (is_defined ws) vs ≡ true → LineInRange n (return_line ws vs)
-return_in_range n ws vs le h = record { values = rw append-nil (all_below n.values ws vs le h); blocks = tt; slots = tt; sigs = tt; callees = tt; results = tt }
+return_in_range n ws vs le h = record { values = rw append-nil (all_below n.values ws vs le h); blocks = tt; slots = tt; shown = tt; callees = tt; sigs = tt; results = tt }
 
 -- a draft is whole
 pub whole : (f : Function) (n : FuncName) (s : Sig) (ws ps : List ℕ) (ls : List Line) → f ≡ of_one_block n s (typed ws) ps ls → defined_by ps ls ≡ numbers ws → IsWhole f

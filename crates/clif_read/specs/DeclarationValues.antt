@@ -1,10 +1,10 @@
 -- What the trees of signatures and declarations mean, one definition a rule.
-use Rattle.std.specs.Prelude.{List, [], ◌∷◌, ◌==◌, Bool, true, false, if◌then◌else◌, ℕ, Option, Some, None}
-use Rattle.grammar.specs.Rules.{Lexeme, Rule, Opt, Value}
+use Rattle.std.specs.Prelude.{List, [], ◌∷◌, ◌==◌, Bool, true, false, if◌then◌else◌, ℕ, Some, None}
+use Rattle.grammar.specs.Rules.{Lexeme, Opt, Value}
 use Rattle.ir_core.specs.declared.signatures.Conv.{Conv}
 use Rattle.ir_core.specs.declared.signatures.Conv.TheVariants as convs
 use Rattle.clif_insts.specs.declared.raw.RawNumber.{RawNumber}
-use Rattle.clif_words.specs.Terminals.{◌then◌, ◌or◌, arrow, comma, equals, ext, align, colocated, sig}
+use Rattle.clif_words.specs.Terminals.{◌then◌, ◌or◌, comma, equals, ext, align, colocated, sig}
 use Rattle.clif_insts.specs.Grammar.{number}
 use Rattle.clif_insts.specs.Reading.{name}
 use Rattle.clif_insts.specs.Values.{◌otherwise◌, perhaps, never, commas_value, any_type_value, number_value}

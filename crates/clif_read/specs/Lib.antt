@@ -9,9 +9,12 @@ pub mod SimpleReading
 pub mod SimpleWords
 pub mod ModuleGrammar
 pub mod DeclarationValues
-pub mod HeadValues
 pub mod Attributes
 pub mod Signatures
 pub mod Declarations
 pub mod Heads
 pub mod LetterAttributes
+pub mod LineValues
+pub mod ModuleValues
+pub mod Tags
+pub mod Lines

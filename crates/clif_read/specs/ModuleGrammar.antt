@@ -1,6 +1,6 @@
 -- The grammar of a module, as EBNF is written: `commas a` is `a { "," a }`, `Opt a` is `[ a ]`, `Many a` is `{ a }`.
 -- The grammar of an instruction, and of the parts that it shares with this one, is that of crate clif_insts.
-use Rattle.std.specs.Prelude.{◌≡◌, true, List, [], ◌∷◌, refl}
+use Rattle.std.specs.Prelude.{◌≡◌, true, [], ◌∷◌, refl}
 use Rattle.grammar.specs.Rules.{Rule, Opt, Many, Chain, Unsupported, good}
 use Rattle.clif_words.specs.declared.class.Class.TheVariants as classes
 use Rattle.clif_words.specs.Classes.{code}

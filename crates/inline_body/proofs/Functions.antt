@@ -5,7 +5,8 @@ use Rattle.std.specs.Prelude.{if◌then◌else◌}
 use Rattle.ir_core.specs.declared.names.FuncName.{FuncName}
 use Rattle.ir_core.specs.declared.declarations.Callee.{Callee}
 use Rattle.ir_core.specs.Module.{Function, Module}
-use Rattle.ir_core.specs.Lookup.{In, same_name, find_function}
+use Rattle.ir_core.specs.Lookup.{same_name, find_function}
+use Rattle.ir_core.specs.Lists.{In}
 use Rattle.ir_core.specs.Names.{mentioned, names}
 use Rattle.ir_core.specs.Import.{with_item, with_items, callees_with, callees_after, same_callee, sigs_after}
 use Rattle.ir_core.specs.Splice.{replace}

@@ -3,7 +3,8 @@ use Rattle.std.proofs.Common.{◌≡◌, ℕ, zero, suc, ◌≤◌, inl, inr, �
 use Rattle.ir_core.specs.declared.names.FuncName.{FuncName}
 use Rattle.ir_core.specs.declared.signatures.Ty.{Ty}
 use Rattle.ir_core.specs.Module.{Function, Module}
-use Rattle.ir_core.specs.Lookup.{In, Each, Different, find_function, type_of, definitions, block_numbers}
+use Rattle.ir_core.specs.Lookup.{find_function, type_of, definitions, block_numbers}
+use Rattle.ir_core.specs.Lists.{In, Each, Different}
 use Rattle.ir_core.specs.Accepted.{FunctionAccepted, Accepted}
 use Rattle.ir_core.specs.Canon.{place, canonical_names, canonical, canonical_module}
 use Rattle.ir_core.specs.Whole.{Whole, DifferentNames}

@@ -14,7 +14,8 @@ use Rattle.ir_core.specs.declared.instructions.Access.{Access}
 use Rattle.ir_core.specs.declared.instructions.Access.TheVariants.{Full, Uload, Sload}
 use Rattle.ir_core.specs.declared.instructions.BlockCall.{BlockCall}
 use Rattle.ir_core.specs.Module.{Simple, Nop, Const, Pure, PureImm, Load, Store, StackLoad, StackStore, FuncAddr, Trap, Trapz, Trapnz, Branch, Jump, Brif, BrTable, Function, Branches, Call, Instruction, Line, Plain, Return, ReturnCall, SequencePoint, TryCall}
-use Rattle.ir_core.specs.Lookup.{Each, type_of, signature_of, param_types, ty_of}
+use Rattle.ir_core.specs.Lookup.{type_of, signature_of, param_types, ty_of}
+use Rattle.ir_core.specs.Lists.{Each}
 use Rattle.ir_core.specs.Uses.{branch_targets}
 use Rattle.ir_core.specs.Accepted.{HaveTypes, types_of, each_some, access_type}
 use Rattle.ir_core.specs.Renaming.{Renaming, arg_under, target_under, simple_under, branch_under, called_under, entry_under, instruction_under, tag_under}

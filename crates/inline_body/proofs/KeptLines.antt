@@ -12,7 +12,8 @@ use Rattle.ir_core.specs.declared.instructions.Arg.{Arg}
 use Rattle.ir_core.specs.declared.instructions.Arg.TheVariants as arg
 use Rattle.ir_core.specs.declared.instructions.BlockCall.{BlockCall}
 use Rattle.ir_core.specs.Module.{CallTarget, Direct, Indirect, Function, Module, Line, Block}
-use Rattle.ir_core.specs.Lookup.{and_then, Each, find_block, type_of, signature_of, param_types}
+use Rattle.ir_core.specs.Lookup.{and_then, find_block, type_of, signature_of, param_types}
+use Rattle.ir_core.specs.Lists.{Each}
 use Rattle.ir_core.specs.Uses.{table_targets, values_used, targets_used, called_used, arg_values_used}
 use Rattle.ir_core.specs.Available.{Available}
 use Rattle.ir_core.specs.Accepted.{FunctionAccepted, InstructionTags, CallCounts, CallTypes, TargetCounts, ArgCounts, TargetTypes, arg_type, HaveTypes, types_of, each_some}

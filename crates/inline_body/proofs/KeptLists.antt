@@ -4,7 +4,7 @@ use Rattle.std.specs.Prelude.{slice_get, IsSomeAnd}
 use Rattle.exn_tables.specs.declared.table.Entry.{Entry}
 use Rattle.ir_core.specs.declared.instructions.BlockCall.{BlockCall}
 use Rattle.ir_core.specs.Module.{Jump, Brif, BrTable, Branches, Call, Instruction, Line, Plain, Return, ReturnCall, SequencePoint, TryCall}
-use Rattle.ir_core.specs.Lookup.{In, Each}
+use Rattle.ir_core.specs.Lists.{In, Each}
 use Rattle.ir_core.specs.Uses.{targets, table_targets}
 use Rattle.ir_core.specs.Renaming.{Renaming, entry_under, instruction_under, target_under}
 use Rattle.inline_body.proofs.Local.{some_same}

@@ -10,7 +10,8 @@ use Rattle.ir_core.specs.declared.signatures.Ty.{Ty}
 use Rattle.ir_core.specs.declared.declarations.Callee.{Callee}
 use Rattle.ir_core.specs.declared.instructions.BlockCall.{BlockCall}
 use Rattle.ir_core.specs.Module.{Nop, Const, Pure, PureImm, Load, Store, StackLoad, StackStore, FuncAddr, Trap, Trapz, Trapnz, CallTarget, Direct, Indirect, Function, Module, Branches, Call, Instruction, Line, Block, Plain, Return, ReturnCall, SequencePoint, TryCall}
-use Rattle.ir_core.specs.Lookup.{In, Each, Different, same_name, find_block, find_function, type_of, block_numbers, definitions}
+use Rattle.ir_core.specs.Lookup.{same_name, find_block, find_function, type_of, block_numbers, definitions}
+use Rattle.ir_core.specs.Lists.{In, Each, Different}
 use Rattle.ir_core.specs.Uses.{values_used, called_callees, slots_shown, callees_used}
 use Rattle.ir_core.specs.Whole.{Whole, LineWhole, BlockWhole, DifferentNames, IsModule, declared}
 use Rattle.ir_core.specs.Accepted.{Accepted}

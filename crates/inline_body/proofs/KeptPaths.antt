@@ -4,7 +4,8 @@ use Rattle.std.specs.Prelude.{slice_get}
 use Rattle.exn_tables.specs.declared.table.Entry.{Entry}
 use Rattle.ir_core.specs.declared.instructions.BlockCall.{BlockCall}
 use Rattle.ir_core.specs.Module.{Module, Function, Branches, Call, Instruction, Line, Block, Plain, Return, ReturnCall, SequencePoint, TryCall}
-use Rattle.ir_core.specs.Lookup.{In, find_block, block_numbers, Different}
+use Rattle.ir_core.specs.Lookup.{find_block, block_numbers}
+use Rattle.ir_core.specs.Lists.{In, Different}
 use Rattle.ir_core.specs.Uses.{targets, table_targets}
 use Rattle.ir_core.specs.Available.{terminates, Reach, begin, next, branch}
 use Rattle.ir_core.specs.Renaming.{Renaming, entry_under, line_under, target_under}

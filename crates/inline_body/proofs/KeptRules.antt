@@ -16,7 +16,8 @@ use Rattle.ir_core.specs.declared.instructions.Arg.{Arg}
 use Rattle.ir_core.specs.declared.instructions.Arg.TheVariants as arg
 use Rattle.ir_core.specs.declared.instructions.BlockCall.{BlockCall}
 use Rattle.ir_core.specs.Module.{Simple, Nop, Const, Pure, PureImm, Load, Store, StackLoad, StackStore, FuncAddr, Trap, Trapz, Trapnz, Branch, Jump, Brif, BrTable, CallTarget, Direct, Indirect, Function, Branches, Call, Instruction, Line, Plain, Return, ReturnCall, SequencePoint, TryCall}
-use Rattle.ir_core.specs.Lookup.{and_then, Each, find_block, type_of, signature_of, param_types, width_of, ty_of}
+use Rattle.ir_core.specs.Lookup.{and_then, find_block, type_of, signature_of, param_types, width_of, ty_of}
+use Rattle.ir_core.specs.Lists.{Each}
 use Rattle.ir_core.specs.Values.{cons_some, slot_place, place_in, bytes_in}
 use Rattle.ir_core.specs.Uses.{targets, table_targets, values_used, operands, simple_used, called_used, targets_used, arg_values_used}
 use Rattle.ir_core.specs.Renaming.{Renaming, arg_under, target_under, simple_under, branch_under, called_under, entry_under, instruction_under}

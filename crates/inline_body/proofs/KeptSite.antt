@@ -15,7 +15,8 @@ use Rattle.ir_core.specs.declared.instructions.Arg.TheVariants as arg
 use Rattle.ir_core.specs.declared.instructions.BlockCall.{BlockCall}
 use Rattle.ir_core.specs.declared.places.Item.TheVariants as item
 use Rattle.ir_core.specs.Module.{CallTarget, Direct, Indirect, Function, Module, Branches, Call, Instruction, Line, Block, Plain, Return, ReturnCall, SequencePoint, TryCall}
-use Rattle.ir_core.specs.Lookup.{and_then, In, Each, find_block, type_in, type_of, signature_of, param_types, definitions, line_definitions}
+use Rattle.ir_core.specs.Lookup.{and_then, find_block, type_in, type_of, signature_of, param_types, definitions, line_definitions}
+use Rattle.ir_core.specs.Lists.{In, Each}
 use Rattle.ir_core.specs.Uses.{table_targets, values_used, targets_used, called_used}
 use Rattle.ir_core.specs.Available.{Available}
 use Rattle.ir_core.specs.Accepted.{FunctionAccepted, Rule, count_mismatch, type_mismatch, convention, signature_mismatch, slot_range, tag_place, not_available, KeptAtLine, Counts, Types, Convention, Signature, SlotRange, TagPlace, UsesAvailable, InstructionCounts, InstructionTypes, InstructionConvention, InstructionTags, TargetCounts, ArgCounts, TargetTypes, arg_type, HaveTypes, types_of}

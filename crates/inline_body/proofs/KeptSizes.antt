@@ -4,8 +4,9 @@ use Rattle.exn_tables.specs.declared.table.Entry.{Entry}
 use Rattle.ir_core.specs.declared.declarations.Callee.{Callee}
 use Rattle.ir_core.specs.declared.instructions.BlockCall.{BlockCall}
 use Rattle.ir_core.specs.Module.{Simple, Nop, Const, Pure, PureImm, Load, Store, StackLoad, StackStore, FuncAddr, Trap, Trapz, Trapnz, CallTarget, Direct, Indirect, Function, Module, Jump, Brif, BrTable, Branches, Call, Instruction, Line, Block, Plain, Return, ReturnCall, SequencePoint, TryCall}
-use Rattle.ir_core.specs.Lookup.{Each, type_of, definitions, block_numbers}
-use Rattle.ir_core.specs.Operands.{address_values, entry_target, own_values, simple_values, targets}
+use Rattle.ir_core.specs.Lookup.{type_of, definitions, block_numbers}
+use Rattle.ir_core.specs.Lists.{Each}
+use Rattle.ir_core.specs.Uses.{table_targets, targets, simple_used, called_used, operands}
 use Rattle.ir_core.specs.Canon.{canonical_names, canonical, canonical_module}
 use Rattle.ir_core.specs.Renaming.{Renaming, arg_under, block_under, called_under, entry_under, instruction_under, line_under, simple_under, tag_under, target_under}
 use Rattle.ir_core.specs.Size.{argument_count, block_size, entry_count, line_size, operand_count, sig_size, size_of, total}
@@ -27,7 +28,7 @@ total_map : {A B : Type 0} (h : A → B) (f : B → ℕ) (g : A → ℕ) → ((a
 total_map h f g same [] = refl
 total_map h f g same (x ∷ xs) = ap₂ (λ a b. a + b) (same x) (total_map h f g same xs)
 
-simple_under_values : (r : Renaming) (p : Simple) → simple_values (simple_under r p) ≡ map r.value (simple_values p)
+simple_under_values : (r : Renaming) (p : Simple) → simple_used (simple_under r p) ≡ map r.value (simple_used p)
 simple_under_values r Nop = refl
 simple_under_values r (Const a) = refl
 simple_under_values r (Pure a b) = refl
@@ -41,11 +42,11 @@ simple_under_values r (Trap a) = refl
 simple_under_values r (Trapz a b) = refl
 simple_under_values r (Trapnz a b) = refl
 
-address_under : (r : Renaming) (t : CallTarget) (args : List ℕ) → address_values (called_under r t) ++ map r.value args ≡ map r.value (address_values t ++ args)
+address_under : (r : Renaming) (t : CallTarget) (args : List ℕ) → called_used (called_under r t) ++ map r.value args ≡ map r.value (called_used t ++ args)
 address_under r (Direct k) args = refl
 address_under r (Indirect s a) args = refl
 
-own_under : (r : Renaming) (i : Instruction) → own_values (instruction_under r i) ≡ map r.value (own_values i)
+own_under : (r : Renaming) (i : Instruction) → operands (instruction_under r i) ≡ map r.value (operands i)
 own_under r (Plain p) = simple_under_values r p
 own_under r (Branches (Jump t)) = refl
 own_under r (Branches (Brif v t u)) = refl
@@ -56,7 +57,7 @@ own_under r (Call t args) = address_under r t args
 own_under r (ReturnCall t args) = address_under r t args
 own_under r (TryCall t s args n u) = address_under r t args
 
-table_under : (r : Renaming) (es : List (Entry BlockCall)) → map entry_target (map (entry_under r) es) ≡ map (target_under r) (map entry_target es)
+table_under : (r : Renaming) (es : List (Entry BlockCall)) → table_targets (map (entry_under r) es) ≡ map (target_under r) (table_targets es)
 table_under r [] = refl
 table_under r (e ∷ es) = ap (λ z. target_under r e.target ∷ z) (table_under r es)
 
@@ -84,7 +85,7 @@ entries_same r (ReturnCall a b) = refl
 
 operands_same : (r : Renaming) (i : Instruction) → operand_count (instruction_under r i) ≡ operand_count i
 operands_same r i =
-    let a = ap length (own_under r i) ∙ length_map r.value (own_values i) in
+    let a = ap length (own_under r i) ∙ length_map r.value (operands i) in
     let b = ap (total argument_count) (targets_under r i) ∙ total_map (target_under r) argument_count argument_count (λ t. length_map (arg_under r) t.args) (targets i) in ap₂ (λ x y. x + y) a b
 
 line_same : (r : Renaming) (l : Line) → line_size (line_under r l) ≡ line_size l

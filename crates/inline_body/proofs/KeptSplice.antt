@@ -14,7 +14,8 @@ use Rattle.ir_core.specs.declared.instructions.Arg.TheVariants as arg
 use Rattle.ir_core.specs.declared.instructions.BlockCall.{BlockCall}
 use Rattle.ir_core.specs.declared.places.Item.TheVariants as item
 use Rattle.ir_core.specs.Module.{CallTarget, Module, Branches, Call, Instruction, Line, Block, Plain, Return, ReturnCall, SequencePoint, TryCall}
-use Rattle.ir_core.specs.Lookup.{In, Each, find_block, type_of, signature_of, param_types}
+use Rattle.ir_core.specs.Lookup.{find_block, type_of, signature_of, param_types}
+use Rattle.ir_core.specs.Lists.{In, Each}
 use Rattle.ir_core.specs.Uses.{targets, table_targets, values_used, targets_used, called_used, arg_values_used}
 use Rattle.ir_core.specs.Available.{Available}
 use Rattle.ir_core.specs.Accepted.{InstructionCounts, InstructionTypes, InstructionSignature, InstructionTags, TargetCounts, TargetTypes, HaveTypes, types_of, each_some, type_mismatch, EntryTypes, EntryIsNoTarget, entry_target}

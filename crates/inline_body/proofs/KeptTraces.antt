@@ -5,7 +5,8 @@ use Rattle.std.proofs.lemmas.Bool.{cases_eq}
 use Rattle.exn_tables.specs.declared.table.Entry.{Entry}
 use Rattle.ir_core.specs.declared.instructions.BlockCall.{BlockCall}
 use Rattle.ir_core.specs.Module.{Module, Branches, Call, Instruction, Line, Block, Plain, Return, ReturnCall, SequencePoint, TryCall}
-use Rattle.ir_core.specs.Lookup.{In, find_block}
+use Rattle.ir_core.specs.Lookup.{find_block}
+use Rattle.ir_core.specs.Lists.{In}
 use Rattle.ir_core.specs.Uses.{targets}
 use Rattle.ir_core.specs.Available.{terminates, Reach, begin, next, branch, Available}
 use Rattle.ir_core.specs.Renaming.{block_under}

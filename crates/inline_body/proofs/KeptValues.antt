@@ -6,7 +6,8 @@ use Rattle.exn_tables.specs.declared.table.Entry.{Entry}
 use Rattle.ir_core.specs.declared.signatures.Ty.{Ty}
 use Rattle.ir_core.specs.declared.instructions.BlockCall.{BlockCall}
 use Rattle.ir_core.specs.Module.{Module, Function, Branches, Call, Instruction, Line, Block, Plain, Return, ReturnCall, SequencePoint, TryCall}
-use Rattle.ir_core.specs.Lookup.{In, Each, Different, find_block, signature_of, param_types, definitions, line_definitions, block_numbers}
+use Rattle.ir_core.specs.Lookup.{find_block, signature_of, param_types, definitions, line_definitions, block_numbers}
+use Rattle.ir_core.specs.Lists.{In, Each, Different}
 use Rattle.ir_core.specs.Uses.{table_targets}
 use Rattle.ir_core.specs.Accepted.{InstructionCounts, TargetCounts, count_mismatch, types_of, each_some}
 use Rattle.ir_core.specs.Whole.{Whole, declared}

@@ -12,7 +12,8 @@ use Rattle.ir_core.specs.declared.instructions.Arg.{Arg}
 use Rattle.ir_core.specs.declared.instructions.Arg.TheVariants as arg
 use Rattle.ir_core.specs.declared.instructions.BlockCall.{BlockCall}
 use Rattle.ir_core.specs.Module.{Simple, Nop, Const, Pure, PureImm, Load, Store, StackLoad, StackStore, FuncAddr, Trap, Trapz, Trapnz, Jump, Brif, BrTable, CallTarget, Direct, Indirect, Function, Branches, Call, Instruction, Line, Block, Plain, Return, ReturnCall, SequencePoint, TryCall}
-use Rattle.ir_core.specs.Lookup.{and_then, In, Each, find_block, type_in, type_of, signature_of, param_types, width_of, ty_of, block_numbers}
+use Rattle.ir_core.specs.Lookup.{and_then, find_block, type_in, type_of, signature_of, param_types, width_of, ty_of, block_numbers}
+use Rattle.ir_core.specs.Lists.{In, Each}
 use Rattle.ir_core.specs.Values.{cons_some, slot_place, place_in, bytes_in}
 use Rattle.ir_core.specs.Uses.{targets, table_targets, values_used, simple_used, targets_used, called_used, arg_values_used, slots_used, sigs_used, called_sigs, blocks_used}
 use Rattle.ir_core.specs.Accepted.{InstructionCounts, InstructionTypes, InstructionSignature, InstructionSlot, SimpleTypes, TargetCounts, TargetTypes, HaveTypes, arg_type, types_of, each_some, widths_of_values, OpTypes, CalledTypes, store_form}

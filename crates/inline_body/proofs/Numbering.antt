@@ -13,7 +13,8 @@ use Rattle.ir_core.specs.declared.instructions.Arg.{Arg}
 use Rattle.ir_core.specs.declared.instructions.Arg.TheVariants as arg
 use Rattle.ir_core.specs.declared.instructions.BlockCall.{BlockCall}
 use Rattle.ir_core.specs.Module.{Simple, Nop, Const, Pure, PureImm, Load, Store, StackLoad, StackStore, FuncAddr, Trap, Trapz, Trapnz, Branch, Jump, Brif, BrTable, CallTarget, Direct, Indirect, Instruction, Plain, Branches, SequencePoint, Return, Call, ReturnCall, TryCall, Line, Block, Function, Module}
-use Rattle.ir_core.specs.Lookup.{In, Each, Different, same_name, find_function, find_block, line_definitions, definitions, block_numbers}
+use Rattle.ir_core.specs.Lookup.{same_name, find_function, find_block, line_definitions, definitions, block_numbers}
+use Rattle.ir_core.specs.Lists.{In, Each, Different}
 use Rattle.ir_core.specs.Names.{mentioned, in_order}
 use Rattle.ir_core.specs.Names.{names as module_names}
 use Rattle.ir_core.specs.Renaming.{Renaming, arg_under, target_under, tag_under, entry_under, simple_under, branch_under, called_under, instruction_under, line_under, block_under}

@@ -5,7 +5,8 @@ use Rattle.std.specs.Prelude.{if◌then◌else◌, nat_lt}
 use Rattle.std.proofs.lemmas.Bool.{cases_eq, cases_lt, ltb-true, lt-ltb}
 use Rattle.ir_core.specs.declared.names.FuncName.{FuncName}
 use Rattle.ir_core.specs.declared.names.FuncName.TheVariants as name
-use Rattle.ir_core.specs.Lookup.{In, same_name}
+use Rattle.ir_core.specs.Lookup.{same_name}
+use Rattle.ir_core.specs.Lists.{In}
 use Rattle.ir_core.specs.Names.{bytes_before, name_before, with_name, in_order}
 use Rattle.ir_core.proofs.Equal.{both_true, true_both, number_equal, name_equal, equal_name}
 

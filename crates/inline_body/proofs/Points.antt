@@ -6,7 +6,8 @@ use Rattle.exn_tables.specs.declared.table.Entry.{Entry}
 use Rattle.ir_core.specs.declared.instructions.Arg.TheVariants as arg
 use Rattle.ir_core.specs.declared.instructions.BlockCall.{BlockCall}
 use Rattle.ir_core.specs.Module.{Simple, Nop, Const, Pure, PureImm, Load, Store, StackLoad, StackStore, FuncAddr, Trap, Trapz, Trapnz, Branches, Call, Instruction, Line, Block, Plain, Return, ReturnCall, SequencePoint, TryCall}
-use Rattle.ir_core.specs.Lookup.{In, find_block, block_numbers, Different}
+use Rattle.ir_core.specs.Lookup.{find_block, block_numbers}
+use Rattle.ir_core.specs.Lists.{In, Different}
 use Rattle.ir_core.specs.Renaming.{Renaming, called_under, entry_under, instruction_under, simple_under, block_under, target_under}
 use Rattle.ir_core.specs.Import.{sig_after}
 use Rattle.ir_core.specs.Available.{terminates, simple_terminates}

@@ -3,7 +3,8 @@ use Rattle.std.proofs.Common.{◌≡◌, ℕ, suc, ◌≤◌, ◌⊎◌, inl, in
 use Rattle.std.specs.Prelude.{if◌then◌else◌}
 use Rattle.std.proofs.lemmas.Bool.{cases_eq}
 use Rattle.ir_core.specs.Module.{Line, Block}
-use Rattle.ir_core.specs.Lookup.{In, Different, block_numbers, find_block}
+use Rattle.ir_core.specs.Lookup.{block_numbers, find_block}
+use Rattle.ir_core.specs.Lists.{In, Different}
 use Rattle.ir_core.specs.Renaming.{block_under}
 use Rattle.ir_core.specs.Splice.{Kind, Last, Piece, Splicing, Tries, Within, after_blocks, body, caller_names, cut_block, kind_of, piece, piece_by, spliced, spliced_blocks}
 use Rattle.inline_body.proofs.Related.{Distinct}

@@ -6,7 +6,8 @@ use Rattle.std.proofs.lemmas.Bool.{cases_eq}
 use Rattle.ir_core.specs.declared.names.FuncName.{FuncName}
 use Rattle.ir_core.specs.declared.declarations.Callee.{Callee}
 use Rattle.ir_core.specs.Module.{CallTarget, Direct, Indirect, Instruction, Plain, Branches, SequencePoint, Return, Call, ReturnCall, TryCall, Line, Block, Function, Module}
-use Rattle.ir_core.specs.Lookup.{In, Each, and_then, find_block, find_function}
+use Rattle.ir_core.specs.Lookup.{and_then, find_block, find_function}
+use Rattle.ir_core.specs.Lists.{In, Each}
 use Rattle.ir_core.specs.Splice.{sides, splice_with}
 use Rattle.ir_core.specs.Site.{named_callee, callee_of}
 use Rattle.ir_core.specs.Uses.{called_callees, callees_used}

@@ -4,7 +4,8 @@ use Rattle.std.proofs.Common.{◌≡◌, ◌⊎◌, inl, inr, ℕ, zero, suc, Li
 use Rattle.std.specs.Prelude.{slice_get, if◌then◌else◌}
 use Rattle.ir_core.specs.declared.names.FuncName.{FuncName}
 use Rattle.ir_core.specs.Module.{Line, Block, Function, Module}
-use Rattle.ir_core.specs.Lookup.{In, and_then, same_name, find_block, find_function}
+use Rattle.ir_core.specs.Lookup.{and_then, same_name, find_block, find_function}
+use Rattle.ir_core.specs.Lists.{In}
 use Rattle.ir_core.specs.Splice.{sides, spliced, splice_with, replace}
 use Rattle.ir_core.specs.Whole.{Whole, DifferentNames, IsModule}
 use Rattle.ir_core.proofs.Equal.{equal_name}

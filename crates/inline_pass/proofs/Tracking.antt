@@ -5,7 +5,8 @@ use Rattle.std.proofs.lemmas.Bool.{cases_eq, cases_lt}
 use Rattle.ir_core.specs.declared.names.FuncName.{FuncName}
 use Rattle.ir_core.specs.declared.declarations.Callee.{Callee}
 use Rattle.ir_core.specs.Module.{CallTarget, Direct, Indirect, Instruction, Plain, Branches, SequencePoint, Return, Call, ReturnCall, TryCall, Line, Block, Function}
-use Rattle.ir_core.specs.Lookup.{In, find_block}
+use Rattle.ir_core.specs.Lookup.{find_block}
+use Rattle.ir_core.specs.Lists.{In}
 use Rattle.ir_core.specs.Renaming.{block_under, called_under, instruction_under, line_under}
 use Rattle.ir_core.specs.Splice.{Splicing, Kind, Within, Last, Tries, kind_of, body, jump_in, cut_block, after_block, after_blocks, caller_names, spliced, spliced_blocks, sides, splice_with}
 use Rattle.ir_core.specs.Site.{named_callee, callee_of}

@@ -2,7 +2,8 @@
 use Rattle.std.specs.Prelude.{◌≡◌, List, Some}
 use Rattle.ir_core.specs.declared.names.FuncName.{FuncName}
 use Rattle.ir_core.specs.Module.{Function, Module}
-use Rattle.ir_core.specs.Lookup.{In, and_then}
+use Rattle.ir_core.specs.Lookup.{and_then}
+use Rattle.ir_core.specs.Lists.{In}
 use Rattle.ir_core.specs.Same.{Same}
 use Rattle.ir_core.specs.Whole.{IsModule}
 use Rattle.ir_core.specs.Accepted.{Accepted}

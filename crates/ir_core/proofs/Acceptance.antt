@@ -13,7 +13,8 @@ use Rattle.ir_core.specs.declared.signatures.Sig.{Sig}
 use Rattle.ir_core.specs.declared.instructions.BlockCall.{BlockCall}
 use Rattle.ir_core.specs.Splice.{first_number}
 use Rattle.ir_core.specs.Uses.{targets}
-use Rattle.ir_core.specs.Lookup.{In, Each, find_block}
+use Rattle.ir_core.specs.Lookup.{find_block}
+use Rattle.ir_core.specs.Lists.{In, Each}
 use Rattle.ir_core.specs.Available.{Reach, begin, next, branch, Available}
 use Rattle.ir_core.specs.Accepted.{Rule, no_terminator, entry_target, count_mismatch, type_mismatch, convention, signature_mismatch, slot_range, tag_place, KeptAtLine, Declared}
 use Rattle.ir_core.proofs.Written.{signature, slot, declares, f, h}

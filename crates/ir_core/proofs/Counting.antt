@@ -79,20 +79,20 @@ definitions_below n (b ∷ bs) h = below_join n.values b.params (line_definition
 pub defined_bound : (f : Function) → IsSound f → length (definitions f.blocks) ≤ length f.types
 defined_bound f s = omega (arith, length_upto (length f.types), subset_length (definitions f.blocks) (upto (length f.types)) s.defined_once (λ v i. in_upto v (length f.types) (below_in (length f.types) (definitions f.blocks) v (definitions_below (counts_of f) f.blocks s.blocks) i)))
 
-pub all_defined : (f : Function) → IsSound f → length (definitions f.blocks) ≡ length f.types → (v : ℕ) → v < length f.types → In v (definitions f.blocks)
-all_defined f s e v h =
-    elim (in_cases_of v (definitions f.blocks)) [
+-- different numbers below n, as many as n, are all of those below n
+pub all_in : (n : ℕ) (ns : List ℕ) → Different ns → Below n ns → length ns ≡ n → (v : ℕ) → v < n → In v ns
+all_in n ns d range e v h =
+    elim (in_cases_of v ns) [
       | inl q ↦ q
       | inr q ↦
-          let most : length (v ∷ definitions f.blocks) ≤ length (upto (length f.types)) =
-          subset_length (v ∷ definitions f.blocks) (upto (length f.types)) (q, s.defined_once)
-          (λ w i. elim i [
-            | inl p ↦ in_upto w (length f.types) (omega (arith, p, h))
-            | inr p ↦ in_upto w (length f.types) (below_in (length f.types) (definitions f.blocks) w (definitions_below (counts_of f) f.blocks s.blocks) p)
-          ])
+          let most : length (v ∷ ns) ≤ length (upto n) =
+          subset_length (v ∷ ns) (upto n) (q, d) (λ w i. elim i [ inl p ↦ in_upto w n (omega (arith, p, h)) | inr p ↦ in_upto w n (below_in n ns w range p) ])
           in
-          absurd (omega (arith, most, e, length_upto (length f.types)))
+          absurd (omega (arith, most, e, length_upto n))
     ]
+
+pub all_defined : (f : Function) → IsSound f → length (definitions f.blocks) ≡ length f.types → (v : ℕ) → v < length f.types → In v (definitions f.blocks)
+all_defined f s e v h = all_in (length f.types) (definitions f.blocks) s.defined_once (definitions_below (counts_of f) f.blocks s.blocks) e v h
 
 pub whole_by_count : (f : Function) → IsSound f → 0 < length f.blocks → length (definitions f.blocks) ≡ length f.types → IsWhole f
 whole_by_count f s b e = record { has_block = b; defined = all_defined f s e; once = s.defined_once }

@@ -26,8 +26,9 @@ line_more n m h l r =
       values = below_more n.values m.values h.values _ r.values;
       blocks = below_more n.blocks m.blocks h.blocks _ r.blocks;
       slots = below_more n.slots m.slots h.slots _ r.slots;
-      sigs = below_more n.sigs m.sigs h.sigs _ r.sigs;
+      shown = below_more n.slots m.slots h.slots _ r.shown;
       callees = below_more n.callees m.callees h.callees _ r.callees;
+      sigs = below_more n.sigs m.sigs h.sigs _ r.sigs;
       results = below_more n.values m.values h.values _ r.results;
     }
 

@@ -28,3 +28,4 @@ pub mod Throws
 pub mod Walking
 pub mod Writing
 pub mod Written
+pub mod Wholeness

@@ -13,7 +13,8 @@ use Rattle.ir_core.specs.declared.declarations.Callee.{Callee}
 use Rattle.ir_core.specs.declared.instructions.BlockCall.{BlockCall}
 use Rattle.ir_core.specs.declared.places.Item.TheVariants as item
 use Rattle.ir_core.specs.Module.{Pure, Direct, Plain, Return, Call, Instruction, Line, Block, Function, Module}
-use Rattle.ir_core.specs.Lookup.{In, find_block}
+use Rattle.ir_core.specs.Lookup.{find_block}
+use Rattle.ir_core.specs.Lists.{In}
 use Rattle.ir_core.specs.Uses.{targets}
 use Rattle.ir_core.specs.Available.{Reach, begin, next, branch}
 use Rattle.ir_core.specs.Splice.{Splicing, sides}

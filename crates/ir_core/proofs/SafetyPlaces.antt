@@ -11,7 +11,8 @@ use Rattle.ir_core.specs.declared.signatures.Ty.{Ty}
 use Rattle.ir_core.specs.declared.declarations.Callee.{Callee}
 use Rattle.ir_core.specs.declared.instructions.BlockCall.{BlockCall}
 use Rattle.ir_core.specs.Module.{Line, Block, Function, Module}
-use Rattle.ir_core.specs.Lookup.{In, Each, same_name, find_function, find_block, type_in, type_of, definitions}
+use Rattle.ir_core.specs.Lookup.{same_name, find_function, find_block, type_in, type_of, definitions}
+use Rattle.ir_core.specs.Lists.{In, Each}
 use Rattle.ir_core.specs.Names.{name_before, with_name, in_order, mentioned, names, address, address_from, address_of}
 use Rattle.ir_core.specs.Values.{cons_some}
 use Rattle.ir_core.specs.Step.{numbers}

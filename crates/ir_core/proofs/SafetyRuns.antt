@@ -1,7 +1,8 @@
 -- An accepted module never gets stuck.
 use Rattle.std.proofs.Common.{◌≢◌, ℕ, zero, suc, List, [], sym, subst}
 use Rattle.ir_core.specs.Module.{Function, Module}
-use Rattle.ir_core.specs.Lookup.{In, find_function, param_types}
+use Rattle.ir_core.specs.Lookup.{find_function, param_types}
+use Rattle.ir_core.specs.Lists.{In}
 use Rattle.ir_core.specs.Machine.{Frame, Wait, World, Stuck, Moment, On, Over}
 use Rattle.ir_core.specs.Step.{step, step_at}
 use Rattle.ir_core.specs.Runs.{run, first}

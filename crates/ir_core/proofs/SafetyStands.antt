@@ -11,7 +11,8 @@ use Rattle.ir_core.specs.declared.signatures.Sig.{Sig}
 use Rattle.ir_core.specs.declared.places.Item.TheVariants as item
 use Rattle.ir_core.specs.declared.instructions.BlockCall.{BlockCall}
 use Rattle.ir_core.specs.Module.{CallTarget, Instruction, Plain, Branches, SequencePoint, Return, Call, ReturnCall, TryCall, Line, Block, Function, Module}
-use Rattle.ir_core.specs.Lookup.{and_then, In, Each, find_block, signature_of, param_types}
+use Rattle.ir_core.specs.Lookup.{and_then, find_block, signature_of, param_types}
+use Rattle.ir_core.specs.Lists.{In, Each}
 use Rattle.ir_core.specs.Uses.{targets, table_targets, operands, targets_used, arg_values_used, values_used}
 use Rattle.ir_core.specs.Values.{no_values, bind, i64, unwritten}
 use Rattle.ir_core.specs.Available.{terminates, Reach, begin, next, branch, Available}

@@ -18,7 +18,8 @@ use Rattle.ir_core.specs.declared.instructions.BlockCall.{BlockCall}
 use Rattle.ir_core.specs.declared.instructions.Access.{Access}
 use Rattle.ir_core.specs.declared.instructions.Access.TheVariants.{Full, Uload, Sload}
 use Rattle.ir_core.specs.Module.{Simple, Nop, Const, Pure, PureImm, Load, Store, StackLoad, StackStore, FuncAddr, Trap, Trapz, Trapnz, Branch, Jump, Brif, BrTable, CallTarget, Direct, Indirect, Instruction, Plain, Branches, SequencePoint, Return, Call, ReturnCall, TryCall, Line, Block, Function, Module}
-use Rattle.ir_core.specs.Lookup.{and_then, In, Each, find_function, type_of, signature_number, signature_of, param_types, width_of, ty_of}
+use Rattle.ir_core.specs.Lookup.{and_then, find_function, type_of, signature_number, signature_of, param_types, width_of, ty_of}
+use Rattle.ir_core.specs.Lists.{In, Each}
 use Rattle.ir_core.specs.Names.{names, name_at, address_of}
 use Rattle.ir_core.specs.Signatures.{same_sig}
 use Rattle.ir_core.specs.Uses.{targets, table_targets, operands, simple_used, called_used, callees_used, simple_callees}

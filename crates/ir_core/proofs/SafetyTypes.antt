@@ -11,7 +11,8 @@ use Rattle.ir_core.specs.declared.signatures.Ty.{Ty}
 use Rattle.ir_core.specs.declared.instructions.Arg.{Arg}
 use Rattle.ir_core.specs.declared.instructions.Arg.TheVariants as arg
 use Rattle.ir_core.specs.Module.{Function}
-use Rattle.ir_core.specs.Lookup.{and_then, In, type_of, width_of, ty_of}
+use Rattle.ir_core.specs.Lookup.{and_then, type_of, width_of, ty_of}
+use Rattle.ir_core.specs.Lists.{In}
 use Rattle.ir_core.specs.Uses.{arg_values_used}
 use Rattle.ir_core.specs.Values.{Env, cons_some, all_of, put, bind, value_for, values_for}
 use Rattle.ir_core.specs.Effect.{arg_value}

@@ -2,11 +2,14 @@
 use Rattle.std.proofs.Common.{◌≡◌, ℕ, ◌+◌, ◌<◌, List, [], ◌∷◌, ◌++◌, map, length, take, get_or, refl, sym, ap, ap₂, ◌∙◌, subst, arith, eq-eqb, ne_eqb, append_assoc, inl, inr}
 use Rattle.std.specs.Prelude.{if◌then◌else◌}
 use Rattle.std.proofs.lemmas.List.{take_more}
+use Rattle.exn_tables.specs.declared.table.Entry.{Entry}
+use Rattle.ir_core.specs.declared.instructions.BlockCall.{BlockCall}
 use Rattle.ir_core.specs.Module.{Block}
 use Rattle.ir_core.specs.Lookup.{block_numbers}
 use Rattle.ir_core.specs.Lists.{In, Different, Each}
 use Rattle.ir_core.specs.Edits.{params_of, lines_of}
-use Rattle.ir_core.specs.Size.{total, line_size, block_size, size_at, capped}
+use Rattle.ir_core.specs.Uses.{table_targets}
+use Rattle.ir_core.specs.Size.{total, argument_count, line_size, block_size, size_at, capped}
 
 pub capped_add : (a b : ℕ) → capped (capped a + b) ≡ capped (a + b)
 capped_add a b = omega arith
@@ -24,6 +27,10 @@ total_join f (x ∷ xs) ys = omega (arith, total_join f xs ys)
 pub total_map : {A B : Type 0} (f : B → ℕ) (g : A → B) (xs : List A) → total f (map g xs) ≡ total (λ x. f (g x)) xs
 total_map f g [] = refl
 total_map f g (x ∷ xs) = ap (λ n. f (g x) + n) (total_map f g xs)
+
+pub total_targets : (es : List (Entry BlockCall)) → total argument_count (table_targets es) ≡ total (λ e. argument_count e.target) es
+total_targets [] = refl
+total_targets (e ∷ es) = ap (λ n. argument_count e.target + n) (total_targets es)
 
 pub total_more : {A : Type 0} (f : A → ℕ) (xs : List A) (i : ℕ) (d : A) → i < length xs → total f (take (i + 1) xs) ≡ total f (take i xs) + f (get_or xs i d)
 total_more f xs i d h = ap (total f) (take_more xs i d h) ∙ (total_join f (take i xs) (get_or xs i d ∷ []) ∙ omega arith)

@@ -3,7 +3,8 @@
 use Rattle.std.specs.Prelude.{◌≡◌, ℕ, suc, List, [], ◌∷◌, ◌++◌, map, nat_eq, if◌then◌else◌}
 use Rattle.ir_core.specs.declared.signatures.Ty.{Ty}
 use Rattle.ir_core.specs.Module.{Function, Module}
-use Rattle.ir_core.specs.Lookup.{Each, type_in, definitions, block_numbers}
+use Rattle.ir_core.specs.Lookup.{type_in, definitions, block_numbers}
+use Rattle.ir_core.specs.Lists.{Each}
 use Rattle.ir_core.specs.Renaming.{Renaming, block_under}
 use Rattle.ir_core.specs.Splice.{with_type}
 use Rattle.ir_core.specs.Whole.{Whole}

@@ -14,7 +14,6 @@ pub mod Module
 pub mod Named
 pub mod Names
 pub mod Numbering
-pub mod Operands
 pub mod Pieces
 pub mod Renaming
 pub mod Runs

@@ -1,27 +1,21 @@
--- Membership, difference and bounds of listed numbers, by recursion over the list.
-use Rattle.std.specs.Prelude.{◌≡◌, ℕ, ◌<◌, ◌⊎◌, List, [], ◌∷◌, ◌++◌}
+-- Membership, difference and bounds in lists.
+use Rattle.std.specs.Prelude.{◌≡◌, ℕ, ◌<◌, ◌⊎◌, ⊤, List, [], ◌∷◌}
 
--- a is an element
+-- a stands in the list
 abbrev pub In : {A : Type 0} → A → List A → Type 0
 In a [] = ⊥
 In a (b ∷ bs) = (a ≡ b) ⊎ In a bs
 
--- no number stands twice
+-- P holds of each
+abbrev pub Each : {A : Type 0} → (A → Type 0) → List A → Type 0
+Each P [] = ⊤
+Each P (a ∷ as') = P a × Each P as'
+
+-- no number stands in the list twice
 abbrev pub Different : List ℕ → Type 0
-Different [] = Unit {0}
+Different [] = ⊤
 Different (n ∷ ns) = (In n ns → ⊥) × Different ns
 
 -- each number is below the bound
 abbrev pub Below : ℕ → List ℕ → Type 0
-Below bound [] = Unit {0}
-Below bound (n ∷ ns) = (n < bound) × Below bound ns
-
--- the fact holds of each element
-abbrev pub Each : {A : Type 0} → (A → Type 0) → List A → Type 0
-Each P [] = Unit {0}
-Each P (x ∷ xs) = P x × Each P xs
-
--- the lists that a function gives for the elements, joined
-abbrev pub joined : {A B : Type 0} → (A → List B) → List A → List B
-joined f [] = []
-joined f (x ∷ xs) = f x ++ joined f xs
+Below bound ns = Each (λ n. n < bound) ns

@@ -1,5 +1,5 @@
 -- Where the parts of a module are found by their names and numbers.
-use Rattle.std.specs.Prelude.{◌≡◌, ◌⊎◌, ⊤, ℕ, List, [], ◌∷◌, ◌++◌, Bool, true, false, ◌&&◌, Option, Some, None, nat_eq, if◌then◌else◌, slice_get, map}
+use Rattle.std.specs.Prelude.{ℕ, List, [], ◌∷◌, ◌++◌, Bool, true, false, ◌&&◌, Option, Some, None, nat_eq, if◌then◌else◌, slice_get, map}
 use Rattle.clk_num.specs.declared.width.Width.{Width}
 use Rattle.clk_num.specs.declared.width.Width.TheVariants.{W8, W16, W32, W64, W128}
 use Rattle.ir_core.specs.declared.signatures.Ty.{Ty}
@@ -82,18 +82,3 @@ ty_of W16 = ty.I16
 ty_of W32 = ty.I32
 ty_of W64 = ty.I64
 ty_of W128 = ty.I128
-
--- a stands in the list
-abbrev pub In : {A : Type 0} → A → List A → Type 0
-In a [] = ⊥
-In a (b ∷ bs) = (a ≡ b) ⊎ In a bs
-
--- P holds of each
-abbrev pub Each : {A : Type 0} → (A → Type 0) → List A → Type 0
-Each P [] = ⊤
-Each P (a ∷ as') = P a × Each P as'
-
--- no number stands in the list twice
-abbrev pub Different : List ℕ → Type 0
-Different [] = ⊤
-Different (n ∷ ns) = (In n ns → ⊥) × Different ns

@@ -14,6 +14,7 @@ use Rattle.ir_core.specs.Lookup.{same_name}
 use Rattle.ir_core.specs.Lists.{Each}
 use Rattle.ir_core.specs.Edits.{Body}
 use Rattle.ir_core.specs.Sound.{IsWhole}
+use Rattle.ir_core.specs.Whole.{IsModule}
 
 abbrev pub function_in : Body → Function
 function_in body = body.function
@@ -33,8 +34,9 @@ compare_users p q = ordering_then (nat_cmp p.0 q.0) (nat_cmp p.1 q.1)
 abbrev pub compare_texts : List ℕ → Vec ℕ Global → Ordering
 compare_texts text key = slice_cmp nat_cmp text key.items
 
--- every function is whole, and the index has the place of each name
+-- every function is whole, their names differ, and the index has the place of each
 pub record IsNamed (s : Inside) : Type 0 where
-  pub whole : Each IsWhole (functions_of s)
+  pub defined : Each IsWhole (functions_of s)
+  pub functions : IsModule (functions_of s)
   pub texts : (text : List ℕ) → get_by (compare_texts text) s.texts ≡ place_of (name.Text text) (functions_of s)
   pub users : (first second : ℕ) → get_by (compare_users (first, second)) s.users ≡ place_of (name.User first second) (functions_of s)

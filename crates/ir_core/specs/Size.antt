@@ -6,7 +6,7 @@ use Rattle.std.specs.Prelude.{ℕ, ◌+◌, List, [], ◌∷◌, length, min}
 use Rattle.ir_core.specs.declared.signatures.Sig.{Sig}
 use Rattle.ir_core.specs.declared.instructions.BlockCall.{BlockCall}
 use Rattle.ir_core.specs.Module.{BrTable, Instruction, Branches, TryCall, Line, Block, Function}
-use Rattle.ir_core.specs.Operands.{own_values, targets}
+use Rattle.ir_core.specs.Uses.{operands, targets}
 use Rattle.ir_core.specs.Edits.{params_of, lines_of}
 
 -- the sum of a number for each element
@@ -18,7 +18,7 @@ abbrev pub argument_count : BlockCall → ℕ
 argument_count target = length target.args
 
 abbrev pub operand_count : Instruction → ℕ
-operand_count i = length (own_values i) + total argument_count (targets i)
+operand_count i = length (operands i) + total argument_count (targets i)
 
 abbrev pub entry_count : Instruction → ℕ
 entry_count (Branches (BrTable index default entries)) = length entries

@@ -7,7 +7,7 @@ use Rattle.ir_core.specs.declared.declarations.Callee.{Callee}
 use Rattle.ir_core.specs.Module.{Line, Block, Function}
 use Rattle.ir_core.specs.Lookup.{definitions, block_numbers}
 use Rattle.ir_core.specs.Lists.{In, Different, Below, Each}
-use Rattle.ir_core.specs.Operands.{used_values, used_blocks, used_slots, used_sigs, used_callees}
+use Rattle.ir_core.specs.Uses.{values_used, slots_used, slots_shown, callees_used, sigs_used, blocks_used}
 
 -- how many entities of each kind a function has
 pub record Counts : Type 0 where
@@ -22,11 +22,12 @@ counts_of f = record { values = length f.types; blocks = length f.blocks; slots 
 
 -- each number of an instruction names an entity
 pub record LineInRange (n : Counts) (l : Line) : Type 0 where
-  pub values : Below n.values (used_values l.inst)
-  pub blocks : Below n.blocks (used_blocks l.inst)
-  pub slots : Below n.slots (used_slots l.inst)
-  pub sigs : Below n.sigs (used_sigs l.inst)
-  pub callees : Below n.callees (used_callees l.inst)
+  pub values : Below n.values (values_used l.inst)
+  pub blocks : Below n.blocks (blocks_used l.inst)
+  pub slots : Below n.slots (slots_used l.inst)
+  pub shown : Below n.slots (slots_shown l.tags)
+  pub callees : Below n.callees (callees_used l.inst)
+  pub sigs : Below n.sigs (sigs_used l.inst)
   pub results : Below n.values l.results
 
 pub record BlockInRange (n : Counts) (b : Block) : Type 0 where

@@ -5,7 +5,7 @@ use Rattle.std.specs.Prelude.{ℕ, zero, suc, ◌+◌, ◌*◌, ℤ, pos, negsuc
 use Rattle.std.specs.Option.{option_map_or}
 use Rattle.clk_num.specs.Numbers.{signed}
 use Rattle.clk_num.specs.Operations.{DataValue}
-use Rattle.clk_num.specs.Width.{bits_of, same}
+use Rattle.clk_num.specs.Width.{bits_of}
 use Rattle.clk_num.specs.declared.op.Op.{Op}
 use Rattle.clk_num.specs.declared.op.Op.TheVariants.{Icmp, Select, Uextend, Sextend, Ireduce}
 use Rattle.clk_num.specs.declared.op.TrapCode.{TrapCode}
@@ -35,7 +35,7 @@ use Rattle.ir_core.specs.Lookup.{type_of, line_definitions}
 use Rattle.ir_core.specs.Module.{Simple, Branch, CallTarget, Instruction, Line, Block, Function, Module}
 use Rattle.ir_core.specs.Module.{Nop, Const, Pure, PureImm, Load, Store, StackLoad, StackStore, FuncAddr, Trap, Trapz, Trapnz, Jump, Brif, BrTable, Direct, Indirect, Plain, Branches, SequencePoint, Return, Call, ReturnCall, TryCall}
 use Rattle.ir_core.specs.Numbering.{Numbering, numbering_of, place}
-use Rattle.ir_core.specs.Pieces.{Text, Nothing, Blanks, Word, Numbered, Name, Number, Signed, Offset, Mark, Arrow, Then, ◌▹◌, spelled, space, line_end, indent, comma, colon, equals, more, separated, in_parentheses, in_brackets}
+use Rattle.ir_core.specs.Pieces.{Text, Nothing, Word, Numbered, Name, Number, Signed, Offset, Mark, Arrow, ◌▹◌, spelled, space, line_end, indent, comma, colon, equals, separated, in_parentheses, in_brackets}
 use Rattle.ir_core.specs.Words.{op_word, condition_word, type_word, type_of_width, convention_word}
 
 -- ---- names and signatures

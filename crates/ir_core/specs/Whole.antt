@@ -3,7 +3,8 @@
 use Rattle.std.specs.Prelude.{◌≡◌, ◌≢◌, ◌<◌, ⊤, ℕ, List, [], ◌∷◌, length, map, None}
 use Rattle.ir_core.specs.declared.declarations.Callee.{Callee}
 use Rattle.ir_core.specs.Module.{Line, Block, Function, Module}
-use Rattle.ir_core.specs.Lookup.{In, Each, Different, find_function, definitions, block_numbers}
+use Rattle.ir_core.specs.Lookup.{find_function, definitions, block_numbers}
+use Rattle.ir_core.specs.Lists.{In, Each, Different}
 use Rattle.ir_core.specs.Uses.{values_used, slots_used, slots_shown, callees_used, sigs_used, blocks_used}
 
 -- the values that are declared

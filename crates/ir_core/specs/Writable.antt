@@ -26,7 +26,8 @@ use Rattle.ir_core.specs.declared.instructions.BlockCall.{BlockCall}
 use Rattle.ir_core.specs.declared.instructions.Access.{Access}
 use Rattle.ir_core.specs.declared.instructions.Access.TheVariants.{Full, Uload, Sload}
 use Rattle.ir_core.specs.Module.{Simple, Nop, Const, Pure, PureImm, Load, Store, StackLoad, StackStore, FuncAddr, Trap, Trapz, Trapnz, Branch, Jump, Brif, BrTable, Instruction, Plain, Branches, SequencePoint, Return, Call, ReturnCall, TryCall, Line, Block, Function, Module}
-use Rattle.ir_core.specs.Lookup.{Each, type_of, signature_of, param_types, width_of, ty_of}
+use Rattle.ir_core.specs.Lookup.{type_of, signature_of, param_types, width_of, ty_of}
+use Rattle.ir_core.specs.Lists.{Each}
 use Rattle.ir_core.specs.Uses.{branch_targets}
 use Rattle.ir_core.specs.Accepted.{has_immediate, access_type, flags_form}
 use Rattle.ir_core.specs.Size.{size_of}

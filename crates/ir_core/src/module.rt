@@ -3,6 +3,7 @@ ghost use Rattle.std.specs.Prelude.{◌≡◌, ℕ, ◌<◌, ◌++◌, List, [],
 ghost use Rattle.std.specs.List.{position_from};
 ghost use Rattle.ir_core.specs.Lookup.{same_name, find_function};
 ghost use Rattle.ir_core.specs.Sound.{IsWhole};
+ghost use Rattle.ir_core.specs.Whole.{Whole, IsModule};
 
 use crate::func::Func;
 use crate::names::FuncName;
@@ -70,7 +71,8 @@ impl Module {
 
     /// The number of functions.
     pub fn len(&self) -> usize
-        ensures { result ≡ length self.now }
+        ensures count { result ≡ length self.now }
+        ensures functions { IsModule self.now }
     {
         self.funcs.len()
     }
@@ -86,7 +88,8 @@ impl Module {
     pub fn func(&self, i: usize) -> &Func
         requires { i < length self.now }
         ensures at { slice_get self.now i ≡ Some result.now.function }
-        ensures whole { IsWhole result.now.function }
+        ensures whole { Whole result.now.function }
+        ensures defined { IsWhole result.now.function }
     {
         &self.funcs[i]
     }

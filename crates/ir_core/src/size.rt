@@ -1,7 +1,7 @@
 //! The size of instructions and signatures, as a part of a function's.
 ghost use Rattle.std.specs.Prelude.{◌≡◌, ◌+◌, ◌<◌, List, length, map};
 ghost use Rattle.ir_core.specs.Size.{total, argument_count, operand_count, entry_count, line_size, sig_size, capped};
-ghost use Rattle.ir_core.specs.Operands.{entry_target};
+ghost use Rattle.ir_core.specs.Uses.{table_targets};
 ghost use Rattle.ir_core.specs.Viewed.{instruction_of, line_of};
 
 use crate::instructions::{BlockCall, Inst, InstData};
@@ -116,7 +116,7 @@ fn entries_size(entries: &[BlockCall]) -> usize
 
 /// The entries of an exception table, each with its arguments.
 fn table_size(entries: &[Entry<BlockCall>]) -> usize
-    ensures { result ≡ capped (length entries.now + total argument_count (map entry_target entries.now)) }
+    ensures { result ≡ capped (length entries.now + total argument_count (table_targets entries.now)) }
 {
     let mut size = entries.len();
     for entry in entries {

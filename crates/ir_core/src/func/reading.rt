@@ -59,7 +59,8 @@ impl<'a> Iterator for Blocks<'a> {
 impl Func {
     /// The function's name.
     pub fn name(&self) -> &FuncName
-        ensures { result.now ≡ self.now.function.name }
+        ensures value { result.now ≡ self.now.function.name }
+        ensures sound { IsSound self.now.function }
     {
         &self.name
     }

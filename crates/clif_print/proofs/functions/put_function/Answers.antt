@@ -8,7 +8,7 @@ use Rattle.clif_print.proofs.functions.put_function.Goals as goal
 
 pub returns : goal.returns
 returns g c =
-    let name = rw c.name.ensures at c.put_name.ensures in
+    let name = rw c.name.ensures.value at c.put_name.ensures in
     let sig = rw c.sig.ensures at c.put_signature.ensures in
     let slots = rw c.slots.ensures at c.put_declarations.ensures in
     let sigs = rw c.sigs.ensures at c.put_declarations-2.ensures in

@@ -1,12 +1,20 @@
-use Rattle.std.proofs.Common.{arith, ◌<◌, length, refl, ap}
+use Rattle.std.proofs.Common.{◌≡◌, arith, ◌<◌, length, refl, ap, Some}
+use Rattle.std.specs.Prelude.{slice_get}
 use Rattle.std.proofs.lemmas.List.{length-map}
 use Rattle.std.proofs.lemmas.Option.{slice_get_read}
 use Rattle.ir_core.specs.Sound.{IsWhole}
+use Rattle.ir_core.specs.Whole.{Whole}
 use Rattle.ir_core.specs.Named.{function_in}
 use Rattle.ir_core.proofs.Indexing.{each_mapped}
 use Rattle.ir_core.proofs.module.Module.func.Goals as goal
 
-pub returns-clause-whole : goal.returns-clause-whole
-returns-clause-whole c =
+place : (c : goal.After-index) → slice_get c.self.inside.funcs.items c.args.i ≡ Some c.index.result.now
+place c =
     let within : c.args.i < length c.self.inside.funcs.items = omega (arith, c.requires, ap length c.self.view_is, length-map c.self.inside.funcs.items function_in) in
-    each_mapped IsWhole function_in c.self.inside.funcs.items c.args.i c.index.result.now c.self.invariant.whole (slice_get_read c.self.inside.funcs.items (length c.self.inside.funcs.items) c.args.i c.index.result.now refl within c.index.ensures)
+    slice_get_read c.self.inside.funcs.items (length c.self.inside.funcs.items) c.args.i c.index.result.now refl within c.index.ensures
+
+pub returns-clause-whole : goal.returns-clause-whole
+returns-clause-whole c = each_mapped Whole function_in c.self.inside.funcs.items c.args.i c.index.result.now c.self.invariant.functions.whole (place c)
+
+pub returns-clause-defined : goal.returns-clause-defined
+returns-clause-defined c = each_mapped IsWhole function_in c.self.inside.funcs.items c.args.i c.index.result.now c.self.invariant.defined (place c)

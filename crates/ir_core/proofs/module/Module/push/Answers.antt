@@ -6,8 +6,10 @@ use Rattle.ir_core.specs.declared.names.FuncName.TheVariants as name
 use Rattle.ir_core.specs.Lookup.{find_function}
 use Rattle.ir_core.specs.Lists.{Each}
 use Rattle.ir_core.specs.Sound.{IsWhole}
+use Rattle.ir_core.specs.Whole.{Whole, IsModule}
 use Rattle.ir_core.specs.Named.{function_in, functions_of, place_of, compare_texts, compare_users}
 use Rattle.ir_core.proofs.Members.{each_join}
+use Rattle.ir_core.proofs.Wholeness.{whole_of, names_more}
 use Rattle.ir_core.proofs.Indexing.{text_more, user_more, texts_stay, users_stay}
 use Rattle.ir_core.proofs.module.Module.push.Goals.{in-Text+in_ok-text-in-Text+in_ok-insert-in-Text, in-User+in_ok-insert-in-User}
 use Rattle.ir_core.proofs.module.Module.push.Goals as goal
@@ -21,14 +23,23 @@ new c = ap (find_function c.args.func.function.name) c.self.view_is ∙ c.requir
 place : (c : goal.After-push_reserved) → c.len-place.result ≡ length (functions_of c.self.inside)
 place c = c.len-place.ensures ∙ (c.self.inside.funcs.ok.0 ∙ sym (length-map c.self.inside.funcs.items function_in))
 
+functions : (c : goal.After-push_reserved) → IsModule (functions_of c.self.inside ++ (c.args.func.function ∷ []))
+functions c =
+    let before : IsModule (functions_of c.self.inside) = c.self.invariant.functions in
+    record {
+      names = names_more (functions_of c.self.inside) c.args.func.function before.names (new c);
+      whole = each_join Whole (functions_of c.self.inside) (c.args.func.function ∷ []) before.whole (whole_of c.args.func.function c.name.ensures.sound c.requires.whole, tt);
+    }
+
 pub invariant_of-self-2 : goal.invariant_of-self-2
 invariant_of-self-2 c =
     elim c.match-name.branch [
       | in-Text+in_ok-text-in-Text+in_ok-insert-in-Text w ↦
           let fs : map function_in c.push_reserved.new.self.items ≡ functions_of c.self.inside ++ (c.args.func.function ∷ []) = grown c (ap (λ z. z.funcs.items) w.self-inside-is ∙ c.in_ok-reserve.ensures.items) in
-          let named : c.args.func.function.name ≡ name.Text w.in-Text.text = sym c.name.ensures ∙ w.in-Text.is in
+          let named : c.args.func.function.name ≡ name.Text w.in-Text.text = sym c.name.ensures.value ∙ w.in-Text.is in
           record {
-            whole = subst (Each IsWhole) (sym fs) (each_join IsWhole (functions_of c.self.inside) (c.args.func.function ∷ []) c.self.invariant.whole (c.requires.whole, tt));
+            defined = subst (Each IsWhole) (sym fs) (each_join IsWhole (functions_of c.self.inside) (c.args.func.function ∷ []) c.self.invariant.defined (c.requires.whole, tt));
+            functions = subst IsModule (sym fs) (functions c);
             texts = λ text.
                 ap (λ z. get_by (compare_texts text) z.texts) w.self-inside-is
                 ∙ (ap (lookup (is_at (compare_texts text))) w.in_ok-insert-in-Text.ensures.entries
@@ -41,9 +52,10 @@ invariant_of-self-2 c =
           }
       | in-User+in_ok-insert-in-User w ↦
           let fs : map function_in c.push_reserved.new.self.items ≡ functions_of c.self.inside ++ (c.args.func.function ∷ []) = grown c (ap (λ z. z.funcs.items) w.self-inside-is ∙ c.in_ok-reserve.ensures.items) in
-          let named : c.args.func.function.name ≡ name.User w.in-User.first w.in-User.second = sym c.name.ensures ∙ w.in-User.is in
+          let named : c.args.func.function.name ≡ name.User w.in-User.first w.in-User.second = sym c.name.ensures.value ∙ w.in-User.is in
           record {
-            whole = subst (Each IsWhole) (sym fs) (each_join IsWhole (functions_of c.self.inside) (c.args.func.function ∷ []) c.self.invariant.whole (c.requires.whole, tt));
+            defined = subst (Each IsWhole) (sym fs) (each_join IsWhole (functions_of c.self.inside) (c.args.func.function ∷ []) c.self.invariant.defined (c.requires.whole, tt));
+            functions = subst IsModule (sym fs) (functions c);
             texts = λ text.
                 ap (λ z. get_by (compare_texts text) z.texts) w.self-inside-is
                 ∙ (c.self.invariant.texts text

@@ -12,4 +12,5 @@ pub mod One
 pub mod Takes
 pub mod Excepted
 pub mod Views
+pub mod Names
 pub mod Next

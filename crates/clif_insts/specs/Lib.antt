@@ -11,4 +11,5 @@ pub mod Values
 pub mod Forms
 pub mod InstValues
 pub mod Insts
+pub mod Names
 pub mod Next

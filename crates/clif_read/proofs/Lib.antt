@@ -26,7 +26,14 @@ mod SimpleRight
 mod SimpleRules
 mod SimpleSeen
 mod SimpleWhole
+pub mod AttributeLaws
+pub mod SignatureLaws
+pub mod DeclarationLaws
+pub mod HeadLaws
+pub mod LetterAttributes
 pub mod Ends
 pub mod LineEnds
 pub mod LineLaws
 pub mod LineLoop
+pub mod ModuleLaws
+pub mod Whole

@@ -9,7 +9,14 @@ pub mod SimpleReading
 pub mod SimpleWords
 pub mod ModuleGrammar
 pub mod DeclarationValues
+pub mod Attributes
+pub mod Signatures
+pub mod Declarations
+pub mod Heads
+pub mod LetterAttributes
 pub mod LineValues
 pub mod ModuleValues
 pub mod Tags
 pub mod Lines
+pub mod Modules
+pub mod Texts

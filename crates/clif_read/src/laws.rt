@@ -6,8 +6,14 @@ ghost use Rattle.clif_lex.specs.Lexing.{tokens_of};
 ghost use Rattle.ir_core.specs.Module.{Module};
 ghost use Rattle.clif_read.specs.SimpleModule.{Means};
 ghost use Rattle.clif_read.specs.SimpleBack.{ReadsBack};
+ghost use Rattle.clif_read.specs.LetterAttributes.{SameAttributes};
 
 /// The canonical text of a module that a simple text means is a simple text, and means that module alone.
 pub fn simple_text_reads_back()
     ensures { (text : List ℕ) (tokens : List Token) (m : Module) → tokens_of text ≡ Ok tokens → Means text tokens m → ReadsBack m }
+{}
+
+/// The attributes of a parameter are those of the EBNF by the letter, which stand in any order, of `uext` and `sext` at most one and of `vmctx` and `sret` at most one: the same texts with the same attributes, and the same beginnings.
+pub fn attributes_by_the_letter()
+    ensures { SameAttributes }
 {}

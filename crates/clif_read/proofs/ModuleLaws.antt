@@ -2,7 +2,7 @@
 use Rattle.std.proofs.Common.{ℕ, Bool, true, false, List, [], ◌∷◌, ◌++◌, map, Ok}
 use Rattle.grammar.specs.Rules.{Opt, Many, ◌>>=◌}
 use Rattle.clif_words.specs.declared.class.Class.TheVariants as classes
-use Rattle.clif_words.specs.Terminals.{◌then◌, function_word, left_brace, right_brace, colon, cold}
+use Rattle.clif_words.specs.Terminals.{◌then◌, left_brace, right_brace, colon, cold}
 use Rattle.clif_insts.specs.declared.raw.RawName.{RawName}
 use Rattle.clif_insts.specs.Reading.{name_at}
 use Rattle.clif_insts.specs.Values.{perhaps}
@@ -21,7 +21,6 @@ use Rattle.clif_read.specs.LineValues.{lines_value}
 use Rattle.clif_read.specs.ModuleValues.{block_params_value, is_cold, block_value, function_value, module_value}
 use Rattle.clif_read.specs.Signatures.{signature_at}
 use Rattle.clif_read.specs.Declarations.{func_name_at, decls_at}
-use Rattle.clif_read.specs.Heads.{block_params_at, headers_at}
 use Rattle.clif_read.specs.Lines.{lines_at}
 use Rattle.clif_read.specs.Modules.{opt_block_params_at, opt_cold_at, block_at, more_blocks_at, function_at, functions_at, module_at}
 use Rattle.clif_read.proofs.SignatureLaws.{signature_is}

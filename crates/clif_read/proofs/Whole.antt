@@ -1,5 +1,5 @@
 -- The whole of a text, in the words of the grammar.
-use Rattle.std.proofs.Common.{◌≡◌, ℕ, Bool, cond, List, [], ◌∷◌, ◌++◌, length, Ok, Err, refl, sym, ap, subst, ◌∙◌}
+use Rattle.std.proofs.Common.{◌≡◌, ℕ, cond, List, [], ◌∷◌, ◌++◌, Ok, Err, refl, sym, ap, subst, ◌∙◌}
 use Rattle.std.proofs.lemmas.List.{append-nil}
 use Rattle.grammar.specs.Rules.{Lexeme, Kind, Syntax, UnknownOpcode, Unsupported, Value, Answers, Out, read, read_all, heads_any, ◌>>=◌}
 use Rattle.grammar.proofs.Laws.{complete}
@@ -12,7 +12,7 @@ use Rattle.clif_insts.specs.Values.{seen}
 use Rattle.clif_read.specs.declared.raw.RawModule.{RawModule}
 use Rattle.clif_read.specs.ModuleGrammar.{module_rule}
 use Rattle.clif_read.specs.ModuleValues.{module_value}
-use Rattle.clif_read.specs.Modules.{module_at, whole_module_at}
+use Rattle.clif_read.specs.Modules.{whole_module_at}
 use Rattle.clif_read.specs.Texts.{IsModule, NoModule, Broken, Stopped, error_at}
 use Rattle.clif_read.proofs.ModuleLaws.{module_is}
 

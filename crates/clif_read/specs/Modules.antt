@@ -1,5 +1,5 @@
 -- Blocks, functions and modules, read from left to right.
-use Rattle.std.specs.Prelude.{ℕ, Bool, true, false, if◌then◌else◌, List, [], ◌∷◌, length, Ok, Err}
+use Rattle.std.specs.Prelude.{Bool, true, false, if◌then◌else◌, List, [], ◌∷◌, length, Ok, Err}
 use Rattle.grammar.specs.Rules.{Lexeme, Syntax, Out, heads_any, ◌>>=◌}
 use Rattle.clif_words.specs.declared.class.Class.TheVariants as classes
 use Rattle.clif_words.specs.Classes.{code}

@@ -1,5 +1,5 @@
 -- What a text is read as: the one module that it is, or where and why it is none.
-use Rattle.std.specs.Prelude.{◌≡◌, ℕ, List, [], ◌∷◌}
+use Rattle.std.specs.Prelude.{◌≡◌, ℕ, List}
 use Rattle.grammar.specs.Rules.{Lexeme, Kind, Value, Cut, Derives, Begins, StopsAt}
 use Rattle.grammar.specs.Rules as rules
 use Rattle.clif_lex.specs.declared.faults.TextErr.{TextErr}

@@ -7,6 +7,11 @@ ghost use Rattle.ir_core.specs.Module.{Module};
 ghost use Rattle.clif_read.specs.SimpleModule.{Means};
 ghost use Rattle.clif_read.specs.SimpleBack.{ReadsBack};
 ghost use Rattle.clif_read.specs.LetterAttributes.{SameAttributes};
+ghost use Rattle.grammar.specs.Rules.{Lexeme, Answers, read, read_all};
+ghost use Rattle.clif_insts.specs.Values.{seen};
+ghost use Rattle.clif_read.specs.ModuleGrammar.{module_rule};
+ghost use Rattle.clif_read.specs.ModuleValues.{module_value};
+ghost use Rattle.clif_read.specs.Modules.{module_at};
 
 /// The canonical text of a module that a simple text means is a simple text, and means that module alone.
 pub fn simple_text_reads_back()
@@ -16,4 +21,14 @@ pub fn simple_text_reads_back()
 /// The attributes of a parameter are those of the EBNF by the letter, which stand in any order, of `uext` and `sext` at most one and of `vmctx` and `sret` at most one: the same texts with the same attributes, and the same beginnings.
 pub fn attributes_by_the_letter()
     ensures { SameAttributes }
+{}
+
+/// Every list of tokens is one module, in one way, or has a first place where no module goes on.
+pub fn one_reading()
+    ensures { (tokens : List Lexeme) → Answers module_rule tokens (read_all module_rule tokens) }
+{}
+
+/// Reading a module from left to right is reading by the grammar, seen as what its tree means.
+pub fn read_by_the_grammar()
+    ensures { (tokens : List Lexeme) → module_at tokens ≡ seen module_value (read module_rule tokens) }
 {}

@@ -11,6 +11,8 @@ mod raw;
 mod signatures;
 mod simple;
 mod tags;
+#[cfg(test)]
+mod tests;
 mod texts;
 
 pub use raw::{

@@ -37,3 +37,7 @@ pub mod LineLaws
 pub mod LineLoop
 pub mod ModuleLaws
 pub mod Whole
+pub mod Alike
+pub mod Given
+pub mod LetterInsts
+pub mod LetterLines

@@ -20,3 +20,5 @@ pub mod Tags
 pub mod Lines
 pub mod Modules
 pub mod Texts
+pub mod Alike
+pub mod LetterLines

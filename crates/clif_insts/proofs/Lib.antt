@@ -13,4 +13,6 @@ pub mod Takes
 pub mod Excepted
 pub mod Views
 pub mod Names
+pub mod Singles
+pub mod FlagLetter
 pub mod Next

@@ -12,4 +12,5 @@ pub mod Forms
 pub mod InstValues
 pub mod Insts
 pub mod Names
+pub mod FlagLetter
 pub mod Next

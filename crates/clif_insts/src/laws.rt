@@ -4,6 +4,7 @@ ghost use Rattle.std.specs.Prelude.{◌≡◌, List};
 ghost use Rattle.grammar.specs.Rules.{Lexeme, Answers, read, read_all};
 ghost use Rattle.clif_insts.specs.declared.opening.Opening.{Opening};
 ghost use Rattle.clif_insts.specs.Grammar.{excepted, inst};
+ghost use Rattle.clif_insts.specs.FlagLetter.{FlagsLetter};
 ghost use Rattle.clif_insts.specs.Values.{seen};
 ghost use Rattle.clif_insts.specs.InstValues.{inst_value};
 ghost use Rattle.clif_insts.specs.Forms.{inst_at};
@@ -16,4 +17,10 @@ pub fn one_reading()
 /// Reading an instruction from left to right is reading by the grammar, seen as what its tree means.
 pub fn read_by_the_grammar()
     ensures { (opening : Opening) (tokens : List Lexeme) → inst_at opening tokens ≡ seen (inst_value (excepted opening)) (read (inst (excepted opening)) tokens) }
+{}
+
+/// The flags of the grammar are those of the text form: any number of the nine flags, `big` and `little` not together.
+/// These have the same texts, with the same values, the same beginnings, and the same refused words.
+pub fn flags_by_the_letter()
+    ensures { (tokens : List Lexeme) → FlagsLetter tokens }
 {}

@@ -1,6 +1,6 @@
 //! What no clause says: that the definitions are what the text form of CLIF asks for, and that instructions are read.
 
-use crate::{SyntaxErr, inst};
+use crate::{Opening, Reader, Stop, SyntaxErr, any_inst, inst};
 use clif_lex::tokens;
 use std::alloc::Global;
 
@@ -23,6 +23,10 @@ fn reads_instructions(rt: HostRuntime) {
         ("iadd v0, v1 v2 = nop", 4),
         ("iconst.i64 -5", 4),
         ("load.i32 notrap big aligned v0+8 nop", 8),
+        ("load.i32 v0 +8", 5),
+        ("trap user18446744073709551616", 2),
+        ("jump block1()", 4),
+        ("try_call fn0(), sig0, block1, []", 11),
         (
             "try_call fn0(), sig0, block1(ret0, v1), [tag0: block2(exn0), default: block3]",
             26,
@@ -51,6 +55,18 @@ fn names_the_first_fault(rt: HostRuntime) {
         ("func_addr.i32 fn0", SyntaxErr::Syntax(2)),
         ("load user1 v0", SyntaxErr::Syntax(1)),
         ("load.i32 user01 v0", SyntaxErr::Syntax(3)),
+        ("load.i32 little notrap big v0", SyntaxErr::Syntax(5)),
+        ("trap foo", SyntaxErr::Syntax(1)),
+        ("jump block1(ret0)", SyntaxErr::Syntax(3)),
+        ("jump block1(exn0)", SyntaxErr::Syntax(3)),
+        (
+            "try_call fn0(), sig0, block1(exn0), []",
+            SyntaxErr::Syntax(9),
+        ),
+        (
+            "try_call fn0(), sig0, block1, [tag0: block2(ret0)]",
+            SyntaxErr::Syntax(14),
+        ),
         ("load.i32 big little v0", SyntaxErr::Syntax(4)),
         // a word in the place of an opcode
         ("frob v0", SyntaxErr::UnknownOpcode(0)),
@@ -67,7 +83,150 @@ fn names_the_first_fault(rt: HostRuntime) {
             "try_call fn0(), sig0, block1, [context v0]",
             SyntaxErr::Unsupported(10),
         ),
+        (
+            "try_call fn0(), sig0, block1, [tag0: block2, context v0]",
+            SyntaxErr::Unsupported(14),
+        ),
     ] {
         assert_eq!(rt; stop_of(rt.alloc(), text), Err(fault), "at {text}");
     }
+}
+
+/// Why no instruction begins the text, behind what stands before it.
+fn refusal(alloc: Global, text: &str, opening: Opening) -> Option<Stop> {
+    let bytes = text.as_bytes();
+    match tokens(alloc, bytes) {
+        Ok(list) => match any_inst(alloc, &mut Reader::new(bytes, &list, 0), opening) {
+            Ok(_) => None,
+            Err(stop) => Some(stop),
+        },
+        Err(_) => None,
+    }
+}
+
+#[test]
+fn refuses_words_by_what_stands_before(rt: HostRuntime) {
+    for (text, opening, why) in [
+        ("v2", Opening::AfterResults, Stop::UnknownOpcode),
+        ("block1", Opening::AfterResults, Stop::UnknownOpcode),
+        ("v2", Opening::AfterTags, Stop::Syntax),
+        ("block1", Opening::AfterTags, Stop::UnknownOpcode),
+        ("v2", Opening::LineStart, Stop::Syntax),
+        ("block1", Opening::LineStart, Stop::Syntax),
+        ("ss0", Opening::LineStart, Stop::UnknownOpcode),
+        ("ret0", Opening::LineStart, Stop::UnknownOpcode),
+        ("i32", Opening::LineStart, Stop::UnknownOpcode),
+        ("cold", Opening::LineStart, Stop::UnknownOpcode),
+        ("function", Opening::LineStart, Stop::UnknownOpcode),
+        ("v01", Opening::LineStart, Stop::UnknownOpcode),
+        ("fadd", Opening::LineStart, Stop::Unsupported),
+        ("}", Opening::LineStart, Stop::Syntax),
+    ] {
+        assert_eq!(rt; refusal(rt.alloc(), text, opening), Some(why), "at {text}");
+    }
+}
+
+/// Each opcode once, in the order of their numbers, with each form, each flag and both kinds of trap code.
+const EVERY_OPCODE: &str = "\
+iconst.i64 -1
+iadd v0, v1
+isub v0, v1
+imul v0, v1
+band v0, v1
+bor v0, v1
+bxor v0, v1
+smin v0, v1
+smax v0, v1
+umin v0, v1
+umax v0, v1
+umulhi v0, v1
+smulhi v0, v1
+udiv v0, v1
+urem v0, v1
+sdiv v0, v1
+srem v0, v1
+ishl v0, v1
+ushr v0, v1
+sshr v0, v1
+rotl v0, v1
+rotr v0, v1
+uadd_overflow v0, v1
+sadd_overflow v0, v1
+usub_overflow v0, v1
+ssub_overflow v0, v1
+iconcat v0, v1
+ineg.i8 v0
+bnot.i8 v0
+iabs.i8 v0
+clz.i8 v0
+ctz.i8 v0
+popcnt.i8 v0
+bitrev.i8 v0
+bswap.i8 v0
+isplit.i8 v0
+icmp slt v0, v1
+select.i128 v0, v1, v2
+uextend.i32 v0
+sextend.i32 v0
+ireduce.i32 v0
+iadd_imm v0, 0x1f
+imul_imm v0, 0x1f
+band_imm v0, 0x1f
+bor_imm v0, 0x1f
+bxor_imm v0, 0x1f
+ishl_imm v0, 0x1f
+ushr_imm v0, 0x1f
+sshr_imm v0, 0x1f
+icmp_imm uge v0, +7
+load.i32 notrap v0+8
+uload8.i32 aligned v0+8
+sload8.i32 readonly v0+8
+uload16.i32 can_move v0+8
+sload16.i32 heap v0+8
+uload32 table v0-8
+sload32 vmctx v0-8
+store little v0, v1+4
+istore8 big v0, v1+4
+istore16 notrap v0, v1+4
+istore32 aligned v0, v1+4
+stack_load.i16 ss0+8
+stack_store v0, ss0
+func_addr.i64 fn0
+nop
+sequence_point
+jump block1()
+brif v0, block1, block2(v1, v2)
+br_table v0, block1, [block2, block3(v1)]
+return v0, v1
+trap stk_ovf
+trapz v0, user7
+trapnz v0, user7
+call fn0(v0)
+return_call fn0(v0)
+try_call fn0(v0), sig0, block1(ret0, v1), [tag0: block2(exn0, exn1), default: block3]
+call_indirect sig0, v0(v1, v2)
+return_call_indirect sig0, v0(v1, v2)
+try_call_indirect.i64 v0(), sig0, block1, []
+";
+
+/// The number of the opcode, where the whole text is one instruction.
+fn opcode_number(alloc: Global, text: &str) -> Option<u64> {
+    let bytes = text.as_bytes();
+    match tokens(alloc, bytes) {
+        Ok(list) => match inst(alloc, bytes, &list, 0) {
+            Ok((found, stop)) if stop == list.len() => Some(found.opcode.number),
+            _ => None,
+        },
+        Err(_) => None,
+    }
+}
+
+#[test]
+fn reads_every_opcode(rt: HostRuntime) {
+    let mut number = 0;
+    for line in EVERY_OPCODE.lines() {
+        assert_eq!(rt; opcode_number(rt.alloc(), line), Some(number), "at {line}");
+        number += 1;
+    }
+    assert_eq!(rt; number, 79);
 }

@@ -17,7 +17,7 @@ use crate::output::{Output, put_numbered};
 use crate::words::{condition_word, op_word, type_of_width};
 use clk_num::{Bits, Op, TrapCode};
 use exn_tables::Table;
-use ir_core::{Access, BlockCall, Flags, FuncRef, Inst, List, SigRef, Slot, Ty, Value};
+use ir_core::{Access, BlockCall, Flags, FuncRef, Inst, List, SigRef, Slot, Ty, Value, Values};
 
 /// Puts the suffix of an operation.
 fn put_op_suffix<O: Output>(out: &mut O, op: Op, suffix: Option<Ty>)
@@ -273,12 +273,7 @@ fn put_br_table<O: Output>(
     put_target_list(out, numbers, entries.as_slice());
 }
 
-fn put_return<O: Output>(
-    out: &mut O,
-    numbers: &FuncNumbers,
-    suffix: Option<Ty>,
-    values: &List<Value>,
-)
+fn put_return<O: Output>(out: &mut O, numbers: &FuncNumbers, suffix: Option<Ty>, values: &Values)
     ensures { Puts O.holds out.old out.new (spelled (instruction numbers.now suffix (instruction_of (form.Return values.now)))) }
 {
     out.put(b"return");
@@ -331,7 +326,7 @@ fn put_call<O: Output>(
     numbers: &FuncNumbers,
     suffix: Option<Ty>,
     callee: FuncRef,
-    args: &List<Value>,
+    args: &Values,
 )
     ensures { Puts O.holds out.old out.new (spelled (instruction numbers.now suffix (instruction_of (form.Call callee args.now)))) }
 {
@@ -345,7 +340,7 @@ fn put_return_call<O: Output>(
     numbers: &FuncNumbers,
     suffix: Option<Ty>,
     callee: FuncRef,
-    args: &List<Value>,
+    args: &Values,
 )
     ensures { Puts O.holds out.old out.new (spelled (instruction numbers.now suffix (instruction_of (form.ReturnCall callee args.now)))) }
 {
@@ -360,7 +355,7 @@ fn put_call_indirect<O: Output>(
     suffix: Option<Ty>,
     sig: SigRef,
     address: Value,
-    args: &List<Value>,
+    args: &Values,
 )
     ensures { Puts O.holds out.old out.new (spelled (instruction numbers.now suffix (instruction_of (form.CallIndirect sig address args.now)))) }
 {
@@ -377,7 +372,7 @@ fn put_return_call_indirect<O: Output>(
     suffix: Option<Ty>,
     sig: SigRef,
     address: Value,
-    args: &List<Value>,
+    args: &Values,
 )
     ensures { Puts O.holds out.old out.new (spelled (instruction numbers.now suffix (instruction_of (form.ReturnCallIndirect sig address args.now)))) }
 {
@@ -412,7 +407,7 @@ fn put_try_call<O: Output>(
     suffix: Option<Ty>,
     callee: FuncRef,
     sig: SigRef,
-    args: &List<Value>,
+    args: &Values,
     normal: &BlockCall,
     table: &Table<BlockCall>,
 )
@@ -430,7 +425,7 @@ fn put_try_call_indirect<O: Output>(
     suffix: Option<Ty>,
     sig: SigRef,
     address: Value,
-    args: &List<Value>,
+    args: &Values,
     normal: &BlockCall,
     table: &Table<BlockCall>,
 )

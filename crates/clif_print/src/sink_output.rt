@@ -56,15 +56,18 @@ impl<'a, K: Sink> SinkOutput<'a, K> {
         self.waiting.clear();
     }
 
-    /// Makes room for so many bytes, if they are few.
-    fn make_room(&mut self, count: usize)
+    /// Takes bytes that have no room behind those that wait.
+    #[inline(never)]
+    fn put_behind(&mut self, bytes: &[u8])
         ensures same { self.new.sink.ghost_name ≡ self.old.sink.ghost_name }
-        ensures room { count ≤ 4096 → length self.new.waiting + count ≤ 4096 }
         ensures takes { Takes (record { name = self.old.sink.ghost_name; written = K.written self.old.sink.now; faults = K.faults self.old.sink.now; waiting = self.old.waiting; failed = self.old.failed })
-            (record { name = self.new.sink.ghost_name; written = K.written self.new.sink.now; faults = K.faults self.new.sink.now; waiting = self.new.waiting; failed = self.new.failed }) [] }
+            (record { name = self.new.sink.ghost_name; written = K.written self.new.sink.now; faults = K.faults self.new.sink.now; waiting = self.new.waiting; failed = self.new.failed }) bytes.now }
     {
-        if !self.waiting.has_room(count) {
-            self.flush();
+        self.flush();
+        if self.waiting.has_room(bytes.len()) {
+            self.waiting.append(bytes);
+        } else {
+            self.give(bytes);
         }
     }
 
@@ -82,13 +85,12 @@ impl<'a, K: Sink> SinkOutput<'a, K> {
 impl<'a, K: Sink> Output for SinkOutput<'a, K> {
     ghost holds = { λ start w text. HasText start (record { name = w.sink.ghost_name; written = K.written w.sink.now; faults = K.faults w.sink.now; waiting = w.waiting; failed = w.failed }) text };
 
+    #[inline(always)]
     fn put(&mut self, bytes: &[u8]) {
-        self.make_room(bytes.len());
         if self.waiting.has_room(bytes.len()) {
             self.waiting.append(bytes);
         } else {
-            self.flush();
-            self.give(bytes);
+            self.put_behind(bytes);
         }
     }
 }

@@ -42,6 +42,7 @@ impl Waiting {
     }
 
     /// Whether so many more bytes have room.
+    #[inline(always)]
     pub(crate) fn has_room(&self, count: usize) -> bool
         ensures { IsTrue result ↔ (length self.now + count ≤ 4096) }
     {
@@ -49,6 +50,7 @@ impl Waiting {
     }
 
     /// Appends the bytes.
+    #[inline(always)]
     pub(crate) fn append(&mut self, bytes: &[u8])
         requires { length self.old + length bytes.now ≤ 4096 }
         ensures { self.new ≡ self.old ++ bytes.now }

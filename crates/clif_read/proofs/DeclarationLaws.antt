@@ -14,7 +14,6 @@ use Rattle.clif_insts.proofs.Names.{text_is}
 use Rattle.clif_insts.proofs.PartLaws.{number_is}
 use Rattle.clif_read.specs.declared.raw.RawFuncName.{RawFuncName}
 use Rattle.clif_read.specs.declared.raw.RawFuncName.TheVariants as names
-use Rattle.clif_read.specs.declared.raw.RawCalleeSig.{RawCalleeSig}
 use Rattle.clif_read.specs.declared.raw.RawCalleeSig.TheVariants as callee_sigs
 use Rattle.clif_read.specs.declared.raw.RawDecl.{RawDecl}
 use Rattle.clif_read.specs.declared.raw.RawDecl.TheVariants as decls

@@ -1,12 +1,12 @@
 -- Headers and the parameters of blocks are read as their rules of the grammar say.
-use Rattle.std.proofs.Common.{ℕ, List, map, Ok}
-use Rattle.grammar.specs.Rules.{Lexeme, Many, Value, Out, ◌>>=◌}
+use Rattle.std.proofs.Common.{ℕ, map, Ok}
+use Rattle.grammar.specs.Rules.{Lexeme, Many, ◌>>=◌}
 use Rattle.ir_core.specs.declared.signatures.Ty.{Ty}
 use Rattle.clif_words.specs.declared.class.Class.TheVariants as classes
 use Rattle.clif_words.specs.Terminals.{◌then◌, header, colon}
 use Rattle.clif_insts.specs.declared.raw.RawName.{RawName}
 use Rattle.clif_insts.specs.Grammar.{commas, any_type}
-use Rattle.clif_insts.specs.Reading.{name, name_at}
+use Rattle.clif_insts.specs.Reading.{name_at}
 use Rattle.clif_insts.specs.Types.{type_at}
 use Rattle.clif_insts.specs.Values.{commas_value, any_type_value}
 use Rattle.clif_insts.proofs.Seen.{Is, then_is, map_is, many_is, name_is}

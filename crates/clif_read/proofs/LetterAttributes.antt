@@ -1,9 +1,9 @@
 -- The attributes of a parameter are those of the letter.
-use Rattle.std.proofs.Common.{◌≡◌, ℕ, ◌+◌, ◌≤◌, Bool, true, false, not, ◌==◌, cond, List, [], ◌∷◌, ◌++◌, map, Option, Some, None, refl, sym, ap, subst, ◌∙◌, inl, inr, arith}
+use Rattle.std.proofs.Common.{◌≡◌, ℕ, ◌+◌, Bool, true, false, not, ◌==◌, cond, List, [], ◌∷◌, ◌++◌, map, Some, None, refl, sym, ap, subst, ◌∙◌, inl, inr, arith}
 use Rattle.std.specs.Prelude.{◌⊎◌, count_by}
 use Rattle.std.proofs.lemmas.List.{append-nil}
 use Rattle.std.proofs.lemmas.List.Sums.{sum_by-cons}
-use Rattle.grammar.specs.Rules.{Lexeme, Rule, Opt, Value, Cut, Derives, Begins}
+use Rattle.grammar.specs.Rules.{Lexeme, Rule, Opt, Value, Derives, Begins}
 use Rattle.grammar.proofs.Past.{derives_begins}
 use Rattle.clif_words.specs.Terminals.{◌then◌, ◌or◌, ext}
 use Rattle.clif_insts.specs.Values.{◌otherwise◌, perhaps}
@@ -13,6 +13,9 @@ use Rattle.clif_read.specs.DeclarationValues.{ext_of, ext_value, purpose_value, 
 use Rattle.clif_read.specs.LetterAttributes.{letter_attributes, letter_value, is_ext, is_purpose, AtMostOne, ByLetter, BeginsByLetter, attributes, ByRule, SameAttributes}
 
 -- ---- counting
+
+is_one : Bool → ℕ
+is_one b = cond b 1 0
 
 count_is : (p : RawAttribute → Bool) (a : RawAttribute) (b : Bool) (xs : List RawAttribute) → p a ≡ b → count_by p (a ∷ xs) ≡ cond b 1 0 + count_by p xs
 count_is p a b xs e = sum_by-cons (λ x. cond (p x) 1 0) a xs ∙ ap (λ (c : Bool). cond c 1 0 + count_by p xs) e
@@ -91,44 +94,44 @@ to_rule ts (inr q ∷ inl x ∷ []) d most =
     (Some (inr (q, Some x)), (d.0, d.1, d.2, (d.3.0, subst (λ (l : List Lexeme). Derives ext l x) (alone d.1 tail.0 tail.1 tail.2 tail.3.1) tail.3.0)), refl)
 to_rule ts (inl x ∷ inl y ∷ more) d most =
     absurd (
-      let e = count_is is_ext (ext_value x) true (ext_value y ∷ map item more) (of_ext x) in
-      let f = count_is is_ext (ext_value y) true (map item more) (of_ext y) in
-      omega (arith, most.0)
-      )
+    let e = count_is is_ext (ext_value x) true (ext_value y ∷ map item more) (of_ext x) in
+    let f = count_is is_ext (ext_value y) true (map item more) (of_ext y) in
+    omega (arith, most.0)
+    )
 to_rule ts (inr q ∷ inr r ∷ more) d most =
     absurd (
-      let e = count_is is_purpose (purpose_value q) true (purpose_value r ∷ map item more) (a_purpose q) in
-      let f = count_is is_purpose (purpose_value r) true (map item more) (a_purpose r) in
-      omega (arith, most.1)
-      )
+    let e = count_is is_purpose (purpose_value q) true (purpose_value r ∷ map item more) (a_purpose q) in
+    let f = count_is is_purpose (purpose_value r) true (map item more) (a_purpose r) in
+    omega (arith, most.1)
+    )
 to_rule ts (inl x ∷ inr q ∷ inl y ∷ more) d most =
     absurd (
-      let e = count_is is_ext (ext_value x) true (purpose_value q ∷ ext_value y ∷ map item more) (of_ext x) in
-      let f = count_is is_ext (purpose_value q) false (ext_value y ∷ map item more) (of_purpose q) in
-      let g = count_is is_ext (ext_value y) true (map item more) (of_ext y) in
-      omega (arith, most.0)
-      )
+    let e = count_is is_ext (ext_value x) true (purpose_value q ∷ ext_value y ∷ map item more) (of_ext x) in
+    let f = count_is is_ext (purpose_value q) false (ext_value y ∷ map item more) (of_purpose q) in
+    let g = count_is is_ext (ext_value y) true (map item more) (of_ext y) in
+    omega (arith, most.0)
+    )
 to_rule ts (inl x ∷ inr q ∷ inr r ∷ more) d most =
     absurd (
-      let e = count_is is_purpose (ext_value x) false (purpose_value q ∷ purpose_value r ∷ map item more) (no_purpose x) in
-      let f = count_is is_purpose (purpose_value q) true (purpose_value r ∷ map item more) (a_purpose q) in
-      let g = count_is is_purpose (purpose_value r) true (map item more) (a_purpose r) in
-      omega (arith, most.1)
-      )
+    let e = count_is is_purpose (ext_value x) false (purpose_value q ∷ purpose_value r ∷ map item more) (no_purpose x) in
+    let f = count_is is_purpose (purpose_value q) true (purpose_value r ∷ map item more) (a_purpose q) in
+    let g = count_is is_purpose (purpose_value r) true (map item more) (a_purpose r) in
+    omega (arith, most.1)
+    )
 to_rule ts (inr q ∷ inl x ∷ inl y ∷ more) d most =
     absurd (
-      let e = count_is is_ext (purpose_value q) false (ext_value x ∷ ext_value y ∷ map item more) (of_purpose q) in
-      let f = count_is is_ext (ext_value x) true (ext_value y ∷ map item more) (of_ext x) in
-      let g = count_is is_ext (ext_value y) true (map item more) (of_ext y) in
-      omega (arith, most.0)
-      )
+    let e = count_is is_ext (purpose_value q) false (ext_value x ∷ ext_value y ∷ map item more) (of_purpose q) in
+    let f = count_is is_ext (ext_value x) true (ext_value y ∷ map item more) (of_ext x) in
+    let g = count_is is_ext (ext_value y) true (map item more) (of_ext y) in
+    omega (arith, most.0)
+    )
 to_rule ts (inr q ∷ inl x ∷ inr r ∷ more) d most =
     absurd (
-      let e = count_is is_purpose (purpose_value q) true (ext_value x ∷ purpose_value r ∷ map item more) (a_purpose q) in
-      let f = count_is is_purpose (ext_value x) false (purpose_value r ∷ map item more) (no_purpose x) in
-      let g = count_is is_purpose (purpose_value r) true (map item more) (a_purpose r) in
-      omega (arith, most.1)
-      )
+    let e = count_is is_purpose (purpose_value q) true (ext_value x ∷ purpose_value r ∷ map item more) (a_purpose q) in
+    let f = count_is is_purpose (ext_value x) false (purpose_value r ∷ map item more) (no_purpose x) in
+    let g = count_is is_purpose (purpose_value r) true (map item more) (a_purpose r) in
+    omega (arith, most.1)
+    )
 
 -- ---- beginnings
 

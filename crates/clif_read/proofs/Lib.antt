@@ -35,3 +35,8 @@ pub mod Ends
 pub mod LineEnds
 pub mod LineLaws
 pub mod LineLoop
+pub mod Alike
+pub mod Given
+pub mod LetterInsts
+pub mod LetterLines
+mod DeclarationExamples

@@ -1,15 +1,13 @@
 -- Signatures are read as their rule of the grammar says.
 use Rattle.std.proofs.Common.{List, [], Option, Some, None, Ok}
-use Rattle.grammar.specs.Rules.{Lexeme, Rule, Opt, Value, Out, heads, firsts, ◌>>=◌}
+use Rattle.grammar.specs.Rules.{Lexeme, Rule, Opt, Value, Out, ◌>>=◌}
 use Rattle.ir_core.specs.declared.signatures.Ty.{Ty}
 use Rattle.ir_core.specs.declared.signatures.Conv.{Conv}
 use Rattle.ir_core.specs.declared.signatures.Conv.TheVariants as convs
 use Rattle.clif_words.specs.declared.class.Class.TheVariants as classes
 use Rattle.clif_words.specs.Terminals.{◌then◌, ◌or◌, right_paren, arrow, ext}
-use Rattle.clif_insts.specs.Grammar.{commas}
-use Rattle.clif_insts.specs.Reading.{name, name_at}
-use Rattle.clif_insts.specs.Types.{type_at}
-use Rattle.clif_insts.specs.Values.{◌otherwise◌, perhaps, commas_value}
+use Rattle.clif_insts.specs.Reading.{name_at}
+use Rattle.clif_insts.specs.Values.{perhaps}
 use Rattle.clif_insts.proofs.Seen.{Is, then_is, map_is, opt_is, alt_is, name_is}
 use Rattle.clif_insts.proofs.PartLaws.{type_is, commas_is}
 use Rattle.clif_read.specs.declared.raw.RawAttribute.{RawAttribute}

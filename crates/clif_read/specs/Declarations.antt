@@ -1,6 +1,6 @@
 -- Names of functions and declarations, read from left to right.
 use Rattle.std.specs.Prelude.{Bool, true, false, if◌then◌else◌, List, [], ◌∷◌, length, Option, Some, None, Ok}
-use Rattle.grammar.specs.Rules.{Lexeme, Unsupported, Out, heads, ◌>>=◌}
+use Rattle.grammar.specs.Rules.{Lexeme, Unsupported, Out, ◌>>=◌}
 use Rattle.clif_words.specs.declared.class.Class.{Class}
 use Rattle.clif_words.specs.declared.class.Class.TheVariants as classes
 use Rattle.clif_words.specs.Terminals.{codes_of}

@@ -18,3 +18,5 @@ pub mod LineValues
 pub mod ModuleValues
 pub mod Tags
 pub mod Lines
+pub mod Alike
+pub mod LetterLines

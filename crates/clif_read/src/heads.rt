@@ -91,7 +91,10 @@ fn some_block_params(alloc: Global, reader: &mut Reader<'_>) -> Result<Vec<RawBl
 
 /// The parameters of a block: `(v0: i64, v1: i32)`
 #[tactic(auto, unfolding(crate::specs::Heads::block_params_at))]
-pub(crate) fn block_params(alloc: Global, reader: &mut Reader<'_>) -> Result<Vec<RawBlockParam>, Stop>
+pub(crate) fn block_params(
+    alloc: Global,
+    reader: &mut Reader<'_>,
+) -> Result<Vec<RawBlockParam>, Stop>
     ensures is { Gives (λ x. x.items) reader.new result (spec.block_params_at reader.old) }
     ensures shorter { IfOk result (λ _. length reader.new < length reader.old) }
 {

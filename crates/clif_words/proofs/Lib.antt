@@ -1,3 +1,4 @@
 mod Buckets
 mod Decimals
 pub mod Tags
+mod Printed

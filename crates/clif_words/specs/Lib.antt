@@ -3,3 +3,5 @@ pub mod Table
 pub mod Words
 pub mod Lexemes
 pub mod Terminals
+pub mod Opcodes
+pub mod Printed

@@ -1,5 +1,10 @@
 //! The opcodes, one table for reading and printing.
 
+ghost use Rattle.std.specs.Prelude.{◌≡◌, map, slice_get};
+ghost use Rattle.clif_words.specs.declared.opcodes.OpcodeRow.{OpcodeRow};
+ghost use Rattle.clif_words.specs.Table as table;
+ghost use Rattle.clif_words.specs.Opcodes as spec;
+
 use crate::class::Class;
 
 /// An opcode of CLIF that is read and printed.
@@ -180,3 +185,22 @@ pub const OPCODES: [OpcodeRow; 79] = [
         Class::TryCallIndirect,
     ),
 ];
+
+/// The table of opcodes. Its rows are those by which the reader knows the words of opcodes, and a row's number is its place.
+pub fn opcode_rows() -> &'static [OpcodeRow]
+    ensures words { spec.rows_from 0 result.now ≡ table.numbered_through 0 table.opcodes }
+    ensures opcodes { map (λ (row : OpcodeRow). row.1) result.now ≡ spec.all_opcodes }
+    ensures spelled { map (λ (row : OpcodeRow). row.0.now) result.now ≡ map spec.word spec.all_opcodes }
+{
+    &OPCODES
+}
+
+/// The opcode with this number.
+pub fn opcode_at(number: u64) -> Option<Opcode>
+    ensures { result ≡ slice_get spec.all_opcodes number }
+{
+    match opcode_rows().get(number as usize) {
+        Some(row) => Some(row.1),
+        None => None,
+    }
+}

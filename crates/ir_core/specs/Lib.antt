@@ -32,3 +32,4 @@ pub mod Viewed
 pub mod Whole
 pub mod Words
 pub mod Writable
+pub mod Listed

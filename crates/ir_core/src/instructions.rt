@@ -2,6 +2,7 @@
 use crate::lists::List;
 use crate::numbers::{Block, FuncRef, SigRef, Slot, Value};
 use crate::signatures::Ty;
+use crate::values::Values;
 use clk_num::{Bits, Op, TrapCode};
 use debug_tags::Tags;
 use exn_tables::Table;
@@ -51,7 +52,7 @@ pub enum Inst {
     Const(Bits),
     Pure {
         op: Op,
-        args: List<Value>,
+        args: Values,
     },
     PureImm {
         op: Op,
@@ -94,7 +95,7 @@ pub enum Inst {
         default: BlockCall,
         entries: List<BlockCall>,
     },
-    Return(List<Value>),
+    Return(Values),
     Trap(TrapCode),
     Trapz {
         cond: Value,
@@ -106,33 +107,33 @@ pub enum Inst {
     },
     Call {
         callee: FuncRef,
-        args: List<Value>,
+        args: Values,
     },
     ReturnCall {
         callee: FuncRef,
-        args: List<Value>,
+        args: Values,
     },
     TryCall {
         callee: FuncRef,
         sig: SigRef,
-        args: List<Value>,
+        args: Values,
         normal: BlockCall,
         table: Table<BlockCall>,
     },
     CallIndirect {
         sig: SigRef,
         address: Value,
-        args: List<Value>,
+        args: Values,
     },
     ReturnCallIndirect {
         sig: SigRef,
         address: Value,
-        args: List<Value>,
+        args: Values,
     },
     TryCallIndirect {
         sig: SigRef,
         address: Value,
-        args: List<Value>,
+        args: Values,
         normal: BlockCall,
         table: Table<BlockCall>,
     },
@@ -144,6 +145,6 @@ pub enum Inst {
 pub struct InstData {
     pub inst: Inst,
     pub ty: Option<Ty>,
-    pub results: List<Value>,
+    pub results: Values,
     pub tags: Tags,
 }

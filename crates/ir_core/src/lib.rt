@@ -18,6 +18,7 @@ mod signatures;
 mod size;
 #[cfg(test)]
 mod tests;
+mod values;
 
 pub use declarations::{Callee, SlotDecl};
 pub use func::{Blocks, Func, Insts};
@@ -30,3 +31,4 @@ pub use numbers::{Block, FuncRef, SigRef, Slot, Value};
 pub use places::{Item, Point};
 pub use room::Room;
 pub use signatures::{Conv, Ext, Param, Purpose, Sig, Ty};
+pub use values::Values;

@@ -29,13 +29,12 @@ fn one_block(alloc: Global, name: FuncName) -> Result<Func, AllocError>
     let value = func.declare(Ty::I64)?;
     let block = func.add_block()?;
     func.add_param(block, value)?;
-    let values = vec![in alloc; value]?;
     func.add_inst(
         block,
         InstData {
-            inst: Inst::Return(List::from_vec(values)),
+            inst: Inst::Return(Values::one(value)),
             ty: None,
-            results: List::from_vec(Vec::new(alloc)),
+            results: Values::none(),
             tags: Tags::new(Vec::new(alloc)),
         },
     )?;

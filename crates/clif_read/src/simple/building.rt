@@ -19,6 +19,7 @@ use clk_num::{Bits, Op, Width};
 use debug_tags::Tags;
 use ir_core::{
     Block, Conv, Ext, Func, FuncName, Inst, InstData, List, Param, Purpose, Room, Sig, Ty, Value,
+    Values,
 };
 use std::alloc::Global;
 
@@ -68,36 +69,9 @@ fn add_param(
     Ok(())
 }
 
-/// A list of one value.
-#[inline]
-fn one(alloc: Global, value: Value) -> Result<List<Value>, SimpleErr>
-    ensures ok { IfOk result (λ l. l ≡ value ∷ []) }
-    ensures err { IfErr result (λ e. e ≡ NoMemory) }
-{
-    let mut values = Vec::with_capacity(alloc, 1)?;
-    values.push(value)?;
-    Ok(List::from_vec(values))
-}
-
-/// The numbers of two values.
-#[inline]
-fn pair(alloc: Global, first: u32, second: u32) -> Result<List<Value>, SimpleErr>
-    ensures ok { IfOk result (λ l. l ≡ first ∷ second ∷ []) }
-    ensures err { IfErr result (λ e. e ≡ NoMemory) }
-{
-    let mut values = Vec::with_capacity(alloc, 2)?;
-    values.push(Value::new(first))?;
-    values.push(Value::new(second))?;
-    Ok(List::from_vec(values))
-}
-
 /// What a line computes, after the words that are defined before it.
 #[inline]
-fn instruction(
-    alloc: Global,
-    numbers: &Numbers,
-    computation: Computation,
-) -> Result<Inst, SimpleErr>
+fn instruction(numbers: &Numbers, computation: Computation) -> Result<Inst, SimpleErr>
     requires right { AreRight numbers.now }
     ensures fits { OnOk result (spec.may_compute numbers.now.words.items computation ≡ true) }
     ensures ok { IfOk result (λ i. instruction_of i ≡ spec.instruction numbers.now.words.items computation) }
@@ -115,7 +89,7 @@ fn instruction(
             let Some(second) = numbers.number(second) else {
                 return Err(SimpleErr::NotSimple);
             };
-            let args = pair(alloc, first, second)?;
+            let args = Values::two(Value::new(first), Value::new(second));
             Ok(Inst::Pure { op: Op::Iadd, args })
         }
     }
@@ -175,13 +149,12 @@ fn add_line(
     ensures draft { OnOk result (IsDraft func.new.function (numbers.old.words.items ++ line.result ∷ [])) }
     ensures not_simple { IfErr result (λ e. e ≡ NotSimple → spec.line_fits numbers.old.words.items line ≡ false) }
 {
-    let inst = instruction(alloc, numbers, line.computation)?;
+    let inst = instruction(numbers, line.computation)?;
     let value = define(func, numbers, line.result)?;
-    let results = one(alloc, value)?;
     let added = InstData {
         inst,
         ty: controlling(line.computation),
-        results,
+        results: Values::one(value),
         tags: Tags::new(Vec::new(alloc)),
     };
     func.add_inst(block, added)?;
@@ -214,11 +187,7 @@ fn add_lines(
 }
 
 /// The numbers of the values that are returned.
-fn returned_values(
-    alloc: Global,
-    numbers: &Numbers,
-    returned: &[u64],
-) -> Result<List<Value>, SimpleErr>
+fn returned_values(alloc: Global, numbers: &Numbers, returned: &[u64]) -> Result<Values, SimpleErr>
     requires right { AreRight numbers.now }
     ensures defined { OnOk result (list_all (spec.is_defined numbers.now.words.items) returned.now ≡ true) }
     ensures ok { IfOk result (λ l. l ≡ map (spec.number numbers.now.words.items) returned.now) }
@@ -231,7 +200,7 @@ fn returned_values(
         };
         values.push(Value::new(number))?;
     }
-    Ok(List::from_vec(values))
+    Ok(Values::from_slice(alloc, values.as_slice())?)
 }
 
 /// Adds the return.
@@ -255,7 +224,7 @@ fn add_return(
     let added = InstData {
         inst: Inst::Return(values),
         ty: None,
-        results: List::from_vec(Vec::new(alloc)),
+        results: Values::none(),
         tags: Tags::new(Vec::new(alloc)),
     };
     func.add_inst(block, added)?;

@@ -1,5 +1,6 @@
 //! The words that simple texts tell apart.
 ghost use Rattle.std.specs.Prelude.{◌≡◌, ◌≤◌, drop, length};
+ghost use Rattle.std.specs.Str.{bytes_eq};
 ghost use Rattle.clif_read.specs.SimpleWords as spec;
 
 /// What the grammar tells apart.
@@ -94,22 +95,37 @@ pub(crate) fn word(spelling: &[u8]) -> (Class, u64)
     (plain_word(spelling), 0)
 }
 
+/// Whether a word is spelled so.
+#[inline(always)]
+fn spells(spelling: &[u8], word: &[u8]) -> bool
+    ensures { result ≡ bytes_eq spelling.now word.now }
+{
+    let mut rest = spelling;
+    'bytes: for c in word {
+        match rest.split_first() {
+            Some((d, after)) if *d == *c => rest = after,
+            _ => return false,
+        }
+    }
+    rest.is_empty()
+}
+
 /// The class of a word that is no entity.
 #[inline]
 fn plain_word(spelling: &[u8]) -> Class
     ensures { result ≡ spec.plain_word spelling.now }
 {
-    if spelling == b"iadd".as_slice() {
+    if spells(spelling, b"iadd") {
         Class::Iadd
-    } else if spelling == b"iconst".as_slice() {
+    } else if spells(spelling, b"iconst") {
         Class::Iconst
-    } else if spelling == b"i64".as_slice() {
+    } else if spells(spelling, b"i64") {
         Class::I64
-    } else if spelling == b"return".as_slice() {
+    } else if spells(spelling, b"return") {
         Class::Return
-    } else if spelling == b"function".as_slice() {
+    } else if spells(spelling, b"function") {
         Class::Function
-    } else if spelling == b"fast".as_slice() {
+    } else if spells(spelling, b"fast") {
         Class::Fast
     } else {
         Class::Other

@@ -13,7 +13,7 @@ use crate::simple::written::{Assignment, Computation, Written};
 use std::alloc::Global;
 
 /// Whether the next token is of this class.
-#[inline]
+#[inline(always)]
 pub(crate) fn next_is(source: &Source, at: usize, class: Class) -> bool
     ensures { result ≡ heads (code class ∷ []) (after source.now at) }
 {
@@ -24,7 +24,7 @@ pub(crate) fn next_is(source: &Source, at: usize, class: Class) -> bool
 }
 
 /// A token of this class.
-#[inline]
+#[inline(always)]
 #[tactic(auto, unfolding(crate::specs::SimpleReading::token))]
 pub(crate) fn token<'a>(
     source: &Source<'a>,

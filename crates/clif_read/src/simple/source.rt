@@ -18,7 +18,7 @@ impl<'a> Source<'a> {
     ghost use Rattle.clif_read.specs.SimpleWords as spec;
 
     /// A token.
-    #[inline]
+    #[inline(always)]
     #[tactic(auto, unfolding(crate::specs::SimpleWords::lexeme_in))]
     fn item(&self, at: usize) -> Item<'a>
         requires { at < length self.now.tokens.now }
@@ -64,7 +64,7 @@ impl<'a> Source<'a> {
     }
 
     /// The next token that is no comment, and the place behind it.
-    #[inline]
+    #[inline(always)]
     pub(crate) fn next(&self, at: usize) -> Option<(Item<'a>, usize)>
         ensures next { MatchOption result (spec.rest self.now.text.now self.now.tokens.now at ≡ []) (λ x. spec.rest self.now.text.now self.now.tokens.now at ≡ spec.lexeme_of x.0 ∷ spec.rest self.now.text.now self.now.tokens.now x.1) }
         ensures further { IfSome result (λ x. at < x.1) }

@@ -15,6 +15,7 @@ use crate::lists::List;
 use crate::numbers::{Block, Value};
 use crate::room::Room;
 use crate::signatures::{Sig, Ty};
+use crate::values::Values;
 use debug_tags::Tags;
 use std::alloc::{AllocError, Global};
 use std::mem;
@@ -182,7 +183,7 @@ fn nop(alloc: Global) -> InstData {
     InstData {
         inst: Inst::Nop,
         ty: None,
-        results: List::from_vec(Vec::new(alloc)),
+        results: Values::none(),
         tags: Tags::new(Vec::new(alloc)),
     }
 }

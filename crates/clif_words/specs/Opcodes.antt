@@ -1,0 +1,108 @@
+-- The opcodes in the order of the table, and how each is spelled.
+use Rattle.std.specs.Prelude.{ℕ, ◌+◌, List, [], ◌∷◌, codes}
+use Rattle.clk_num.specs.declared.op.Cc.TheVariants as cc
+use Rattle.clk_num.specs.declared.op.Op.TheVariants as ops
+use Rattle.clk_num.specs.declared.width.Width.TheVariants as widths
+use Rattle.ir_core.specs.Words.{op_word}
+use Rattle.clif_words.specs.declared.opcodes.Opcode.{Opcode}
+use Rattle.clif_words.specs.declared.opcodes.Opcode.TheVariants.{Iconst, Iadd, Isub, Imul, Band, Bor, Bxor, Smin, Smax, Umin, Umax, Umulhi, Smulhi, Udiv, Urem, Sdiv, Srem, Ishl, Ushr, Sshr, Rotl, Rotr, UaddOverflow, SaddOverflow, UsubOverflow, SsubOverflow, Iconcat, Ineg, Bnot, Iabs, Clz, Ctz, Popcnt, Bitrev, Bswap, Isplit, Icmp, Select, Uextend, Sextend, Ireduce, IaddImm, ImulImm, BandImm, BorImm, BxorImm, IshlImm, UshrImm, SshrImm, IcmpImm, Load, Uload8, Sload8, Uload16, Sload16, Uload32, Sload32, Store, Istore8, Istore16, Istore32, StackLoad, StackStore, FuncAddr, Nop, SequencePoint, Jump, Brif, BrTable, Return, Trap, Trapz, Trapnz, Call, ReturnCall, TryCall, CallIndirect, ReturnCallIndirect, TryCallIndirect}
+use Rattle.clif_words.specs.declared.opcodes.OpcodeRow.{OpcodeRow}
+use Rattle.clif_words.specs.Table.{Row, imm_word}
+
+-- each opcode once; its number is its place here
+abbrev pub all_opcodes : List Opcode
+all_opcodes =
+    Iconst ∷ Iadd ∷ Isub ∷ Imul ∷ Band ∷ Bor ∷ Bxor ∷ Smin ∷ Smax ∷ Umin ∷ Umax ∷ Umulhi ∷ Smulhi ∷ Udiv ∷
+    Urem ∷ Sdiv ∷ Srem ∷ Ishl ∷ Ushr ∷ Sshr ∷ Rotl ∷ Rotr ∷ UaddOverflow ∷ SaddOverflow ∷ UsubOverflow ∷
+    SsubOverflow ∷ Iconcat ∷ Ineg ∷ Bnot ∷ Iabs ∷ Clz ∷ Ctz ∷ Popcnt ∷ Bitrev ∷ Bswap ∷ Isplit ∷ Icmp ∷
+    Select ∷ Uextend ∷ Sextend ∷ Ireduce ∷ IaddImm ∷ ImulImm ∷ BandImm ∷ BorImm ∷ BxorImm ∷ IshlImm ∷
+    UshrImm ∷ SshrImm ∷ IcmpImm ∷ Load ∷ Uload8 ∷ Sload8 ∷ Uload16 ∷ Sload16 ∷ Uload32 ∷ Sload32 ∷ Store ∷
+    Istore8 ∷ Istore16 ∷ Istore32 ∷ StackLoad ∷ StackStore ∷ FuncAddr ∷ Nop ∷ SequencePoint ∷ Jump ∷ Brif ∷
+    BrTable ∷ Return ∷ Trap ∷ Trapz ∷ Trapnz ∷ Call ∷ ReturnCall ∷ TryCall ∷ CallIndirect ∷
+    ReturnCallIndirect ∷ TryCallIndirect ∷ []
+
+abbrev pub word : Opcode → List ℕ
+word Iconst = codes "iconst"
+word Iadd = op_word ops.Iadd
+word Isub = op_word ops.Isub
+word Imul = op_word ops.Imul
+word Band = op_word ops.Band
+word Bor = op_word ops.Bor
+word Bxor = op_word ops.Bxor
+word Smin = op_word ops.Smin
+word Smax = op_word ops.Smax
+word Umin = op_word ops.Umin
+word Umax = op_word ops.Umax
+word Umulhi = op_word ops.Umulhi
+word Smulhi = op_word ops.Smulhi
+word Udiv = op_word ops.Udiv
+word Urem = op_word ops.Urem
+word Sdiv = op_word ops.Sdiv
+word Srem = op_word ops.Srem
+word Ishl = op_word ops.Ishl
+word Ushr = op_word ops.Ushr
+word Sshr = op_word ops.Sshr
+word Rotl = op_word ops.Rotl
+word Rotr = op_word ops.Rotr
+word UaddOverflow = op_word ops.UaddOverflow
+word SaddOverflow = op_word ops.SaddOverflow
+word UsubOverflow = op_word ops.UsubOverflow
+word SsubOverflow = op_word ops.SsubOverflow
+word Iconcat = op_word ops.Iconcat
+word Ineg = op_word ops.Ineg
+word Bnot = op_word ops.Bnot
+word Iabs = op_word ops.Iabs
+word Clz = op_word ops.Clz
+word Ctz = op_word ops.Ctz
+word Popcnt = op_word ops.Popcnt
+word Bitrev = op_word ops.Bitrev
+word Bswap = op_word ops.Bswap
+word Isplit = op_word ops.Isplit
+word Icmp = op_word (ops.Icmp cc.Eq)
+word Select = op_word ops.Select
+word Uextend = op_word (ops.Uextend widths.W8)
+word Sextend = op_word (ops.Sextend widths.W8)
+word Ireduce = op_word (ops.Ireduce widths.W8)
+word IaddImm = imm_word ops.Iadd
+word ImulImm = imm_word ops.Imul
+word BandImm = imm_word ops.Band
+word BorImm = imm_word ops.Bor
+word BxorImm = imm_word ops.Bxor
+word IshlImm = imm_word ops.Ishl
+word UshrImm = imm_word ops.Ushr
+word SshrImm = imm_word ops.Sshr
+word IcmpImm = imm_word (ops.Icmp cc.Eq)
+word Load = codes "load"
+word Uload8 = codes "uload8"
+word Sload8 = codes "sload8"
+word Uload16 = codes "uload16"
+word Sload16 = codes "sload16"
+word Uload32 = codes "uload32"
+word Sload32 = codes "sload32"
+word Store = codes "store"
+word Istore8 = codes "istore8"
+word Istore16 = codes "istore16"
+word Istore32 = codes "istore32"
+word StackLoad = codes "stack_load"
+word StackStore = codes "stack_store"
+word FuncAddr = codes "func_addr"
+word Nop = codes "nop"
+word SequencePoint = codes "sequence_point"
+word Jump = codes "jump"
+word Brif = codes "brif"
+word BrTable = codes "br_table"
+word Return = codes "return"
+word Trap = codes "trap"
+word Trapz = codes "trapz"
+word Trapnz = codes "trapnz"
+word Call = codes "call"
+word ReturnCall = codes "return_call"
+word TryCall = codes "try_call"
+word CallIndirect = codes "call_indirect"
+word ReturnCallIndirect = codes "return_call_indirect"
+word TryCallIndirect = codes "try_call_indirect"
+
+-- a row of the table of opcodes, as a row of the table of words, with its place for its number
+abbrev pub rows_from : ℕ → List OpcodeRow → List Row
+rows_from n [] = []
+rows_from n (row ∷ rows) = record { word = row.0.now; class = row.2; number = n } ∷ rows_from (n + 1) rows

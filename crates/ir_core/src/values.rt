@@ -1,0 +1,104 @@
+//! Lists of values, as instructions have them.
+ghost use Rattle.std.specs.Prelude.{◌≡◌, ◌∷◌, [], IfOk};
+
+use crate::numbers::Value;
+use std::alloc::{AllocError, Global};
+use std::marker::Model;
+
+/// A list of values. Up to three take no memory but the list's own. Contracts see its items in order.
+#[derive(Drop)]
+pub struct Values {
+    items: Items,
+}
+
+#[derive(Drop)]
+enum Items {
+    None,
+    One([Value; 1]),
+    Two([Value; 2]),
+    Three([Value; 3]),
+    Many(Box<Vec<Value>>),
+}
+
+impl Model for Values {
+    ghost use Rattle.std.specs.Prelude.{List, ℕ};
+
+    ghost Value = { List ℕ };
+
+    ghost use Rattle.ir_core.specs.Listed.{items_of};
+
+    ghost view = { λ values. items_of values.items };
+}
+
+impl Values {
+    /// The empty list.
+    #[inline]
+    pub fn none() -> Values
+        ensures { result ≡ [] }
+    {
+        Values { items: Items::None }
+    }
+
+    /// The list of one value.
+    #[inline]
+    pub fn one(value: Value) -> Values
+        ensures { result ≡ value ∷ [] }
+    {
+        Values {
+            items: Items::One([value]),
+        }
+    }
+
+    /// The list of two values.
+    #[inline]
+    pub fn two(first: Value, second: Value) -> Values
+        ensures { result ≡ first ∷ second ∷ [] }
+    {
+        Values {
+            items: Items::Two([first, second]),
+        }
+    }
+
+    /// The list of these values. Only `AllocError` refuses, and only four or more.
+    pub fn from_slice(alloc: Global, values: &[Value]) -> Result<Values, AllocError>
+        ensures { IfOk result (λ list. list ≡ values.now) }
+    {
+        let items = match values {
+            [] => Items::None,
+            [a] => Items::One([*a]),
+            [a, b] => Items::Two([*a, *b]),
+            [a, b, c] => Items::Three([*a, *b, *c]),
+            _ => Items::Many(Box::new(alloc, Vec::from_slice(alloc, values)?)?),
+        };
+        Ok(Values { items })
+    }
+
+    /// The values in order.
+    #[inline]
+    pub fn as_slice(&self) -> &[Value]
+        ensures { result.now ≡ self.now }
+    {
+        match &self.items {
+            Items::None => &[],
+            Items::One(values) => values.as_slice(),
+            Items::Two(values) => values.as_slice(),
+            Items::Three(values) => values.as_slice(),
+            Items::Many(values) => values.as_slice(),
+        }
+    }
+}
+
+impl Clone for Values {
+    ghost is_clone = { λ list copy. copy ≡ list };
+
+    fn clone(&self) -> Result<Values, AllocError> {
+        let items = match &self.items {
+            Items::None => Items::None,
+            Items::One(values) => Items::One(*values),
+            Items::Two(values) => Items::Two(*values),
+            Items::Three(values) => Items::Three(*values),
+            Items::Many(values) => Items::Many(values.clone()?),
+        };
+        Ok(Values { items })
+    }
+}

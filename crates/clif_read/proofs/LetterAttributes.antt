@@ -1,5 +1,5 @@
 -- The attributes of a parameter are those of the letter.
-use Rattle.std.proofs.Common.{◌≡◌, ◌+◌, Bool, true, false, not, ◌==◌, cond, List, [], ◌∷◌, ◌++◌, map, Some, None, refl, sym, ap, subst, ◌∙◌, inl, inr, arith}
+use Rattle.std.proofs.Common.{◌≡◌, ℕ, ◌+◌, Bool, true, false, not, ◌==◌, cond, List, [], ◌∷◌, ◌++◌, map, Some, None, refl, sym, ap, subst, ◌∙◌, inl, inr, arith}
 use Rattle.std.specs.Prelude.{◌⊎◌, count_by}
 use Rattle.std.proofs.lemmas.List.{append-nil}
 use Rattle.std.proofs.lemmas.List.Sums.{sum_by-cons}
@@ -13,6 +13,9 @@ use Rattle.clif_read.specs.DeclarationValues.{ext_of, ext_value, purpose_value, 
 use Rattle.clif_read.specs.LetterAttributes.{letter_attributes, letter_value, is_ext, is_purpose, AtMostOne, ByLetter, BeginsByLetter, attributes, ByRule, SameAttributes}
 
 -- ---- counting
+
+is_one : Bool → ℕ
+is_one b = cond b 1 0
 
 count_is : (p : RawAttribute → Bool) (a : RawAttribute) (b : Bool) (xs : List RawAttribute) → p a ≡ b → count_by p (a ∷ xs) ≡ cond b 1 0 + count_by p xs
 count_is p a b xs e = sum_by-cons (λ x. cond (p x) 1 0) a xs ∙ ap (λ (c : Bool). cond c 1 0 + count_by p xs) e

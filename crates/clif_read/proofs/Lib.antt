@@ -41,3 +41,4 @@ pub mod Alike
 pub mod Given
 pub mod LetterInsts
 pub mod LetterLines
+mod DeclarationExamples

@@ -42,3 +42,4 @@ pub mod Given
 pub mod LetterInsts
 pub mod LetterLines
 mod DeclarationExamples
+pub mod LetterModule

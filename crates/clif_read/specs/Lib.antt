@@ -22,3 +22,4 @@ pub mod Modules
 pub mod Texts
 pub mod Alike
 pub mod LetterLines
+pub mod LetterModule

@@ -8,13 +8,14 @@ ghost use Rattle.ir_core.specs.Module.{Module};
 ghost use Rattle.clif_insts.specs.Values.{seen};
 ghost use Rattle.clif_read.specs.SimpleModule.{Means};
 ghost use Rattle.clif_read.specs.SimpleBack.{ReadsBack};
+ghost use Rattle.clif_read.specs.Alike.{Alike};
 ghost use Rattle.clif_read.specs.ModuleGrammar.{lines, module_rule};
+ghost use Rattle.clif_read.specs.LineValues.{lines_value};
 ghost use Rattle.clif_read.specs.ModuleValues.{module_value};
 ghost use Rattle.clif_read.specs.Modules.{module_at};
-ghost use Rattle.clif_read.specs.LineValues.{lines_value};
-ghost use Rattle.clif_read.specs.Alike.{Alike};
 ghost use Rattle.clif_read.specs.LetterAttributes.{SameAttributes};
 ghost use Rattle.clif_read.specs.LetterLines.{letter_lines, letter_lines_value};
+ghost use Rattle.clif_read.specs.LetterModule.{letter_module, letter_module_value};
 
 /// The canonical text of a module that a simple text means is a simple text, and means that module alone.
 pub fn simple_text_reads_back()
@@ -30,6 +31,11 @@ pub fn attributes_by_the_letter()
 /// The grammar reads the values of a `return` behind it, and takes what begins with a value as one rule, so that the next token always says which way to go.
 pub fn lines_by_the_letter()
     ensures { Alike letter_lines lines letter_lines_value lines_value }
+{}
+
+/// The same of whole modules.
+pub fn module_by_the_letter()
+    ensures { Alike letter_module module_rule letter_module_value module_value }
 {}
 
 /// Every list of tokens is one module, in one way, or has a first place where no module goes on.

@@ -30,7 +30,9 @@ pub mod Ends
 pub mod LineEnds
 pub mod LineLaws
 pub mod LineLoop
+pub mod AttributeLetter
 pub mod Alike
 pub mod Given
 pub mod LetterInsts
 pub mod LetterLines
+pub mod LetterModule

@@ -13,5 +13,7 @@ pub mod LineValues
 pub mod ModuleValues
 pub mod Tags
 pub mod Lines
+pub mod AttributeLetter
 pub mod Alike
 pub mod LetterLines
+pub mod LetterModule

@@ -4,9 +4,10 @@
     python3 bench/first.py PATH/clifinl [MEGABYTES]
 
 Makes a text of about 60 MB (functions of 1 to 300 lines), runs both in turn, five times each, and takes the least time
-of each. Prints megabytes a second, peak memory a byte of text, and how the times compare; then the same for half the
-text, and how much longer the whole takes. (Twice 60 MB is more than a text may have, so the half stands for the one text
-and the whole for twice of it.)"""
+of each. Prints megabytes a second, peak memory a byte of text, and how the times compare, by the clock and by the
+processor's time (user and system), which other jobs disturb less; then the same for half the text, and how much longer
+the whole takes. (Twice 60 MB is more than a text may have, so the half stands for the one text and the whole for twice
+of it.)"""
 import os
 import random
 import resource
@@ -38,7 +39,7 @@ def text_of(size, seed=1):
 
 
 def run(words, path):
-    """Seconds and peak memory in bytes of one run over the file."""
+    """Seconds by the clock, seconds of the processor, and peak memory in bytes of one run over the file."""
     with open(path, 'rb') as text, open(os.devnull, 'wb') as out:
         begin = time.monotonic()
         process = subprocess.Popen(words, stdin=text, stdout=out)
@@ -46,17 +47,18 @@ def run(words, path):
         seconds = time.monotonic() - begin
     if status != 0:
         sys.exit('%s ended with %d' % (' '.join(words), os.waitstatus_to_exitcode(status)))
-    return seconds, usage.ru_maxrss * 1024
+    return seconds, usage.ru_utime + usage.ru_stime, usage.ru_maxrss * 1024
 
 
 def measure(program, path):
-    """The least time of each program in turn, and the memory of the first."""
+    """The least times of each program in turn, by the clock and of the processor, and the memory of the first."""
     own = []
     words = []
     for _ in range(TURNS):
         own.append(run([program, 'inline'], path))
         words.append(run(['wc', '-w'], path))
-    return min(own)[0], max(memory for _, memory in own), min(words)[0]
+    least = lambda runs: [min(it[clock] for it in runs) for clock in (0, 1)]
+    return least(own), least(words), max(it[2] for it in own)
 
 
 def main():
@@ -68,11 +70,14 @@ def main():
             file.write(text_of(size // share).encode())
             file.flush()
             length = os.path.getsize(file.name)
-            seconds, memory, counting = measure(program, file.name)
-            times[share] = (length, seconds)
-            print('%.1f MB: inline %.3f s (%.0f MB/s), wc -w %.3f s (%.0f MB/s), ratio %.2f, peak %.1f bytes a byte of text'
-                  % (length / 1e6, seconds, length / 1e6 / seconds, counting, length / 1e6 / counting, seconds / counting, memory / length))
-    print('%.2f times the text in %.2f times the time' % (times[1][0] / times[2][0], times[1][1] / times[2][1]))
+            own, words, memory = measure(program, file.name)
+            times[share] = (length, *own)
+            print('%.1f MB, peak %.1f bytes a byte of text' % (length / 1e6, memory / length))
+            for name, mine, counting in zip(('clock', 'processor'), own, words):
+                print('  by the %s: inline %.3f s (%.0f MB/s), wc -w %.3f s (%.0f MB/s), ratio %.2f'
+                      % (name, mine, length / 1e6 / mine, counting, length / 1e6 / counting, mine / counting))
+    print('%.2f times the text in %.2f times the time by the clock, %.2f times that of the processor'
+          % tuple(whole / half for whole, half in zip(times[1], times[2])))
 
 
 if __name__ == '__main__':

@@ -1,10 +1,10 @@
 -- A chain in which some texts stand behind a text that ends with its token, and are given to it, says the same as { } of the texts with what is given to them.
-use Rattle.std.proofs.Common.{◌≡◌, ℕ, Bool, true, false, List, [], ◌∷◌, ◌++◌, map, Option, Some, None, Ok, refl, sym, ap, subst, ◌∙◌, inl, inr, append_assoc}
+use Rattle.std.proofs.Common.{◌≡◌, ℕ, Bool, true, false, List, [], ◌∷◌, ◌++◌, map, Option, Some, None, refl, sym, ap, subst, ◌∙◌, inl, inr, append_assoc}
 use Rattle.std.specs.Prelude.{◌⊎◌}
 use Rattle.std.proofs.lemmas.List.{append-nil}
 use Rattle.std.proofs.lemmas.Bool.{eq-eqb}
 use Rattle.grammar.proofs.Chains.{ends-append}
-use Rattle.grammar.specs.Rules.{Lexeme, Rule, Tok, Seq, Alt, Opt, Many, Chain, Value, Cut, Each, Links, ByFlag, ends, nullable, exts, good, read, heads, Derives, Begins}
+use Rattle.grammar.specs.Rules.{Lexeme, Rule, Tok, Seq, Alt, Opt, Many, Chain, Value, Cut, Each, Links, ByFlag, ends, nullable, good, Derives}
 use Rattle.grammar.proofs.Laws.{complete, ok_is}
 use Rattle.grammar.proofs.Same.{Splits, SplitsBegun, same_texts, same_beginnings}
 use Rattle.grammar.proofs.Tails.{may_end, Tail, tail_same, tail_end, tail_alt, tail_seq, Or, splits, splits_begun}

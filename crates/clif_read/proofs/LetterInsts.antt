@@ -1,6 +1,6 @@
 -- An instruction with the values of a `return`, and one behind which they stand.
-use Rattle.std.proofs.Common.{◌≡◌, ℕ, false, List, [], ◌∷◌, Option, Some, None, refl}
-use Rattle.grammar.specs.Rules.{Rule, Value, Tok, Opt, Refuse, UnknownOpcode, Unsupported, nullable}
+use Rattle.std.proofs.Common.{◌≡◌, ℕ, false, List, [], ◌∷◌, None, refl}
+use Rattle.grammar.specs.Rules.{Rule, Value, Opt, Refuse, UnknownOpcode, Unsupported, nullable}
 use Rattle.grammar.proofs.Tails.{may_end}
 use Rattle.clif_words.specs.declared.class.Class.{Class}
 use Rattle.clif_words.specs.declared.class.Class.TheVariants as classes
@@ -8,7 +8,7 @@ use Rattle.clif_insts.specs.declared.raw.RawName.{RawName}
 use Rattle.clif_insts.specs.declared.raw.RawInst.{RawInst}
 use Rattle.clif_insts.specs.declared.raw.RawOperands.TheVariants as operands
 use Rattle.clif_words.specs.Classes.{code}
-use Rattle.clif_words.specs.Terminals.{◌then◌, refused, signed, value, comma, condition, slot, sig, callee, iconst, binary, unary, icmp, select, convert, binary_imm, icmp_imm, load, load_wide, store, stack_load, stack_store, func_addr, nullary, jump, brif, br_table, return_word, trap, trap_if, call, try_call, call_indirect, try_call_indirect}
+use Rattle.clif_words.specs.Terminals.{◌then◌, refused, value, comma, condition, sig, callee, iconst, binary, unary, icmp, select, convert, binary_imm, icmp_imm, load, load_wide, store, stack_load, stack_store, func_addr, nullary, jump, brif, br_table, return_word, trap, trap_if, call, try_call, call_indirect, try_call_indirect}
 use Rattle.clif_insts.specs.Grammar.{commas, number, suffix, suffix_i64, any_trap, flags, address, slot_address, target, normal_target, table, args, target_list, words_but, instruction, return_values}
 use Rattle.clif_insts.specs.Reading.{name}
 use Rattle.clif_insts.specs.Values.{perhaps, never, commas_value}

@@ -11,7 +11,7 @@ use Rattle.clif_insts.specs.declared.raw.RawInst.{RawInst}
 use Rattle.clif_words.specs.Terminals.{◌then◌, ◌or◌, srcloc, value, comma, arrow, equals, return_word}
 use Rattle.clif_insts.specs.Grammar.{commas, instruction, whole_inst, return_values}
 use Rattle.clif_insts.specs.Reading.{name}
-use Rattle.clif_insts.specs.Values.{either, ◌otherwise◌, perhaps, commas_value}
+use Rattle.clif_insts.specs.Values.{either, commas_value}
 use Rattle.clif_insts.specs.InstValues.{whole_value}
 use Rattle.clif_read.specs.declared.raw.RawTag.{RawTag}
 use Rattle.clif_read.specs.declared.raw.RawLine.{RawLine}
@@ -23,8 +23,8 @@ use Rattle.clif_read.specs.LineValues.{debug_tags_value, values_from, line_value
 use Rattle.clif_read.specs.LetterLines.{results, letter_line, letter_lines, location, results_value, tags_value, letter_line_value, letter_lines_value}
 use Rattle.clif_read.specs.Alike.{Means, Alike}
 use Rattle.clif_read.proofs.Alike.{alike_same, alike_back, alike_then, alike_map, alt_alike, alt_swap, alt_group, seq_second, seq_group, seq_alt, opt_seq, many_alike}
-use Rattle.clif_read.proofs.Given.{Given, given_same, given_alt, given_seq, given_map, Offers, Joins, Chaining, part, chained, chain_alike}
-use Rattle.clif_read.proofs.LetterInsts.{c, values, values_value, give_inst, whole_of, alone_of, inst_given, inst_alike}
+use Rattle.clif_read.proofs.Given.{Given, given_same, given_alt, given_seq, given_map, Chaining, part, chained, chain_alike}
+use Rattle.clif_read.proofs.LetterInsts.{c, values, values_value, whole_of, alone_of, inst_given, inst_alike}
 
 -- ---- lines in which an instruction has its own values, or values that stand behind it
 

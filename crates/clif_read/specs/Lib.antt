@@ -13,10 +13,11 @@ pub mod Attributes
 pub mod Signatures
 pub mod Declarations
 pub mod Heads
-pub mod LetterAttributes
 pub mod LineValues
 pub mod ModuleValues
 pub mod Tags
 pub mod Lines
+pub mod AttributeLetter
 pub mod Alike
 pub mod LetterLines
+pub mod LetterModule

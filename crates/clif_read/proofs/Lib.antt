@@ -34,7 +34,6 @@ pub mod Ends
 pub mod LineEnds
 pub mod LineLaws
 pub mod LineLoop
-pub mod AttributeLetter
 pub mod Alike
 pub mod Given
 pub mod LetterInsts

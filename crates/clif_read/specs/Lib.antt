@@ -17,7 +17,6 @@ pub mod LineValues
 pub mod ModuleValues
 pub mod Tags
 pub mod Lines
-pub mod AttributeLetter
 pub mod Alike
 pub mod LetterLines
 pub mod LetterModule

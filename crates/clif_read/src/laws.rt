@@ -4,8 +4,6 @@ ghost use Rattle.std.specs.Prelude.{◌≡◌, ℕ, List, Ok};
 ghost use Rattle.clif_lex.specs.declared.spans.Token.{Token};
 ghost use Rattle.clif_lex.specs.Lexing.{tokens_of};
 ghost use Rattle.ir_core.specs.Module.{Module};
-ghost use Rattle.grammar.specs.Rules.{Lexeme};
-ghost use Rattle.clif_read.specs.AttributeLetter.{AttributesLetter};
 ghost use Rattle.clif_read.specs.SimpleModule.{Means};
 ghost use Rattle.clif_read.specs.SimpleBack.{ReadsBack};
 ghost use Rattle.clif_read.specs.Alike.{Alike};
@@ -29,9 +27,4 @@ pub fn lines_by_the_letter()
 /// The same of whole modules.
 pub fn module_by_the_letter()
     ensures { Alike letter_module module_rule letter_module_value module_value }
-{}
-
-/// The attributes of a parameter are those of the EBNF, any number of the four words, at most one of each pair: the same texts, which mean the same, and the same beginnings.
-pub fn attributes_by_the_letter()
-    ensures { (tokens : List Lexeme) → AttributesLetter tokens }
 {}

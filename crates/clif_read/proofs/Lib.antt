@@ -40,3 +40,4 @@ pub mod LetterInsts
 pub mod LetterLines
 mod DeclarationExamples
 pub mod LetterModule
+pub mod LetterAttributes

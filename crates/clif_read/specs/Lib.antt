@@ -20,3 +20,4 @@ pub mod Lines
 pub mod Alike
 pub mod LetterLines
 pub mod LetterModule
+pub mod LetterAttributes

@@ -10,6 +10,7 @@ ghost use Rattle.clif_read.specs.Alike.{Alike};
 ghost use Rattle.clif_read.specs.ModuleGrammar.{lines, module_rule};
 ghost use Rattle.clif_read.specs.LineValues.{lines_value};
 ghost use Rattle.clif_read.specs.ModuleValues.{module_value};
+ghost use Rattle.clif_read.specs.LetterAttributes.{SameAttributes};
 ghost use Rattle.clif_read.specs.LetterLines.{letter_lines, letter_lines_value};
 ghost use Rattle.clif_read.specs.LetterModule.{letter_module, letter_module_value};
 
@@ -27,4 +28,9 @@ pub fn lines_by_the_letter()
 /// The same of whole modules.
 pub fn module_by_the_letter()
     ensures { Alike letter_module module_rule letter_module_value module_value }
+{}
+
+/// The attributes of a parameter are those of the EBNF, to the letter: any number of the four words in any order, of `uext` and `sext` at most one and of `vmctx` and `sret` at most one. The same texts with the same attributes, and the same beginnings.
+pub fn attributes_by_the_letter()
+    ensures { SameAttributes }
 {}

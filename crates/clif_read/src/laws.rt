@@ -4,14 +4,13 @@ ghost use Rattle.std.specs.Prelude.{◌≡◌, ℕ, List, Ok};
 ghost use Rattle.clif_lex.specs.declared.spans.Token.{Token};
 ghost use Rattle.clif_lex.specs.Lexing.{tokens_of};
 ghost use Rattle.ir_core.specs.Module.{Module};
-ghost use Rattle.grammar.specs.Rules.{Lexeme};
-ghost use Rattle.clif_read.specs.AttributeLetter.{AttributesLetter};
 ghost use Rattle.clif_read.specs.SimpleModule.{Means};
 ghost use Rattle.clif_read.specs.SimpleBack.{ReadsBack};
 ghost use Rattle.clif_read.specs.Alike.{Alike};
 ghost use Rattle.clif_read.specs.ModuleGrammar.{lines, module_rule};
 ghost use Rattle.clif_read.specs.LineValues.{lines_value};
 ghost use Rattle.clif_read.specs.ModuleValues.{module_value};
+ghost use Rattle.clif_read.specs.LetterAttributes.{SameAttributes};
 ghost use Rattle.clif_read.specs.LetterLines.{letter_lines, letter_lines_value};
 ghost use Rattle.clif_read.specs.LetterModule.{letter_module, letter_module_value};
 
@@ -31,7 +30,7 @@ pub fn module_by_the_letter()
     ensures { Alike letter_module module_rule letter_module_value module_value }
 {}
 
-/// The attributes of a parameter are those of the EBNF, any number of the four words, at most one of each pair: the same texts, which mean the same, and the same beginnings.
+/// The attributes of a parameter are those of the EBNF, to the letter: any number of the four words in any order, of `uext` and `sext` at most one and of `vmctx` and `sret` at most one. The same texts with the same attributes, and the same beginnings.
 pub fn attributes_by_the_letter()
-    ensures { (tokens : List Lexeme) → AttributesLetter tokens }
+    ensures { SameAttributes }
 {}

@@ -1,9 +1,13 @@
 //! Reading modules of CLIF.
 #![tactic(auto)]
 
+mod attributes;
+mod declarations;
+mod heads;
 pub mod laws;
 mod lines;
 mod raw;
+mod signatures;
 mod simple;
 mod tags;
 

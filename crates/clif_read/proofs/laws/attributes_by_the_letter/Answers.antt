@@ -1,5 +1,5 @@
-use Rattle.clif_read.proofs.AttributeLetter.{attributes_letter}
+use Rattle.clif_read.proofs.LetterAttributes.{same_attributes}
 use Rattle.clif_read.proofs.laws.attributes_by_the_letter.Goals as goal
 
 pub returns : goal.returns
-returns c = attributes_letter
+returns c = same_attributes

@@ -234,4 +234,4 @@ from_letter : (ts : List Lexeme) (xs : List RawAttribute) → ByLetter ts xs →
 from_letter ts xs ((v, d, e), most) = subst (ByRule ts) e (to_rule ts v d (subst AtMostOne (sym e) most))
 
 pub same_attributes : SameAttributes
-same_attributes = record { to_letter = from_rule; to_rule = from_letter; begun_to_letter = begun_to_letter; begun_to_rule = begun_to_rule }
+same_attributes = record { of_param = refl; to_letter = from_rule; to_rule = from_letter; begun_to_letter = begun_to_letter; begun_to_rule = begun_to_rule }

@@ -30,7 +30,6 @@ pub mod AttributeLaws
 pub mod SignatureLaws
 pub mod DeclarationLaws
 pub mod HeadLaws
-pub mod LetterAttributes
 pub mod Ends
 pub mod LineEnds
 pub mod LineLaws
@@ -43,3 +42,4 @@ pub mod LetterInsts
 pub mod LetterLines
 mod DeclarationExamples
 pub mod LetterModule
+pub mod LetterAttributes

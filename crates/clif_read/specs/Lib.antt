@@ -13,7 +13,6 @@ pub mod Attributes
 pub mod Signatures
 pub mod Declarations
 pub mod Heads
-pub mod LetterAttributes
 pub mod LineValues
 pub mod ModuleValues
 pub mod Tags
@@ -23,3 +22,4 @@ pub mod Texts
 pub mod Alike
 pub mod LetterLines
 pub mod LetterModule
+pub mod LetterAttributes

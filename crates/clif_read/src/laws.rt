@@ -22,11 +22,6 @@ pub fn simple_text_reads_back()
     ensures { (text : List ℕ) (tokens : List Token) (m : Module) → tokens_of text ≡ Ok tokens → Means text tokens m → ReadsBack m }
 {}
 
-/// The attributes of a parameter are those of the EBNF by the letter, which stand in any order, of `uext` and `sext` at most one and of `vmctx` and `sret` at most one: the same texts with the same attributes, and the same beginnings.
-pub fn attributes_by_the_letter()
-    ensures { SameAttributes }
-{}
-
 /// The lines of a block are those of the EBNF, to the letter: the same texts, which mean the same, and the same beginnings.
 /// The grammar reads the values of a `return` behind it, and takes what begins with a value as one rule, so that the next token always says which way to go.
 pub fn lines_by_the_letter()
@@ -36,6 +31,11 @@ pub fn lines_by_the_letter()
 /// The same of whole modules.
 pub fn module_by_the_letter()
     ensures { Alike letter_module module_rule letter_module_value module_value }
+{}
+
+/// The attributes of a parameter are those of the EBNF, to the letter: any number of the four words in any order, of `uext` and `sext` at most one and of `vmctx` and `sret` at most one. The same texts with the same attributes, and the same beginnings.
+pub fn attributes_by_the_letter()
+    ensures { SameAttributes }
 {}
 
 /// Every list of tokens is one module, in one way, or has a first place where no module goes on.

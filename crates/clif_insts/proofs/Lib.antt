@@ -12,6 +12,7 @@ pub mod One
 pub mod Takes
 pub mod Excepted
 pub mod Views
+pub mod Names
 pub mod Singles
 pub mod FlagLetter
 pub mod Next

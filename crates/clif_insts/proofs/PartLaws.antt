@@ -33,7 +33,7 @@ commas_is {A} {a} {f} {p} e =
     (λ x. map_is (many_is (then_is (name_is classes.Comma) a (λ c v. f v) (λ c. p) (λ c. e))) (λ xs. (x ∷ []) ++ xs))
 
 -- a list between two tokens, which may be empty
-within_is : {A : Type 0} {r : Rule} {f : Value r → List A} {p : List Lexeme → Out (List A)} (left right : Class) → Is r f p
+pub within_is : {A : Type 0} {r : Rule} {f : Value r → List A} {p : List Lexeme → Out (List A)} (left right : Class) → Is r f p
     → Is (one left then Opt r then one right) (λ v. perhaps [] f v.1.0)
     (λ ts. name_at left ts >>= λ l. cond (heads (firsts r) l.1) (p l.1) (Ok ([], l.1)) >>= λ vs. name_at right vs.1 >>= λ e. Ok (vs.0, e.1))
 within_is {A} {r} {f} {p} left right e =
@@ -43,7 +43,7 @@ within_is {A} {r} {f} {p} left right e =
 
 -- ---- types, conditions, trap codes and numbers
 
-type_is : Is any_type any_type_value type_at
+pub type_is : Is any_type any_type_value type_at
 unfolding type_at
 type_is = alt_is (map_is (name_is classes.Ty) (λ x. type_of x.number)) (alt_is (map_is (name_is classes.TyI64) (λ x. ty_words.I64)) (refuse_is (classes.RefusedType ∷ []) Unsupported never))
 

@@ -21,7 +21,7 @@ eqb-sym a b = go (a == b) (b == a) refl refl
     go false true e f = absurd (let g = eq-eqb a b (sym (eqb-true b a f)) in cc)
     go false false e f = refl
 
-same_class : (class : Class) (x : Lexeme) (xs : List Lexeme) → next_is class (x ∷ xs) ≡ (x.class == code class)
+pub same_class : (class : Class) (x : Lexeme) (xs : List Lexeme) → next_is class (x ∷ xs) ≡ (x.class == code class)
 same_class class x xs = or_false (code class == x.class) ∙ eqb-sym (code class) x.class
 
 pub takes_name : (class : Class) (ts : List Lexeme) → next_is class ts ≡ true → (n : RawName) (after : List Lexeme) → ((x : Lexeme) (xs : List Lexeme) → ts ≡ x ∷ xs → n ≡ name x) → after ≡ drop 1 ts

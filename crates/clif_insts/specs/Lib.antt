@@ -11,5 +11,6 @@ pub mod Values
 pub mod Forms
 pub mod InstValues
 pub mod Insts
+pub mod Names
 pub mod FlagLetter
 pub mod Next

@@ -28,7 +28,8 @@ pub use insts::{SyntaxErr, inst};
 pub use numbers::number;
 pub use opening::Opening;
 pub use raw::{
-    RawArg, RawEntry, RawFlag, RawInst, RawName, RawNumber, RawOperands, RawTarget, RawTrap,
+    RawArg, RawEntry, RawFlag, RawInst, RawName, RawNumber, RawOperands, RawTarget, RawText,
+    RawTrap,
 };
 pub use reader::Reader;
 pub use stop::Stop;

@@ -20,6 +20,15 @@ pub struct RawNumber {
     pub spot: usize,
 }
 
+/// A name, as `%f`.
+#[derive(Drop)]
+pub struct RawText {
+    /// The name without its `%`.
+    pub bytes: List<u8>,
+    /// The name's first byte, the `%`.
+    pub spot: usize,
+}
+
 /// An argument of a target: `vN`, `retN` or `exnN`.
 #[derive(Clone, Copy, Debug, PartialEq, Eq)]
 pub enum RawArg {

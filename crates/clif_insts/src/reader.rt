@@ -6,18 +6,22 @@ ghost use Rattle.clif_lex.specs.Lexing.{tokens_of};
 ghost use Rattle.clif_words.specs.Classes.{code};
 ghost use Rattle.clif_words.specs.Lexemes.{lexemes};
 ghost use Rattle.clif_words.specs.Lexemes as lexeme_specs;
+ghost use Rattle.clif_insts.specs.declared.stop.Stop.TheVariants.{NoMemory};
 ghost use Rattle.clif_insts.specs.Grammar.{excepted, words_but};
 ghost use Rattle.clif_insts.specs.Insts.{place_or};
+ghost use Rattle.clif_insts.specs.Names as names;
 ghost use Rattle.clif_insts.specs.Next.{is_among};
 ghost use Rattle.clif_insts.specs.Next as next;
 ghost use Rattle.clif_insts.specs.Reading as spec;
 ghost use Rattle.clif_insts.specs.Reading.{Gives, same};
 
 use crate::opening::Opening;
-use crate::raw::{RawName, RawNumber};
+use crate::raw::{RawName, RawNumber, RawText};
 use crate::stop::Stop;
 use clif_lex::{TokenKind, Tokens};
 use clif_words::{Class, Meaning, token_meaning};
+use ir_core::List;
+use std::alloc::Global;
 use std::marker::Model;
 
 /// The tokens that are still to be read. Comments are passed over.
@@ -59,6 +63,28 @@ fn is_number(kind: TokenKind) -> bool
     ensures { result ≡ lexeme_specs.is_number kind }
 {
     matches!(kind, TokenKind::Number)
+}
+
+/// What stands behind the first byte.
+#[inline]
+fn behind_first(spelling: &[u8]) -> &[u8]
+    ensures { result.now ≡ drop 1 spelling.now }
+{
+    match spelling.split_first() {
+        Some((_, rest)) => rest,
+        None => spelling,
+    }
+}
+
+/// What a token with this spelling spells as a name, without its `%`, or nothing where it is none.
+#[inline]
+fn name_of(kind: TokenKind, spelling: &[u8]) -> &[u8]
+    ensures { result.now ≡ lexeme_specs.name_of kind spelling.now }
+{
+    match kind {
+        TokenKind::Name => behind_first(spelling),
+        _ => &[],
+    }
 }
 
 /// The first token from here on that is no comment, or the list's length.
@@ -246,6 +272,20 @@ impl<'a> Reader<'a> {
         }
     }
 
+    /// What the next token spells as a name.
+    fn front_text(&self, alloc: Global) -> Result<RawText, Stop>
+        requires { self.now ≢ [] }
+        ensures some { (x : Lexeme) (xs : List Lexeme) → self.now ≡ x ∷ xs → IfOk result (λ r. r ≡ names.text x) }
+        ensures none { IfErr result (λ e. e ≡ NoMemory) }
+    {
+        let token = self.tokens.get(self.at);
+        let bytes = name_of(token.kind, self.tokens.spelling(self.text, self.at));
+        Ok(RawText {
+            bytes: List::from_vec(Vec::from_slice(alloc, bytes)?),
+            spot: token.start,
+        })
+    }
+
     /// Passes over the next token.
     #[inline]
     fn advance(&mut self)
@@ -283,6 +323,20 @@ impl<'a> Reader<'a> {
             let number = self.front_number();
             self.advance();
             Ok(number)
+        } else {
+            Err(Stop::Syntax)
+        }
+    }
+
+    /// What a name token of this class spells. It takes the memory that the bytes need.
+    pub fn take_text(&mut self, alloc: Global, class: Class) -> Result<RawText, Stop>
+        ensures is { Gives same self.new result (names.text_at class self.old) }
+        ensures shorter { IfOk result (λ _. length self.new < length self.old) }
+    {
+        if self.next_is(class) {
+            let text = self.front_text(alloc)?;
+            self.advance();
+            Ok(text)
         } else {
             Err(Stop::Syntax)
         }

@@ -9,10 +9,17 @@ pub mod SimpleReading
 pub mod SimpleWords
 pub mod ModuleGrammar
 pub mod DeclarationValues
+pub mod Attributes
+pub mod Signatures
+pub mod Declarations
+pub mod Heads
 pub mod LineValues
 pub mod ModuleValues
 pub mod Tags
 pub mod Lines
+pub mod Modules
+pub mod Texts
 pub mod Alike
 pub mod LetterLines
 pub mod LetterModule
+pub mod LetterAttributes

@@ -1,15 +1,19 @@
 //! Laws that speak of the definitions alone. Each is a function that does nothing, so that a caller has the law by a call.
 
 ghost use Rattle.std.specs.Prelude.{◌≡◌, ℕ, List, Ok};
+ghost use Rattle.grammar.specs.Rules.{Lexeme, Answers, read, read_all};
 ghost use Rattle.clif_lex.specs.declared.spans.Token.{Token};
 ghost use Rattle.clif_lex.specs.Lexing.{tokens_of};
 ghost use Rattle.ir_core.specs.Module.{Module};
+ghost use Rattle.clif_insts.specs.Values.{seen};
 ghost use Rattle.clif_read.specs.SimpleModule.{Means};
 ghost use Rattle.clif_read.specs.SimpleBack.{ReadsBack};
 ghost use Rattle.clif_read.specs.Alike.{Alike};
 ghost use Rattle.clif_read.specs.ModuleGrammar.{lines, module_rule};
 ghost use Rattle.clif_read.specs.LineValues.{lines_value};
 ghost use Rattle.clif_read.specs.ModuleValues.{module_value};
+ghost use Rattle.clif_read.specs.Modules.{module_at};
+ghost use Rattle.clif_read.specs.LetterAttributes.{SameAttributes};
 ghost use Rattle.clif_read.specs.LetterLines.{letter_lines, letter_lines_value};
 ghost use Rattle.clif_read.specs.LetterModule.{letter_module, letter_module_value};
 
@@ -27,4 +31,19 @@ pub fn lines_by_the_letter()
 /// The same of whole modules.
 pub fn module_by_the_letter()
     ensures { Alike letter_module module_rule letter_module_value module_value }
+{}
+
+/// The attributes of a parameter are those of the EBNF, to the letter: any number of the four words in any order, of `uext` and `sext` at most one and of `vmctx` and `sret` at most one. The same texts with the same attributes, and the same beginnings.
+pub fn attributes_by_the_letter()
+    ensures { SameAttributes }
+{}
+
+/// Every list of tokens is one module, in one way, or has a first place where no module goes on.
+pub fn one_reading()
+    ensures { (tokens : List Lexeme) → Answers module_rule tokens (read_all module_rule tokens) }
+{}
+
+/// Reading a module from left to right is reading by the grammar, seen as what its tree means.
+pub fn read_by_the_grammar()
+    ensures { (tokens : List Lexeme) → module_at tokens ≡ seen module_value (read module_rule tokens) }
 {}

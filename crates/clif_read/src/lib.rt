@@ -1,14 +1,23 @@
 //! Reading modules of CLIF.
 #![tactic(auto)]
 
+mod attributes;
+mod declarations;
+mod heads;
 pub mod laws;
 mod lines;
+mod modules;
 mod raw;
+mod signatures;
 mod simple;
 mod tags;
+#[cfg(test)]
+mod tests;
+mod texts;
 
 pub use raw::{
     RawAttribute, RawBlock, RawBlockParam, RawCalleeSig, RawDecl, RawFuncName, RawFunction,
     RawLine, RawModule, RawParam, RawSignature, RawTag,
 };
 pub use simple::{SimpleErr, read_simple};
+pub use texts::read_raw;

@@ -1,5 +1,5 @@
 //! Lists of values, as instructions have them.
-ghost use Rattle.std.specs.Prelude.{◌≡◌, ◌∷◌, [], IfOk};
+ghost use Rattle.std.specs.Prelude.{◌≡◌, ◌∷◌, ◌<◌, [], IfOk, OnErr, length};
 
 use crate::numbers::Value;
 use std::alloc::{AllocError, Global};
@@ -61,7 +61,8 @@ impl Values {
 
     /// The list of these values. Only `AllocError` refuses, and only four or more.
     pub fn from_slice(alloc: Global, values: &[Value]) -> Result<Values, AllocError>
-        ensures { IfOk result (λ list. list ≡ values.now) }
+        ensures ok { IfOk result (λ list. list ≡ values.now) }
+        ensures err { OnErr result (3 < length values.now) }
     {
         let items = match values {
             [] => Items::None,

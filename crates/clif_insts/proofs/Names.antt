@@ -1,0 +1,48 @@
+-- What a name spells is read with it.
+use Rattle.std.proofs.Common.{◌≡◌, ℕ, true, false, ◌==◌, List, [], ◌∷◌, drop, Option, Some, Ok, Err, slice_get, refl, sym, ap, ◌∙◌}
+use Rattle.grammar.specs.Rules.{Lexeme, Syntax, Out, token, ◌>>=◌}
+use Rattle.clif_lex.specs.declared.spans.Token.{Token}
+use Rattle.clif_lex.specs.Spans.{spelling}
+use Rattle.clif_words.specs.declared.class.Class.{Class}
+use Rattle.clif_words.specs.declared.items.Meaning.{Meaning}
+use Rattle.clif_words.specs.Classes.{code}
+use Rattle.clif_words.specs.Lexemes.{lexeme, lexemes, name_of, Upcoming}
+use Rattle.clif_words.specs.Terminals.{one}
+use Rattle.clif_insts.specs.declared.raw.RawText.{RawText}
+use Rattle.clif_insts.specs.Reading.{next_is}
+use Rattle.clif_insts.specs.Names.{text, text_at}
+use Rattle.clif_insts.specs.Values.{seen}
+use Rattle.clif_insts.proofs.Seen.{Is}
+use Rattle.clif_insts.proofs.Takes.{same_class}
+use Rattle.clif_insts.proofs.Views.{takes, upcoming_not}
+
+-- what the next token spells as a name
+pub spells_name : (text : List ℕ) (ts : List Token) (i : ℕ) (t : Token) (next : Option Meaning) (x : Lexeme) (xs : List Lexeme) → slice_get ts i ≡ Some t → Upcoming text (drop i ts) next → lexemes text i (drop i ts) ≡ x ∷ xs
+    → (name_of t.kind (spelling text t) ≡ x.name) × (t.start ≡ x.spot)
+spells_name text ts i t next x xs e up whole =
+    let front = sym (takes text ts i t e (upcoming_not text ts i t next e up)) ∙ whole in
+    let head : lexeme text i t ≡ x = cc in
+    (ap (λ (z : Lexeme). z.name) head, ap (λ (z : Lexeme). z.spot) head)
+
+pub takes_text : (class : Class) (ts : List Lexeme) → next_is class ts ≡ true → (r : RawText) (after : List Lexeme) → ((x : Lexeme) (xs : List Lexeme) → ts ≡ x ∷ xs → r ≡ text x) → after ≡ drop 1 ts
+    → text_at class ts ≡ Ok (r, after)
+unfolding text_at
+takes_text class [] h r after front rest = absurd cc
+takes_text class (x ∷ xs) h r after front rest =
+    let same : (x.class == code class) ≡ true = sym (same_class class x xs) ∙ h in
+    rw (same, front x xs refl, rest) refl
+
+pub misses_text : (class : Class) (ts : List Lexeme) → next_is class ts ≡ false → text_at class ts ≡ Err (Syntax, ts)
+unfolding text_at
+misses_text class [] h = refl
+misses_text class (x ∷ xs) h =
+    let same : (x.class == code class) ≡ false = sym (same_class class x xs) ∙ h in
+    rw same refl
+
+pub text_is : (class : Class) → Is (one class) text (text_at class)
+unfolding text_at
+text_is class = record { same = λ ts. go (token (code class) ts) }
+  where
+    go : (m : Out Lexeme) → (m >>= λ x. Ok (text x.0, x.1)) ≡ seen text m
+    go (Ok x) = refl
+    go (Err e) = refl

@@ -1,0 +1,22 @@
+use Rattle.std.proofs.Common.{[], ◌∷◌, length, sym, ◌∙◌, arith}
+use Rattle.std.proofs.lemmas.Result.{err_from_is_err_and}
+use Rattle.clif_words.specs.declared.class.Class.TheVariants as classes
+use Rattle.clif_words.specs.Classes.{code}
+use Rattle.clif_insts.specs.Reading.{each, with_front}
+use Rattle.clif_insts.proofs.Loops.{goes_on, fails, is_done}
+use Rattle.clif_read.specs.Signatures.{comma_param_at, more_params_at}
+use Rattle.clif_read.proofs.signatures.more_params.Goals as goal
+
+pub list-preserved : goal.list-preserved
+list-preserved c =
+    (rw c.in_ok-push.ensures.items (goes_on comma_param_at (code classes.Comma ∷ []) c.list.list.items c.list.reader c.comma_param.new.reader c.in_ok-item.item (with_front c.args.front.items (each comma_param_at (code classes.Comma ∷ []) (length c.args.reader.now) c.args.reader.now)) (sym c.next_is.ensures ∙ c.list-test.true) c.in_ok-item.ensures.is c.in_ok-item.ensures.shorter c.list.invariant.0), omega (arith, c.in_ok-item.ensures.shorter, c.list.invariant.1))
+
+pub returns-in_err-item-clause-is : goal.returns-in_err-item-clause-is
+unfolding more_params_at
+returns-in_err-item-clause-is c =
+    let p = err_from_is_err_and c.from_residual.result c.from_residual.ensures.1 in
+    rw (p.1, p.2) (fails comma_param_at (code classes.Comma ∷ []) c.list.list.items c.list.reader c.comma_param.new.reader c.in_err-item.field-0.0 (with_front c.args.front.items (each comma_param_at (code classes.Comma ∷ []) (length c.args.reader.now) c.args.reader.now)) (sym c.next_is.ensures ∙ c.list-test.true) c.in_err-item.ensures.is c.list.invariant.0)
+
+pub returns-clause-is : goal.returns-clause-is
+unfolding more_params_at
+returns-clause-is c = is_done comma_param_at (code classes.Comma ∷ []) c.list.list.items c.list.reader (with_front c.args.front.items (each comma_param_at (code classes.Comma ∷ []) (length c.args.reader.now) c.args.reader.now)) (sym c.next_is.ensures ∙ c.list-test.false) c.list.invariant.0

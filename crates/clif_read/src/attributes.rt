@@ -1,0 +1,149 @@
+//! Attributes of parameters and results.
+
+ghost use Rattle.std.specs.Prelude.{◌≡◌, ◌∷◌, [], ◌<◌, ◌≤◌, length, IfOk, IfErr};
+ghost use Rattle.clif_insts.specs.declared.stop.Stop.TheVariants.{NoMemory};
+ghost use Rattle.clif_insts.specs.Reading.{Gives, same};
+ghost use Rattle.clif_read.specs.DeclarationValues as values;
+ghost use Rattle.clif_read.specs.Attributes as spec;
+
+use crate::raw::RawAttribute;
+use clif_insts::{Reader, Stop};
+use clif_words::Class;
+use std::alloc::Global;
+
+/// `uext` or `sext`, by its place among the words of its class.
+fn ext_of(number: u64) -> RawAttribute
+    ensures { result ≡ values.ext_of number }
+{
+    match number {
+        0 => RawAttribute::Uext,
+        _ => RawAttribute::Sext,
+    }
+}
+
+/// `uext` or `sext`.
+#[tactic(auto, unfolding(crate::specs::Attributes::ext_at))]
+fn ext(reader: &mut Reader<'_>) -> Result<RawAttribute, Stop>
+    ensures is { Gives same reader.new result (spec.ext_at reader.old) }
+    ensures shorter { IfOk result (λ _. length reader.new < length reader.old) }
+{
+    let word = reader.take(Class::Ext)?;
+    Ok(ext_of(word.number))
+}
+
+/// `vmctx` or `sret`.
+#[tactic(auto, unfolding(crate::specs::Attributes::purpose_at))]
+fn purpose(reader: &mut Reader<'_>) -> Result<RawAttribute, Stop>
+    ensures is { Gives same reader.new result (spec.purpose_at reader.old) }
+    ensures shorter { IfOk result (λ _. length reader.new < length reader.old) }
+{
+    if reader.next_is(Class::Vmctx) {
+        reader.take(Class::Vmctx)?;
+        Ok(RawAttribute::Vmctx)
+    } else {
+        reader.take(Class::Sret)?;
+        Ok(RawAttribute::Sret)
+    }
+}
+
+fn one_attribute(alloc: Global, item: RawAttribute) -> Result<Vec<RawAttribute>, Stop>
+    ensures some { IfOk result (λ list. list.items ≡ item ∷ []) }
+    ensures none { IfErr result (λ e. e ≡ NoMemory) }
+{
+    let mut list = Vec::new(alloc);
+    list.push(item)?;
+    Ok(list)
+}
+
+fn two_attributes(
+    alloc: Global,
+    first: RawAttribute,
+    second: RawAttribute,
+) -> Result<Vec<RawAttribute>, Stop>
+    ensures some { IfOk result (λ list. list.items ≡ first ∷ second ∷ []) }
+    ensures none { IfErr result (λ e. e ≡ NoMemory) }
+{
+    let mut list = Vec::with_capacity(alloc, 2)?;
+    list.push(first)?;
+    list.push(second)?;
+    Ok(list)
+}
+
+/// This attribute, and perhaps `vmctx` or `sret` behind it.
+#[tactic(auto, unfolding(crate::specs::Attributes::opt_purpose_at))]
+fn opt_purpose(
+    alloc: Global,
+    reader: &mut Reader<'_>,
+    first: RawAttribute,
+) -> Result<Vec<RawAttribute>, Stop>
+    ensures is { Gives (λ x. x.items) reader.new result (spec.opt_purpose_at first reader.old) }
+    ensures shorter { IfOk result (λ _. length reader.new ≤ length reader.old) }
+{
+    if reader.next_is_either(Class::Vmctx, Class::Sret) {
+        let second = purpose(reader)?;
+        two_attributes(alloc, first, second)
+    } else {
+        one_attribute(alloc, first)
+    }
+}
+
+/// This attribute, and perhaps `uext` or `sext` behind it.
+#[tactic(auto, unfolding(crate::specs::Attributes::opt_ext_at))]
+fn opt_ext(
+    alloc: Global,
+    reader: &mut Reader<'_>,
+    first: RawAttribute,
+) -> Result<Vec<RawAttribute>, Stop>
+    ensures is { Gives (λ x. x.items) reader.new result (spec.opt_ext_at first reader.old) }
+    ensures shorter { IfOk result (λ _. length reader.new ≤ length reader.old) }
+{
+    if reader.next_is(Class::Ext) {
+        let second = ext(reader)?;
+        two_attributes(alloc, first, second)
+    } else {
+        one_attribute(alloc, first)
+    }
+}
+
+#[tactic(auto, unfolding(crate::specs::Attributes::ext_first_at))]
+fn ext_first(alloc: Global, reader: &mut Reader<'_>) -> Result<Vec<RawAttribute>, Stop>
+    ensures is { Gives (λ x. x.items) reader.new result (spec.ext_first_at reader.old) }
+    ensures shorter { IfOk result (λ _. length reader.new < length reader.old) }
+{
+    let first = ext(reader)?;
+    opt_purpose(alloc, reader, first)
+}
+
+#[tactic(auto, unfolding(crate::specs::Attributes::purpose_first_at))]
+fn purpose_first(alloc: Global, reader: &mut Reader<'_>) -> Result<Vec<RawAttribute>, Stop>
+    ensures is { Gives (λ x. x.items) reader.new result (spec.purpose_first_at reader.old) }
+    ensures shorter { IfOk result (λ _. length reader.new < length reader.old) }
+{
+    let first = purpose(reader)?;
+    opt_ext(alloc, reader, first)
+}
+
+#[tactic(auto, unfolding(crate::specs::Attributes::some_attributes_at))]
+fn some_attributes(alloc: Global, reader: &mut Reader<'_>) -> Result<Vec<RawAttribute>, Stop>
+    ensures is { Gives (λ x. x.items) reader.new result (spec.some_attributes_at reader.old) }
+    ensures shorter { IfOk result (λ _. length reader.new < length reader.old) }
+{
+    if reader.next_is(Class::Ext) {
+        ext_first(alloc, reader)
+    } else {
+        purpose_first(alloc, reader)
+    }
+}
+
+/// Attributes in any order: of `uext` and `sext` at most one, and of `vmctx` and `sret`.
+#[tactic(auto, unfolding(crate::specs::Attributes::attributes_at))]
+pub(crate) fn attributes(alloc: Global, reader: &mut Reader<'_>) -> Result<Vec<RawAttribute>, Stop>
+    ensures is { Gives (λ x. x.items) reader.new result (spec.attributes_at reader.old) }
+    ensures shorter { IfOk result (λ _. length reader.new ≤ length reader.old) }
+{
+    if reader.next_is_one_of(Class::Ext, Class::Vmctx, Class::Sret) {
+        some_attributes(alloc, reader)
+    } else {
+        Ok(Vec::new(alloc))
+    }
+}

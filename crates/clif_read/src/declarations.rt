@@ -1,0 +1,189 @@
+//! Names of functions, and declarations.
+
+ghost use Rattle.std.specs.Prelude.{◌≡◌, ◌<◌, ◌≤◌, length, IfOk};
+ghost use Rattle.grammar.specs.Rules.{heads};
+ghost use Rattle.clif_words.specs.Terminals.{codes_of};
+ghost use Rattle.clif_insts.specs.Reading.{Gives, same};
+ghost use Rattle.clif_read.specs.Declarations as spec;
+
+use crate::raw::{RawCalleeSig, RawDecl, RawFuncName};
+use crate::signatures::signature;
+use clif_insts::{RawNumber, Reader, Stop, number};
+use clif_words::Class;
+use std::alloc::Global;
+
+/// `%name`
+#[tactic(auto, unfolding(crate::specs::Declarations::text_name_at))]
+fn text_name(alloc: Global, reader: &mut Reader<'_>) -> Result<RawFuncName, Stop>
+    ensures is { Gives same reader.new result (spec.text_name_at reader.old) }
+    ensures shorter { IfOk result (λ _. length reader.new < length reader.old) }
+{
+    let text = reader.take_text(alloc, Class::Name)?;
+    Ok(RawFuncName::Text {
+        name: text.bytes,
+        spot: text.spot,
+    })
+}
+
+/// `u0:1`
+#[tactic(auto, unfolding(crate::specs::Declarations::user_name_at))]
+fn user_name(reader: &mut Reader<'_>) -> Result<RawFuncName, Stop>
+    ensures is { Gives same reader.new result (spec.user_name_at reader.old) }
+    ensures shorter { IfOk result (λ _. length reader.new < length reader.old) }
+{
+    let space = reader.take(Class::UserName)?;
+    reader.take(Class::Colon)?;
+    let number = number(reader)?;
+    Ok(RawFuncName::User { space, number })
+}
+
+/// The name of a function or of a callee.
+#[tactic(auto, unfolding(crate::specs::Declarations::func_name_at))]
+pub(crate) fn func_name(alloc: Global, reader: &mut Reader<'_>) -> Result<RawFuncName, Stop>
+    ensures is { Gives same reader.new result (spec.func_name_at reader.old) }
+    ensures shorter { IfOk result (λ _. length reader.new < length reader.old) }
+{
+    if reader.next_is(Class::Name) {
+        text_name(alloc, reader)
+    } else {
+        user_name(reader)
+    }
+}
+
+/// `, align = 4`
+#[tactic(auto, unfolding(crate::specs::Declarations::align_at))]
+fn align(reader: &mut Reader<'_>) -> Result<RawNumber, Stop>
+    ensures is { Gives same reader.new result (spec.align_at reader.old) }
+    ensures shorter { IfOk result (λ _. length reader.new < length reader.old) }
+{
+    reader.take(Class::Comma)?;
+    reader.take(Class::Align)?;
+    reader.take(Class::Equals)?;
+    number(reader)
+}
+
+#[tactic(auto, unfolding(crate::specs::Declarations::opt_align_at))]
+fn opt_align(reader: &mut Reader<'_>) -> Result<Option<RawNumber>, Stop>
+    ensures is { Gives same reader.new result (spec.opt_align_at reader.old) }
+    ensures shorter { IfOk result (λ _. length reader.new ≤ length reader.old) }
+{
+    if reader.next_is(Class::Comma) {
+        Ok(Some(align(reader)?))
+    } else {
+        Ok(None)
+    }
+}
+
+/// `ss0 = explicit_slot 8, align = 4`
+#[tactic(auto, unfolding(crate::specs::Declarations::slot_decl_at))]
+fn slot_decl(reader: &mut Reader<'_>) -> Result<RawDecl, Stop>
+    ensures is { Gives same reader.new result (spec.slot_decl_at reader.old) }
+    ensures shorter { IfOk result (λ _. length reader.new < length reader.old) }
+{
+    let slot = reader.take(Class::Slot)?;
+    reader.take(Class::Equals)?;
+    reader.take(Class::ExplicitSlot)?;
+    let size = number(reader)?;
+    let align = opt_align(reader)?;
+    Ok(RawDecl::Slot { slot, size, align })
+}
+
+/// `sig0 = (i64) -> i64 fast`
+#[tactic(auto, unfolding(crate::specs::Declarations::sig_decl_at))]
+fn sig_decl(alloc: Global, reader: &mut Reader<'_>) -> Result<RawDecl, Stop>
+    ensures is { Gives same reader.new result (spec.sig_decl_at reader.old) }
+    ensures shorter { IfOk result (λ _. length reader.new < length reader.old) }
+{
+    let sig = reader.take(Class::Sig)?;
+    reader.take(Class::Equals)?;
+    let signature = signature(alloc, reader)?;
+    Ok(RawDecl::Sig { sig, signature })
+}
+
+/// Whether there is `colocated`, which is read.
+#[tactic(auto, unfolding(crate::specs::Declarations::colocated_at))]
+fn colocated(reader: &mut Reader<'_>) -> Result<bool, Stop>
+    ensures is { Gives same reader.new result (spec.colocated_at reader.old) }
+    ensures shorter { IfOk result (λ _. length reader.new ≤ length reader.old) }
+{
+    if reader.next_is(Class::Colocated) {
+        reader.take(Class::Colocated)?;
+        Ok(true)
+    } else {
+        Ok(false)
+    }
+}
+
+/// The signature of a callee.
+#[tactic(auto, unfolding(crate::specs::Declarations::callee_sig_at))]
+fn callee_sig(alloc: Global, reader: &mut Reader<'_>) -> Result<RawCalleeSig, Stop>
+    ensures is { Gives same reader.new result (spec.callee_sig_at reader.old) }
+    ensures shorter { IfOk result (λ _. length reader.new < length reader.old) }
+{
+    if reader.next_is(Class::Sig) {
+        Ok(RawCalleeSig::Declared(reader.take(Class::Sig)?))
+    } else {
+        Ok(RawCalleeSig::Inline(signature(alloc, reader)?))
+    }
+}
+
+/// `fn0 = colocated %g sig0`
+#[tactic(auto, unfolding(crate::specs::Declarations::callee_decl_at))]
+fn callee_decl(alloc: Global, reader: &mut Reader<'_>) -> Result<RawDecl, Stop>
+    ensures is { Gives same reader.new result (spec.callee_decl_at reader.old) }
+    ensures shorter { IfOk result (λ _. length reader.new < length reader.old) }
+{
+    let callee = reader.take(Class::Callee)?;
+    reader.take(Class::Equals)?;
+    let colocated = colocated(reader)?;
+    let name = func_name(alloc, reader)?;
+    let sig = callee_sig(alloc, reader)?;
+    Ok(RawDecl::Callee {
+        callee,
+        colocated,
+        name,
+        sig,
+    })
+}
+
+/// A declaration.
+#[tactic(auto, unfolding(crate::specs::Declarations::decl_at))]
+fn decl(alloc: Global, reader: &mut Reader<'_>) -> Result<RawDecl, Stop>
+    ensures is { Gives same reader.new result (spec.decl_at reader.old) }
+    ensures shorter { IfOk result (λ _. length reader.new < length reader.old) }
+{
+    if reader.next_is(Class::Slot) {
+        slot_decl(reader)
+    } else if reader.next_is(Class::Sig) {
+        sig_decl(alloc, reader)
+    } else if reader.next_is(Class::Callee) {
+        callee_decl(alloc, reader)
+    } else {
+        Err(if reader.next_is(Class::RefusedDecl) {
+            Stop::Unsupported
+        } else {
+            Stop::Syntax
+        })
+    }
+}
+
+/// Whether a declaration begins here, or a word that is refused in its place.
+fn begins_decl(reader: &Reader<'_>) -> bool
+    ensures { result ≡ heads (codes_of spec.begins_decl) reader.now }
+{
+    reader.next_is(Class::Slot)
+        || reader.next_is_one_of(Class::Sig, Class::Callee, Class::RefusedDecl)
+}
+
+/// The declarations of a function.
+pub(crate) fn decls(alloc: Global, reader: &mut Reader<'_>) -> Result<Vec<RawDecl>, Stop>
+    ensures is { Gives (λ x. x.items) reader.new result (spec.decls_at reader.old) }
+    ensures shorter { IfOk result (λ _. length reader.new ≤ length reader.old) }
+{
+    let mut list = Vec::new(alloc);
+    'list: while begins_decl(reader) {
+        let item = decl(alloc, reader)?;
+        list.push(item)?;
+    }
+    Ok(list)
+}

@@ -1,0 +1,150 @@
+//! Blocks, functions and modules.
+
+ghost use Rattle.std.specs.Prelude.{◌≡◌, ◌∷◌, [], ◌<◌, ◌≤◌, length, IfOk, IfErr};
+ghost use Rattle.clif_insts.specs.declared.stop.Stop.TheVariants.{NoMemory};
+ghost use Rattle.clif_insts.specs.Reading.{Gives, same};
+ghost use Rattle.clif_read.specs.Modules as spec;
+
+use crate::declarations::{decls, func_name};
+use crate::heads::{block_params, headers};
+use crate::lines::block_lines;
+use crate::raw::{RawBlock, RawBlockParam, RawFunction, RawModule};
+use crate::signatures::signature;
+use clif_insts::{Reader, Stop};
+use clif_words::Class;
+use ir_core::List;
+use std::alloc::Global;
+
+#[tactic(auto, unfolding(crate::specs::Modules::opt_block_params_at))]
+fn opt_block_params(alloc: Global, reader: &mut Reader<'_>) -> Result<Vec<RawBlockParam>, Stop>
+    ensures is { Gives (λ x. x.items) reader.new result (spec.opt_block_params_at reader.old) }
+    ensures shorter { IfOk result (λ _. length reader.new ≤ length reader.old) }
+{
+    if reader.next_is(Class::LeftParen) {
+        block_params(alloc, reader)
+    } else {
+        Ok(Vec::new(alloc))
+    }
+}
+
+/// Whether `cold` stands there.
+#[tactic(auto, unfolding(crate::specs::Modules::opt_cold_at))]
+fn opt_cold(reader: &mut Reader<'_>) -> Result<bool, Stop>
+    ensures is { Gives same reader.new result (spec.opt_cold_at reader.old) }
+    ensures shorter { IfOk result (λ _. length reader.new ≤ length reader.old) }
+{
+    if reader.next_is(Class::Cold) {
+        reader.take(Class::Cold)?;
+        Ok(true)
+    } else {
+        Ok(false)
+    }
+}
+
+/// A block.
+#[tactic(auto, unfolding(crate::specs::Modules::block_at))]
+fn block(alloc: Global, reader: &mut Reader<'_>) -> Result<RawBlock, Stop>
+    ensures is { Gives same reader.new result (spec.block_at reader.old) }
+    ensures shorter { IfOk result (λ _. length reader.new < length reader.old) }
+{
+    let block = reader.take(Class::Block)?;
+    let params = opt_block_params(alloc, reader)?;
+    let cold = opt_cold(reader)?;
+    reader.take(Class::Colon)?;
+    let lines = block_lines(alloc, reader)?;
+    Ok(RawBlock {
+        block,
+        params: List::from_vec(params),
+        cold,
+        lines: List::from_vec(lines),
+    })
+}
+
+fn one_block(alloc: Global, item: RawBlock) -> Result<Vec<RawBlock>, Stop>
+    ensures some { IfOk result (λ list. list.items ≡ item ∷ []) }
+    ensures none { IfErr result (λ e. e ≡ NoMemory) }
+{
+    let mut list = Vec::new(alloc);
+    list.push(item)?;
+    Ok(list)
+}
+
+/// Blocks, after those in front.
+fn more_blocks(
+    alloc: Global,
+    reader: &mut Reader<'_>,
+    front: Vec<RawBlock>,
+) -> Result<Vec<RawBlock>, Stop>
+    ensures is { Gives (λ x. x.items) reader.new result (spec.more_blocks_at front.items reader.old) }
+    ensures shorter { IfOk result (λ _. length reader.new ≤ length reader.old) }
+{
+    let mut list = front;
+    'list: while reader.next_is(Class::Block) {
+        let item = block(alloc, reader)?;
+        list.push(item)?;
+    }
+    Ok(list)
+}
+
+/// A function.
+#[tactic(auto, unfolding(crate::specs::Modules::function_at))]
+fn function(alloc: Global, reader: &mut Reader<'_>) -> Result<RawFunction, Stop>
+    ensures is { Gives same reader.new result (spec.function_at reader.old) }
+    ensures shorter { IfOk result (λ _. length reader.new < length reader.old) }
+{
+    let word = reader.take(Class::Function)?;
+    let name = func_name(alloc, reader)?;
+    let signature = signature(alloc, reader)?;
+    reader.take(Class::LeftBrace)?;
+    let decls = decls(alloc, reader)?;
+    let first = block(alloc, reader)?;
+    let front = one_block(alloc, first)?;
+    let blocks = more_blocks(alloc, reader, front)?;
+    reader.take(Class::RightBrace)?;
+    Ok(RawFunction {
+        spot: word.spot,
+        name,
+        signature,
+        decls: List::from_vec(decls),
+        blocks: List::from_vec(blocks),
+    })
+}
+
+/// The functions of a module.
+fn functions(alloc: Global, reader: &mut Reader<'_>) -> Result<Vec<RawFunction>, Stop>
+    ensures is { Gives (λ x. x.items) reader.new result (spec.functions_at reader.old) }
+    ensures shorter { IfOk result (λ _. length reader.new ≤ length reader.old) }
+{
+    let mut list = Vec::new(alloc);
+    'list: while reader.next_is(Class::Function) {
+        let item = function(alloc, reader)?;
+        list.push(item)?;
+    }
+    Ok(list)
+}
+
+/// Header lines, and functions.
+#[tactic(auto, unfolding(crate::specs::Modules::module_at))]
+fn raw_module(alloc: Global, reader: &mut Reader<'_>) -> Result<RawModule, Stop>
+    ensures is { Gives same reader.new result (spec.module_at reader.old) }
+{
+    let headers = headers(alloc, reader)?;
+    let functions = functions(alloc, reader)?;
+    Ok(RawModule {
+        headers: List::from_vec(headers),
+        functions: List::from_vec(functions),
+    })
+}
+
+/// A module, and nothing behind it.
+#[tactic(auto, unfolding(crate::specs::Modules::whole_module_at))]
+pub(crate) fn whole_module(alloc: Global, reader: &mut Reader<'_>) -> Result<RawModule, Stop>
+    ensures is { Gives same reader.new result (spec.whole_module_at reader.old) }
+{
+    let found = raw_module(alloc, reader)?;
+    if reader.is_at_end() {
+        Ok(found)
+    } else {
+        Err(Stop::Syntax)
+    }
+}

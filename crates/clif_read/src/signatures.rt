@@ -1,0 +1,167 @@
+//! Signatures.
+
+ghost use Rattle.std.specs.Prelude.{◌≡◌, ◌∷◌, [], ◌<◌, ◌≤◌, length, IfOk, IfErr};
+ghost use Rattle.clif_insts.specs.declared.stop.Stop.TheVariants.{NoMemory};
+ghost use Rattle.clif_insts.specs.Reading.{Gives, same};
+ghost use Rattle.clif_read.specs.DeclarationValues as values;
+ghost use Rattle.clif_read.specs.Signatures as spec;
+
+use crate::attributes::attributes;
+use crate::raw::{RawParam, RawSignature};
+use clif_insts::{Reader, Stop, any_type};
+use clif_words::Class;
+use ir_core::{Conv, List};
+use std::alloc::Global;
+
+/// A parameter or a result.
+#[tactic(auto, unfolding(crate::specs::Signatures::param_at))]
+fn param(alloc: Global, reader: &mut Reader<'_>) -> Result<RawParam, Stop>
+    ensures is { Gives same reader.new result (spec.param_at reader.old) }
+    ensures shorter { IfOk result (λ _. length reader.new < length reader.old) }
+{
+    let ty = any_type(reader)?;
+    let attributes = attributes(alloc, reader)?;
+    Ok(RawParam {
+        ty,
+        attributes: List::from_vec(attributes),
+    })
+}
+
+#[tactic(auto, unfolding(crate::specs::Signatures::comma_param_at))]
+fn comma_param(alloc: Global, reader: &mut Reader<'_>) -> Result<RawParam, Stop>
+    ensures is { Gives same reader.new result (spec.comma_param_at reader.old) }
+    ensures shorter { IfOk result (λ _. length reader.new < length reader.old) }
+{
+    reader.take(Class::Comma)?;
+    param(alloc, reader)
+}
+
+fn one_param(alloc: Global, item: RawParam) -> Result<Vec<RawParam>, Stop>
+    ensures some { IfOk result (λ list. list.items ≡ item ∷ []) }
+    ensures none { IfErr result (λ e. e ≡ NoMemory) }
+{
+    let mut list = Vec::new(alloc);
+    list.push(item)?;
+    Ok(list)
+}
+
+/// Those behind commas, after those in front.
+fn more_params(
+    alloc: Global,
+    reader: &mut Reader<'_>,
+    front: Vec<RawParam>,
+) -> Result<Vec<RawParam>, Stop>
+    ensures is { Gives (λ x. x.items) reader.new result (spec.more_params_at front.items reader.old) }
+    ensures shorter { IfOk result (λ _. length reader.new ≤ length reader.old) }
+{
+    let mut list = front;
+    'list: while reader.next_is(Class::Comma) {
+        let item = comma_param(alloc, reader)?;
+        list.push(item)?;
+    }
+    Ok(list)
+}
+
+#[tactic(auto, unfolding(crate::specs::Signatures::params_at))]
+fn params(alloc: Global, reader: &mut Reader<'_>) -> Result<Vec<RawParam>, Stop>
+    ensures is { Gives (λ x. x.items) reader.new result (spec.params_at reader.old) }
+    ensures shorter { IfOk result (λ _. length reader.new < length reader.old) }
+{
+    let first = param(alloc, reader)?;
+    let front = one_param(alloc, first)?;
+    more_params(alloc, reader, front)
+}
+
+#[tactic(auto, unfolding(crate::specs::Signatures::opt_params_at))]
+fn opt_params(alloc: Global, reader: &mut Reader<'_>) -> Result<Vec<RawParam>, Stop>
+    ensures is { Gives (λ x. x.items) reader.new result (spec.opt_params_at reader.old) }
+    ensures shorter { IfOk result (λ _. length reader.new ≤ length reader.old) }
+{
+    if reader.next_is_one_of(Class::Ty, Class::TyI64, Class::RefusedType) {
+        params(alloc, reader)
+    } else {
+        Ok(Vec::new(alloc))
+    }
+}
+
+/// An arrow and results.
+#[tactic(auto, unfolding(crate::specs::Signatures::results_at))]
+fn results(alloc: Global, reader: &mut Reader<'_>) -> Result<Vec<RawParam>, Stop>
+    ensures is { Gives (λ x. x.items) reader.new result (spec.results_at reader.old) }
+    ensures shorter { IfOk result (λ _. length reader.new < length reader.old) }
+{
+    reader.take(Class::Arrow)?;
+    params(alloc, reader)
+}
+
+#[tactic(auto, unfolding(crate::specs::Signatures::opt_results_at))]
+fn opt_results(alloc: Global, reader: &mut Reader<'_>) -> Result<Vec<RawParam>, Stop>
+    ensures is { Gives (λ x. x.items) reader.new result (spec.opt_results_at reader.old) }
+    ensures shorter { IfOk result (λ _. length reader.new ≤ length reader.old) }
+{
+    if reader.next_is(Class::Arrow) {
+        results(alloc, reader)
+    } else {
+        Ok(Vec::new(alloc))
+    }
+}
+
+/// A convention but `cold`, by its place among the words of its class.
+fn convention_of(number: u64) -> Conv
+    ensures { result ≡ values.convention_of number }
+{
+    match number {
+        0 => Conv::Fast,
+        1 => Conv::Tail,
+        2 => Conv::SystemV,
+        3 => Conv::WindowsFastcall,
+        4 => Conv::AppleAarch64,
+        5 => Conv::Probestack,
+        _ => Conv::Winch,
+    }
+}
+
+/// A calling convention.
+#[tactic(auto, unfolding(crate::specs::Signatures::convention_at))]
+fn convention(reader: &mut Reader<'_>) -> Result<Conv, Stop>
+    ensures is { Gives same reader.new result (spec.convention_at reader.old) }
+    ensures shorter { IfOk result (λ _. length reader.new < length reader.old) }
+{
+    if reader.next_is(Class::Conv) {
+        let word = reader.take(Class::Conv)?;
+        Ok(convention_of(word.number))
+    } else {
+        reader.take(Class::Cold)?;
+        Ok(Conv::Cold)
+    }
+}
+
+#[tactic(auto, unfolding(crate::specs::Signatures::opt_convention_at))]
+fn opt_convention(reader: &mut Reader<'_>) -> Result<Option<Conv>, Stop>
+    ensures is { Gives same reader.new result (spec.opt_convention_at reader.old) }
+    ensures shorter { IfOk result (λ _. length reader.new ≤ length reader.old) }
+{
+    if reader.next_is_either(Class::Conv, Class::Cold) {
+        Ok(Some(convention(reader)?))
+    } else {
+        Ok(None)
+    }
+}
+
+/// A signature.
+#[tactic(auto, unfolding(crate::specs::Signatures::signature_at))]
+pub(crate) fn signature(alloc: Global, reader: &mut Reader<'_>) -> Result<RawSignature, Stop>
+    ensures is { Gives same reader.new result (spec.signature_at reader.old) }
+    ensures shorter { IfOk result (λ _. length reader.new < length reader.old) }
+{
+    reader.take(Class::LeftParen)?;
+    let params = opt_params(alloc, reader)?;
+    reader.take(Class::RightParen)?;
+    let results = opt_results(alloc, reader)?;
+    let conv = opt_convention(reader)?;
+    Ok(RawSignature {
+        params: List::from_vec(params),
+        results: List::from_vec(results),
+        conv,
+    })
+}

@@ -1,0 +1,46 @@
+//! The module of a text.
+
+ghost use Rattle.std.specs.Prelude.{◌≡◌, length, Ok, IfOk, IfErr};
+ghost use Rattle.clif_lex.specs.Lexing.{tokens_of};
+ghost use Rattle.clif_words.specs.Lexemes.{lexemes};
+ghost use Rattle.clif_read.specs.Texts.{IsModule, Stopped};
+ghost use Rattle.clif_read.specs.Texts as spec;
+
+use crate::modules::whole_module;
+use crate::raw::RawModule;
+use clif_insts::{Reader, Stop};
+use clif_lex::{TextErr, TextKind, Tokens};
+use std::alloc::Global;
+
+/// The error of a stop at this byte.
+fn error_at(stop: Stop, spot: usize) -> TextErr
+    ensures { result ≡ spec.error_at stop spot }
+{
+    let kind = match stop {
+        Stop::Syntax => TextKind::Syntax,
+        Stop::UnknownOpcode => TextKind::UnknownOpcode,
+        Stop::Unsupported => TextKind::Unsupported,
+        Stop::NoMemory => return TextErr::NoMemory,
+    };
+    TextErr::Fault { kind, spot }
+}
+
+/// The module that a text is, from the text's tokens.
+///
+/// # Errors
+///
+/// At the first token with which the text begins no module, or at its end:
+/// `UnknownOpcode` at a word in the place of an opcode, `Unsupported` at a word of CLIF that is left out here, else `Syntax`.
+pub fn read_raw(alloc: Global, text: &[u8], tokens: &Tokens) -> Result<RawModule, TextErr>
+    requires whole { tokens_of text.now ≡ Ok tokens.now }
+    ensures found { IfOk result (λ m. IsModule (lexemes text.now 0 tokens.now) m) }
+    ensures stop { IfErr result (λ e. Stopped (lexemes text.now 0 tokens.now) (length text.now) e) }
+{
+    let mut reader = Reader::new(text, tokens, 0);
+    let read = whole_module(alloc, &mut reader);
+    let spot = reader.spot_or(text.len());
+    match read {
+        Ok(found) => Ok(found),
+        Err(stop) => Err(error_at(stop, spot)),
+    }
+}

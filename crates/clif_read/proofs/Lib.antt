@@ -43,3 +43,4 @@ pub mod LetterLines
 mod DeclarationExamples
 pub mod LetterModule
 pub mod LetterAttributes
+mod LineExamples

@@ -1,0 +1,162 @@
+#!/usr/bin/env python3
+"""Speed and memory of reading: the tokens of a text, and its raw module, beside `wc -w` on the same text.
+
+    python3 bench/reading.py PATH/read_counts [MEGABYTES]
+
+The program reads standard input and stops behind the bytes, the tokens or the raw module. A step's time is the least of
+five runs, less that of reading the bytes alone, and is the processor's time (user and system), since a machine is seldom
+idle; that of the raw module includes its tokens. Memory is the most that a run held, a byte of text.
+
+First a text of about 60 MB whose bodies have all forms. Then texts of one shape each, once and half as large: twice the
+text should take at most 2.2 times the time."""
+import os
+import random
+import subprocess
+import sys
+import tempfile
+
+TURNS = 5
+
+BINARY = 'iadd isub imul band bor bxor smin umax udiv srem ishl rotr'.split()
+UNARY = 'ineg bnot iabs clz popcnt bswap'.split()
+TYPES = 'i8 i16 i32 i64'.split()
+CONDITIONS = 'eq ne slt sge ult ule'.split()
+
+
+def line_of(chance, value):
+    """A line that defines `value`, or has no result."""
+    a, b, c = (chance.randrange(max(value, 1)) for _ in range(3))
+    form = chance.randrange(20)
+    if form < 4:
+        return 'v%d = %s v%d, v%d' % (value, chance.choice(BINARY), a, b)
+    if form == 4:
+        return 'v%d = %s v%d' % (value, chance.choice(UNARY), a)
+    if form < 7:
+        return 'v%d = iconst.%s %d' % (value, chance.choice(TYPES), chance.randint(-1000, 1000000))
+    if form < 9:
+        return 'v%d = iadd_imm.i64 v%d, %d' % (value, a, chance.randint(-100, 100))
+    if form == 9:
+        return 'v%d = icmp %s v%d, v%d' % (value, chance.choice(CONDITIONS), a, b)
+    if form == 10:
+        return 'v%d = select v%d, v%d, v%d' % (value, a, b, c)
+    if form == 11:
+        return 'v%d = uextend.i64 v%d' % (value, a)
+    if form == 12:
+        return 'v%d = load.i64 notrap aligned v%d+%d' % (value, a, 8 * chance.randrange(9))
+    if form == 13:
+        return 'store notrap v%d, v%d-8' % (a, b)
+    if form == 14:
+        return 'v%d = stack_load.i32 ss0+4' % value
+    if form == 15:
+        return '@%04x v%d -> v%d' % (chance.randrange(65536), value, a)
+    if form == 16:
+        return '<%d, ss0> v%d = call fn0(v%d, v%d)' % (chance.randrange(9), value, a, b)
+    if form == 17:
+        return 'v%d = call_indirect sig0, v%d(v%d)' % (value, a, b)
+    if form == 18:
+        return 'trapz v%d, user%d' % (a, chance.randrange(9))
+    return 'nop ; a comment on this line'
+
+
+def end_of(chance, value, blocks):
+    """The last line of a block."""
+    a, b, c = (chance.randrange(max(value, 1)) for _ in range(3))
+    x, y = chance.randrange(blocks), chance.randrange(blocks)
+    return chance.choice([
+        'return v%d, v%d' % (a, b),
+        'jump block%d(v%d)' % (x, a),
+        'brif v%d, block%d(v%d), block%d' % (a, x, b, y),
+        'br_table v%d, block%d, [block%d, block%d(v%d)]' % (a, x, y, x, b),
+        'try_call fn0(v%d), sig0, block%d(ret0, v%d), [ tag1: block%d(exn0), default: block%d ]' % (a, x, b, y, x),
+        'return_call fn0(v%d)' % a,
+        'trap int_ovf',
+    ])
+
+
+def mixed(size, seed=1):
+    """Functions of 1 to 9 blocks, whose bodies have all forms."""
+    chance = random.Random(seed)
+    parts = []
+    length = 0
+    while length < size:
+        lines = ['function %%f%d(i64 uext, i32) -> i64 system_v {' % len(parts),
+                 '    ss0 = explicit_slot 8, align = 8', '    sig0 = (i64) -> i64 tail', '    fn0 = colocated %g sig0', '']
+        value = 0
+        blocks = chance.randint(1, 9)
+        for block in range(blocks):
+            lines.append('block%d(v%d: i64, v%d: i32):' % (block, value, value + 1))
+            value += 2
+            for _ in range(chance.randint(1, 40)):
+                lines.append('    ' + line_of(chance, value))
+                value += 1
+            lines.append('    ' + end_of(chance, value, blocks))
+        lines.append('}\n\n')
+        parts.append('\n'.join(lines))
+        length += len(parts[-1])
+    return ''.join(parts)
+
+
+def whole(lines, params=''):
+    """A function of one block with these lines."""
+    return 'function %%f() {\nblock0%s:\n%s\n}\n' % (params, '\n'.join(lines))
+
+
+SHAPES = {
+    'functions': (1_000_000, lambda n: ''.join('function %%f%d() {\nblock0:\nreturn\n}\n' % i for i in range(n))),
+    'instructions of a block': (262_000, lambda n: whole('v%d = iadd v0, v%d' % (i, i - 1) for i in range(1, n))),
+    'values of a block': (262_000, lambda n: whole(['return'], '(%s)' % ', '.join('v%d: i64' % i for i in range(n)))),
+    'values of a return': (262_000, lambda n: whole(['return ' + ', '.join('v%d' % i for i in range(n))])),
+    'entries of a table': (100_000, lambda n: whole(['try_call fn0(), sig0, block1, [%s]' % ', '.join('tag%d: block%d(exn0)' % (i, i) for i in range(n))])),
+    'comments': (1_000_000, lambda n: '; a comment\n' * n),
+}
+
+
+def run(words, path):
+    """The processor's seconds, and the peak memory in bytes, of one run over the file."""
+    with open(path, 'rb') as text, open(os.devnull, 'wb') as out:
+        process = subprocess.Popen(words, stdin=text, stdout=out)
+        _, status, usage = os.wait4(process.pid, 0)
+    if status != 0:
+        sys.exit('%s ended with %d' % (' '.join(words), os.waitstatus_to_exitcode(status)))
+    return usage.ru_utime + usage.ru_stime, usage.ru_maxrss * 1024
+
+
+def least(program, text):
+    """The least time and the memory of each step over a text, and of `wc -w`."""
+    steps = {'bytes': [program, 'bytes'], 'tokens': [program, 'tokens'], 'raw': [program, 'raw'], 'wc': ['wc', '-w']}
+    found = {step: [] for step in steps}
+    with tempfile.NamedTemporaryFile(suffix='.clif') as file:
+        file.write(text.encode())
+        file.flush()
+        for _ in range(TURNS):
+            for step, words in steps.items():
+                found[step].append(run(words, file.name))
+    return {step: (min(seconds for seconds, _ in runs), max(memory for _, memory in runs)) for step, runs in found.items()}
+
+
+def net(found, step):
+    """A step's seconds, less those of reading the bytes."""
+    return max(found[step][0] - found['bytes'][0], 1e-3)
+
+
+def main():
+    program = sys.argv[1]
+    size = int(float(sys.argv[2]) * 1e6) if len(sys.argv) > 2 else 60_000_000
+    text = mixed(size)
+    found = least(program, text)
+    length = len(text)
+    print('%.1f MB with all forms' % (length / 1e6))
+    for step in ('tokens', 'raw'):
+        seconds = net(found, step)
+        print('  %-7s %.3f s, %4.0f MB/s, %.1f bytes a byte of text' % (step, seconds, length / 1e6 / seconds, found[step][1] / length))
+    print('  wc -w   %.3f s, %4.0f MB/s' % (found['wc'][0], length / 1e6 / found['wc'][0]))
+    for name, (count, make) in SHAPES.items():
+        half = make(count // 2)
+        full = make(count)
+        first, second = least(program, half), least(program, full)
+        print('%d %s (%.1f MB):' % (count, name, len(full) / 1e6), end=' ')
+        print(', '.join('%s %.3f s, %.2f times the half' % (step, net(second, step), net(second, step) / net(first, step)) for step in ('tokens', 'raw')))
+
+
+if __name__ == '__main__':
+    main()

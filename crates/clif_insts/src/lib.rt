@@ -2,13 +2,17 @@
 #![tactic(auto)]
 
 mod arguments;
+mod calls;
 mod codes;
+mod control;
 mod flags;
 mod forms;
 mod insts;
 mod laws;
+mod memory;
 mod numbers;
 mod opening;
+mod operations;
 mod raw;
 mod reader;
 mod stop;

@@ -1,0 +1,115 @@
+//! Calls.
+
+ghost use Rattle.std.specs.Prelude.{◌<◌, length, IfOk};
+ghost use Rattle.clif_insts.specs.Reading.{Gives, same};
+ghost use Rattle.clif_insts.specs.Forms as spec;
+
+use crate::arguments::args;
+use crate::raw::{RawInst, RawOperands};
+use crate::reader::Reader;
+use crate::stop::Stop;
+use crate::tables::table;
+use crate::targets::{Place, target};
+use crate::types::opt_suffix_i64;
+use clif_words::Class;
+use ir_core::List;
+use std::alloc::Global;
+
+/// `op fnN(v, ..)`
+#[tactic(auto, unfolding(crate::specs::Forms::call_at))]
+pub(crate) fn call(alloc: Global, reader: &mut Reader<'_>) -> Result<RawInst, Stop>
+    ensures is { Gives same reader.new result (spec.call_at reader.old) }
+    ensures shorter { IfOk result (λ _. length reader.new < length reader.old) }
+{
+    let opcode = reader.take(Class::Call)?;
+    let callee = reader.take(Class::Callee)?;
+    let args = args(alloc, reader)?;
+    Ok(RawInst {
+        opcode,
+        suffix: None,
+        operands: RawOperands::Call {
+            callee,
+            args: List::from_vec(args),
+        },
+    })
+}
+
+/// `try_call fnN(v, ..), sigN, call-to, table`
+#[tactic(auto, unfolding(crate::specs::Forms::try_call_at))]
+pub(crate) fn try_call(alloc: Global, reader: &mut Reader<'_>) -> Result<RawInst, Stop>
+    ensures is { Gives same reader.new result (spec.try_call_at reader.old) }
+    ensures shorter { IfOk result (λ _. length reader.new < length reader.old) }
+{
+    let opcode = reader.take(Class::TryCall)?;
+    let callee = reader.take(Class::Callee)?;
+    let args = args(alloc, reader)?;
+    reader.take(Class::Comma)?;
+    let sig = reader.take(Class::Sig)?;
+    reader.take(Class::Comma)?;
+    let normal = target(alloc, reader, Place::Normal)?;
+    reader.take(Class::Comma)?;
+    let table = table(alloc, reader)?;
+    Ok(RawInst {
+        opcode,
+        suffix: None,
+        operands: RawOperands::TryCall {
+            callee,
+            args: List::from_vec(args),
+            sig,
+            normal,
+            table: List::from_vec(table),
+        },
+    })
+}
+
+/// `op[.i64] sigN, v(v, ..)`
+#[tactic(auto, unfolding(crate::specs::Forms::call_indirect_at))]
+pub(crate) fn call_indirect(alloc: Global, reader: &mut Reader<'_>) -> Result<RawInst, Stop>
+    ensures is { Gives same reader.new result (spec.call_indirect_at reader.old) }
+    ensures shorter { IfOk result (λ _. length reader.new < length reader.old) }
+{
+    let opcode = reader.take(Class::CallIndirect)?;
+    opt_suffix_i64(reader)?;
+    let sig = reader.take(Class::Sig)?;
+    reader.take(Class::Comma)?;
+    let address = reader.take(Class::Value)?;
+    let args = args(alloc, reader)?;
+    Ok(RawInst {
+        opcode,
+        suffix: None,
+        operands: RawOperands::CallIndirect {
+            sig,
+            address,
+            args: List::from_vec(args),
+        },
+    })
+}
+
+/// `try_call_indirect[.i64] v(v, ..), sigN, call-to, table`
+#[tactic(auto, unfolding(crate::specs::Forms::try_call_indirect_at))]
+pub(crate) fn try_call_indirect(alloc: Global, reader: &mut Reader<'_>) -> Result<RawInst, Stop>
+    ensures is { Gives same reader.new result (spec.try_call_indirect_at reader.old) }
+    ensures shorter { IfOk result (λ _. length reader.new < length reader.old) }
+{
+    let opcode = reader.take(Class::TryCallIndirect)?;
+    opt_suffix_i64(reader)?;
+    let address = reader.take(Class::Value)?;
+    let args = args(alloc, reader)?;
+    reader.take(Class::Comma)?;
+    let sig = reader.take(Class::Sig)?;
+    reader.take(Class::Comma)?;
+    let normal = target(alloc, reader, Place::Normal)?;
+    reader.take(Class::Comma)?;
+    let table = table(alloc, reader)?;
+    Ok(RawInst {
+        opcode,
+        suffix: None,
+        operands: RawOperands::TryCallIndirect {
+            address,
+            args: List::from_vec(args),
+            sig,
+            normal,
+            table: List::from_vec(table),
+        },
+    })
+}

@@ -1,0 +1,138 @@
+//! Instructions without operands, branches, returns and traps.
+
+ghost use Rattle.std.specs.Prelude.{◌<◌, length, IfOk};
+ghost use Rattle.clif_insts.specs.Reading.{Gives, same};
+ghost use Rattle.clif_insts.specs.Forms as spec;
+
+use crate::codes::trap;
+use crate::raw::{RawInst, RawOperands};
+use crate::reader::Reader;
+use crate::stop::Stop;
+use crate::targets::{Place, target, target_list};
+use crate::types::opt_suffix;
+use clif_words::Class;
+use ir_core::List;
+use std::alloc::Global;
+
+/// No operands
+#[tactic(auto, unfolding(crate::specs::Forms::nullary_at))]
+pub(crate) fn nullary(reader: &mut Reader<'_>) -> Result<RawInst, Stop>
+    ensures is { Gives same reader.new result (spec.nullary_at reader.old) }
+    ensures shorter { IfOk result (λ _. length reader.new < length reader.old) }
+{
+    let opcode = reader.take(Class::Nullary)?;
+    Ok(RawInst {
+        opcode,
+        suffix: None,
+        operands: RawOperands::Nullary,
+    })
+}
+
+/// `jump call-to`
+#[tactic(auto, unfolding(crate::specs::Forms::jump_at))]
+pub(crate) fn jump(alloc: Global, reader: &mut Reader<'_>) -> Result<RawInst, Stop>
+    ensures is { Gives same reader.new result (spec.jump_at reader.old) }
+    ensures shorter { IfOk result (λ _. length reader.new < length reader.old) }
+{
+    let opcode = reader.take(Class::Jump)?;
+    let target = target(alloc, reader, Place::Branch)?;
+    Ok(RawInst {
+        opcode,
+        suffix: None,
+        operands: RawOperands::Jump(target),
+    })
+}
+
+/// `brif[.T] x, call-to, call-to`
+#[tactic(auto, unfolding(crate::specs::Forms::brif_at))]
+pub(crate) fn brif(alloc: Global, reader: &mut Reader<'_>) -> Result<RawInst, Stop>
+    ensures is { Gives same reader.new result (spec.brif_at reader.old) }
+    ensures shorter { IfOk result (λ _. length reader.new < length reader.old) }
+{
+    let opcode = reader.take(Class::Brif)?;
+    let suffix = opt_suffix(reader)?;
+    let cond = reader.take(Class::Value)?;
+    reader.take(Class::Comma)?;
+    let then_target = target(alloc, reader, Place::Branch)?;
+    reader.take(Class::Comma)?;
+    let else_target = target(alloc, reader, Place::Branch)?;
+    Ok(RawInst {
+        opcode,
+        suffix,
+        operands: RawOperands::Brif {
+            cond,
+            yes: then_target,
+            no: else_target,
+        },
+    })
+}
+
+/// `br_table v, call-to, [call-to, ..]`
+#[tactic(auto, unfolding(crate::specs::Forms::br_table_at))]
+pub(crate) fn br_table(alloc: Global, reader: &mut Reader<'_>) -> Result<RawInst, Stop>
+    ensures is { Gives same reader.new result (spec.br_table_at reader.old) }
+    ensures shorter { IfOk result (λ _. length reader.new < length reader.old) }
+{
+    let opcode = reader.take(Class::BrTable)?;
+    let index = reader.take(Class::Value)?;
+    reader.take(Class::Comma)?;
+    let default = target(alloc, reader, Place::Branch)?;
+    reader.take(Class::Comma)?;
+    let entries = target_list(alloc, reader)?;
+    Ok(RawInst {
+        opcode,
+        suffix: None,
+        operands: RawOperands::BrTable {
+            index,
+            default,
+            entries: List::from_vec(entries),
+        },
+    })
+}
+
+/// `return v, ..`
+#[tactic(auto, unfolding(crate::specs::Forms::return_inst_at))]
+pub(crate) fn return_inst(alloc: Global, reader: &mut Reader<'_>) -> Result<RawInst, Stop>
+    ensures is { Gives same reader.new result (spec.return_inst_at reader.old) }
+    ensures shorter { IfOk result (λ _. length reader.new < length reader.old) }
+{
+    let opcode = reader.take(Class::Return)?;
+    Ok(RawInst {
+        opcode,
+        suffix: None,
+        operands: RawOperands::Return(List::from_vec(Vec::new(alloc))),
+    })
+}
+
+/// `trap code`
+#[tactic(auto, unfolding(crate::specs::Forms::trap_inst_at))]
+pub(crate) fn trap_inst(reader: &mut Reader<'_>) -> Result<RawInst, Stop>
+    ensures is { Gives same reader.new result (spec.trap_inst_at reader.old) }
+    ensures shorter { IfOk result (λ _. length reader.new < length reader.old) }
+{
+    let opcode = reader.take(Class::Trap)?;
+    let code = trap(reader)?;
+    Ok(RawInst {
+        opcode,
+        suffix: None,
+        operands: RawOperands::Trap(code),
+    })
+}
+
+/// `op[.T] x, code`
+#[tactic(auto, unfolding(crate::specs::Forms::trap_if_at))]
+pub(crate) fn trap_if(reader: &mut Reader<'_>) -> Result<RawInst, Stop>
+    ensures is { Gives same reader.new result (spec.trap_if_at reader.old) }
+    ensures shorter { IfOk result (λ _. length reader.new < length reader.old) }
+{
+    let opcode = reader.take(Class::TrapIf)?;
+    let suffix = opt_suffix(reader)?;
+    let x = reader.take(Class::Value)?;
+    reader.take(Class::Comma)?;
+    let code = trap(reader)?;
+    Ok(RawInst {
+        opcode,
+        suffix,
+        operands: RawOperands::TrapIf(x, code),
+    })
+}

@@ -1,0 +1,140 @@
+//! Loads, stores and addresses.
+
+ghost use Rattle.std.specs.Prelude.{◌<◌, length, IfOk};
+ghost use Rattle.clif_insts.specs.Reading.{Gives, same};
+ghost use Rattle.clif_insts.specs.Forms as spec;
+
+use crate::flags::flags;
+use crate::numbers::offset;
+use crate::raw::{RawInst, RawOperands};
+use crate::reader::Reader;
+use crate::stop::Stop;
+use crate::types::{opt_suffix, suffix, suffix_i64};
+use clif_words::Class;
+use ir_core::List;
+use std::alloc::Global;
+
+/// `op.T flags p+off`
+#[tactic(auto, unfolding(crate::specs::Forms::load_at))]
+pub(crate) fn load(alloc: Global, reader: &mut Reader<'_>) -> Result<RawInst, Stop>
+    ensures is { Gives same reader.new result (spec.load_at reader.old) }
+    ensures shorter { IfOk result (λ _. length reader.new < length reader.old) }
+{
+    let opcode = reader.take(Class::Load)?;
+    let suffix = suffix(reader)?;
+    let flags = flags(alloc, reader)?;
+    let address = reader.take(Class::Value)?;
+    let offset = offset(reader)?;
+    Ok(RawInst {
+        opcode,
+        suffix: Some(suffix),
+        operands: RawOperands::Load {
+            flags: List::from_vec(flags),
+            address,
+            offset,
+        },
+    })
+}
+
+/// `op[.i64] flags p+off`
+#[tactic(auto, unfolding(crate::specs::Forms::load_wide_at))]
+pub(crate) fn load_wide(alloc: Global, reader: &mut Reader<'_>) -> Result<RawInst, Stop>
+    ensures is { Gives same reader.new result (spec.load_wide_at reader.old) }
+    ensures shorter { IfOk result (λ _. length reader.new < length reader.old) }
+{
+    let opcode = reader.take(Class::LoadWide)?;
+    let suffix = opt_suffix(reader)?;
+    let flags = flags(alloc, reader)?;
+    let address = reader.take(Class::Value)?;
+    let offset = offset(reader)?;
+    Ok(RawInst {
+        opcode,
+        suffix,
+        operands: RawOperands::Load {
+            flags: List::from_vec(flags),
+            address,
+            offset,
+        },
+    })
+}
+
+/// `op[.T] flags x, p+off`
+#[tactic(auto, unfolding(crate::specs::Forms::store_at))]
+pub(crate) fn store(alloc: Global, reader: &mut Reader<'_>) -> Result<RawInst, Stop>
+    ensures is { Gives same reader.new result (spec.store_at reader.old) }
+    ensures shorter { IfOk result (λ _. length reader.new < length reader.old) }
+{
+    let opcode = reader.take(Class::Store)?;
+    let suffix = opt_suffix(reader)?;
+    let flags = flags(alloc, reader)?;
+    let value = reader.take(Class::Value)?;
+    reader.take(Class::Comma)?;
+    let address = reader.take(Class::Value)?;
+    let offset = offset(reader)?;
+    Ok(RawInst {
+        opcode,
+        suffix,
+        operands: RawOperands::Store {
+            flags: List::from_vec(flags),
+            value,
+            address,
+            offset,
+        },
+    })
+}
+
+/// `stack_load.T ssN+off`
+#[tactic(auto, unfolding(crate::specs::Forms::stack_load_at))]
+pub(crate) fn stack_load(reader: &mut Reader<'_>) -> Result<RawInst, Stop>
+    ensures is { Gives same reader.new result (spec.stack_load_at reader.old) }
+    ensures shorter { IfOk result (λ _. length reader.new < length reader.old) }
+{
+    let opcode = reader.take(Class::StackLoad)?;
+    let suffix = suffix(reader)?;
+    let slot = reader.take(Class::Slot)?;
+    let offset = offset(reader)?;
+    Ok(RawInst {
+        opcode,
+        suffix: Some(suffix),
+        operands: RawOperands::StackLoad { slot, offset },
+    })
+}
+
+/// `stack_store[.T] x, ssN+off`
+#[tactic(auto, unfolding(crate::specs::Forms::stack_store_at))]
+pub(crate) fn stack_store(reader: &mut Reader<'_>) -> Result<RawInst, Stop>
+    ensures is { Gives same reader.new result (spec.stack_store_at reader.old) }
+    ensures shorter { IfOk result (λ _. length reader.new < length reader.old) }
+{
+    let opcode = reader.take(Class::StackStore)?;
+    let suffix = opt_suffix(reader)?;
+    let value = reader.take(Class::Value)?;
+    reader.take(Class::Comma)?;
+    let slot = reader.take(Class::Slot)?;
+    let offset = offset(reader)?;
+    Ok(RawInst {
+        opcode,
+        suffix,
+        operands: RawOperands::StackStore {
+            value,
+            slot,
+            offset,
+        },
+    })
+}
+
+/// `func_addr.i64 fnN`
+#[tactic(auto, unfolding(crate::specs::Forms::func_addr_at))]
+pub(crate) fn func_addr(reader: &mut Reader<'_>) -> Result<RawInst, Stop>
+    ensures is { Gives same reader.new result (spec.func_addr_at reader.old) }
+    ensures shorter { IfOk result (λ _. length reader.new < length reader.old) }
+{
+    let opcode = reader.take(Class::FuncAddr)?;
+    suffix_i64(reader)?;
+    let callee = reader.take(Class::Callee)?;
+    Ok(RawInst {
+        opcode,
+        suffix: None,
+        operands: RawOperands::FuncAddr(callee),
+    })
+}

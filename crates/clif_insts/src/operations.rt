@@ -1,0 +1,155 @@
+//! Operations on values, and constants.
+
+ghost use Rattle.std.specs.Prelude.{◌<◌, length, IfOk};
+ghost use Rattle.clif_insts.specs.Reading.{Gives, same};
+ghost use Rattle.clif_insts.specs.Forms as spec;
+
+use crate::codes::condition;
+use crate::numbers::number;
+use crate::raw::{RawInst, RawOperands};
+use crate::reader::Reader;
+use crate::stop::Stop;
+use crate::types::{opt_suffix, suffix};
+use clif_words::Class;
+
+/// `iconst.T n`
+#[tactic(auto, unfolding(crate::specs::Forms::iconst_at))]
+pub(crate) fn iconst(reader: &mut Reader<'_>) -> Result<RawInst, Stop>
+    ensures is { Gives same reader.new result (spec.iconst_at reader.old) }
+    ensures shorter { IfOk result (λ _. length reader.new < length reader.old) }
+{
+    let opcode = reader.take(Class::Iconst)?;
+    let suffix = suffix(reader)?;
+    let number = number(reader)?;
+    Ok(RawInst {
+        opcode,
+        suffix: Some(suffix),
+        operands: RawOperands::Number(number),
+    })
+}
+
+/// `op[.T] x, y`
+#[tactic(auto, unfolding(crate::specs::Forms::binary_at))]
+pub(crate) fn binary(reader: &mut Reader<'_>) -> Result<RawInst, Stop>
+    ensures is { Gives same reader.new result (spec.binary_at reader.old) }
+    ensures shorter { IfOk result (λ _. length reader.new < length reader.old) }
+{
+    let opcode = reader.take(Class::Binary)?;
+    let suffix = opt_suffix(reader)?;
+    let x = reader.take(Class::Value)?;
+    reader.take(Class::Comma)?;
+    let y = reader.take(Class::Value)?;
+    Ok(RawInst {
+        opcode,
+        suffix,
+        operands: RawOperands::Binary(x, y),
+    })
+}
+
+/// `op[.T] x`
+#[tactic(auto, unfolding(crate::specs::Forms::unary_at))]
+pub(crate) fn unary(reader: &mut Reader<'_>) -> Result<RawInst, Stop>
+    ensures is { Gives same reader.new result (spec.unary_at reader.old) }
+    ensures shorter { IfOk result (λ _. length reader.new < length reader.old) }
+{
+    let opcode = reader.take(Class::Unary)?;
+    let suffix = opt_suffix(reader)?;
+    let x = reader.take(Class::Value)?;
+    Ok(RawInst {
+        opcode,
+        suffix,
+        operands: RawOperands::Unary(x),
+    })
+}
+
+/// `icmp[.T] cc x, y`
+#[tactic(auto, unfolding(crate::specs::Forms::icmp_at))]
+pub(crate) fn icmp(reader: &mut Reader<'_>) -> Result<RawInst, Stop>
+    ensures is { Gives same reader.new result (spec.icmp_at reader.old) }
+    ensures shorter { IfOk result (λ _. length reader.new < length reader.old) }
+{
+    let opcode = reader.take(Class::Icmp)?;
+    let suffix = opt_suffix(reader)?;
+    let condition = condition(reader)?;
+    let x = reader.take(Class::Value)?;
+    reader.take(Class::Comma)?;
+    let y = reader.take(Class::Value)?;
+    Ok(RawInst {
+        opcode,
+        suffix,
+        operands: RawOperands::Compare(condition, x, y),
+    })
+}
+
+/// `select[.T] c, x, y`
+#[tactic(auto, unfolding(crate::specs::Forms::select_at))]
+pub(crate) fn select(reader: &mut Reader<'_>) -> Result<RawInst, Stop>
+    ensures is { Gives same reader.new result (spec.select_at reader.old) }
+    ensures shorter { IfOk result (λ _. length reader.new < length reader.old) }
+{
+    let opcode = reader.take(Class::Select)?;
+    let suffix = opt_suffix(reader)?;
+    let x = reader.take(Class::Value)?;
+    reader.take(Class::Comma)?;
+    let y = reader.take(Class::Value)?;
+    reader.take(Class::Comma)?;
+    let z = reader.take(Class::Value)?;
+    Ok(RawInst {
+        opcode,
+        suffix,
+        operands: RawOperands::Ternary(x, y, z),
+    })
+}
+
+/// `op.T x`
+#[tactic(auto, unfolding(crate::specs::Forms::convert_at))]
+pub(crate) fn convert(reader: &mut Reader<'_>) -> Result<RawInst, Stop>
+    ensures is { Gives same reader.new result (spec.convert_at reader.old) }
+    ensures shorter { IfOk result (λ _. length reader.new < length reader.old) }
+{
+    let opcode = reader.take(Class::Convert)?;
+    let suffix = suffix(reader)?;
+    let x = reader.take(Class::Value)?;
+    Ok(RawInst {
+        opcode,
+        suffix: Some(suffix),
+        operands: RawOperands::Unary(x),
+    })
+}
+
+/// `op[.T] x, n`
+#[tactic(auto, unfolding(crate::specs::Forms::binary_imm_at))]
+pub(crate) fn binary_imm(reader: &mut Reader<'_>) -> Result<RawInst, Stop>
+    ensures is { Gives same reader.new result (spec.binary_imm_at reader.old) }
+    ensures shorter { IfOk result (λ _. length reader.new < length reader.old) }
+{
+    let opcode = reader.take(Class::BinaryImm)?;
+    let suffix = opt_suffix(reader)?;
+    let x = reader.take(Class::Value)?;
+    reader.take(Class::Comma)?;
+    let number = number(reader)?;
+    Ok(RawInst {
+        opcode,
+        suffix,
+        operands: RawOperands::BinaryImm(x, number),
+    })
+}
+
+/// `icmp_imm[.T] cc x, n`
+#[tactic(auto, unfolding(crate::specs::Forms::icmp_imm_at))]
+pub(crate) fn icmp_imm(reader: &mut Reader<'_>) -> Result<RawInst, Stop>
+    ensures is { Gives same reader.new result (spec.icmp_imm_at reader.old) }
+    ensures shorter { IfOk result (λ _. length reader.new < length reader.old) }
+{
+    let opcode = reader.take(Class::IcmpImm)?;
+    let suffix = opt_suffix(reader)?;
+    let condition = condition(reader)?;
+    let x = reader.take(Class::Value)?;
+    reader.take(Class::Comma)?;
+    let number = number(reader)?;
+    Ok(RawInst {
+        opcode,
+        suffix,
+        operands: RawOperands::CompareImm(condition, x, number),
+    })
+}

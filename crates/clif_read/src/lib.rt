@@ -2,6 +2,8 @@
 #![tactic(auto)]
 
 mod attributes;
+#[cfg(test)]
+mod declaration_tests;
 mod declarations;
 mod heads;
 pub mod laws;

@@ -6,14 +6,14 @@ use clif_lex::{TextErr, TextKind, place, tokens};
 use std::alloc::{AllocError, Global};
 
 /// The module of a text, or its first fault.
-fn read(alloc: Global, text: &str) -> Result<RawModule, TextErr> {
+pub(crate) fn read(alloc: Global, text: &str) -> Result<RawModule, TextErr> {
     let bytes = text.as_bytes();
     let list = tokens(alloc, bytes)?;
     read_raw(alloc, bytes, &list)
 }
 
 /// Where a text's first fault is: its kind, line and column. Line 0 says that there is none.
-fn fault(alloc: Global, text: &str) -> (&'static str, u32, u32) {
+pub(crate) fn fault(alloc: Global, text: &str) -> (&'static str, u32, u32) {
     match read(alloc, text) {
         Ok(_) => ("", 0, 0),
         Err(TextErr::NoMemory) => ("NoMemory", 0, 0),

@@ -1,39 +1,31 @@
 -- Worked examples of the canonical text.
-use Rattle.std.specs.Prelude.{◌≡◌, ◌^◌, ◌-◌, ℕ, ℤ, pos, negsuc, true, false, List, [], ◌∷◌, ◌++◌, Option, Some, None, codes}
-use Rattle.clk_num.specs.Operations.{DataValue}
-use Rattle.clk_num.specs.declared.op.Cc.TheVariants.{Ult}
-use Rattle.clk_num.specs.declared.op.Op.TheVariants.{Iadd, Isub, Imul, Band, Icmp, Select, Uextend, Iconcat, Isplit}
+use Rattle.std.specs.Prelude.{◌≡◌, ◌^◌, ◌-◌, ℕ, pos, negsuc, true, false, List, [], ◌∷◌, ◌++◌, Some, None, codes}
+use Rattle.clk_num.specs.declared.op.Op.TheVariants.{Iadd, Isub, Imul, Band, Iconcat}
 use Rattle.clk_num.specs.declared.op.TrapCode.TheVariants as trap
-use Rattle.clk_num.specs.declared.width.Width.TheVariants.{W8, W16, W32, W64, W128}
-use Rattle.exn_tables.specs.declared.table.Entry.{Entry}
+use Rattle.clk_num.specs.declared.width.Width.TheVariants.{W8, W16, W64, W128}
 use Rattle.debug_tags.specs.declared.tags.Tag.TheVariants as tag
 use Rattle.ir_core.specs.declared.declarations.Callee.{Callee}
-use Rattle.ir_core.specs.declared.declarations.SlotDecl.{SlotDecl}
 use Rattle.ir_core.specs.declared.instructions.Access.TheVariants as access
 use Rattle.ir_core.specs.declared.instructions.Arg.{Arg}
 use Rattle.ir_core.specs.declared.instructions.Arg.TheVariants as arg
 use Rattle.ir_core.specs.declared.instructions.BlockCall.{BlockCall}
 use Rattle.ir_core.specs.declared.instructions.Flags.{Flags}
-use Rattle.ir_core.specs.declared.names.FuncName.{FuncName}
 use Rattle.ir_core.specs.declared.names.FuncName.TheVariants as name
 use Rattle.ir_core.specs.declared.signatures.Conv.TheVariants as conv
 use Rattle.ir_core.specs.declared.signatures.Ext.TheVariants as ext
 use Rattle.ir_core.specs.declared.signatures.Param.{Param}
 use Rattle.ir_core.specs.declared.signatures.Purpose.TheVariants as purpose
-use Rattle.ir_core.specs.declared.signatures.Sig.{Sig}
 use Rattle.ir_core.specs.declared.signatures.Ty.{Ty}
 use Rattle.ir_core.specs.declared.signatures.Ty.TheVariants.{I8, I16, I32, I64, I128}
 use Rattle.ir_core.specs.Module.{Instruction, Line, Block, Function}
-use Rattle.ir_core.specs.Module.{Const, Pure, PureImm, Load, Store, StackLoad, StackStore, FuncAddr, Nop, Trap, Jump, Brif, BrTable, Direct, Indirect, Plain, Branches, SequencePoint, Return, Call, ReturnCall, TryCall}
+use Rattle.ir_core.specs.Module.{Const, Pure, PureImm, Load, Store, StackStore, Nop, Trap, Jump, BrTable, Direct, Indirect, Plain, Branches, Return, Call}
 use Rattle.ir_core.specs.Text.{text_of}
+use Rattle.ir_core.specs.Calling.{inlined}
 
 -- ---- short ways to write a module down
 
 abbrev pub plain : Ty → Param
 plain t = record { ty = t; ext = ext.No; purpose = purpose.Normal }
-
-abbrev pub one_to_one : Ty → Sig
-one_to_one t = record { params = plain t ∷ []; results = plain t ∷ []; conv = conv.Fast }
 
 -- an instruction without a suffix that may be left out, and without tags
 abbrev pub bare : List ℕ → Instruction → Line
@@ -49,28 +41,11 @@ block n params lines = record { number = n; params = params; lines = lines }
 abbrev pub to : ℕ → List Arg → BlockCall
 to b args = record { block = b; args = args }
 
-abbrev pub on : Option ℕ → BlockCall → Entry BlockCall
-on tag target = record { tag = tag; target = target }
-
 abbrev pub callee : List ℕ → ℕ → Callee
 callee text sig = record { name = name.Text text; colocated = false; sig = sig }
 
--- ---- a throw through a plain call of the callee: the function after inlining, with the numbers of its parts as they came
-
-abbrev pub thrown : Function
-thrown = record {
-  name = name.Text (codes "f");
-  sig = one_to_one I64;
-  slots = [];
-  sigs = one_to_one I64 ∷ [];
-  callees = callee (codes "g") 0 ∷ callee (codes "h") 0 ∷ [];
-  types = (0, I64) ∷ (1, I64) ∷ (2, I64) ∷ (3, I64) ∷ (4, I64) ∷ [];
-  blocks = block 0 (0 ∷ []) (bare [] (Branches (Jump (to 3 (arg.Value 0 ∷ [])))) ∷ [])
-      ∷ block 3 (3 ∷ []) (bare [] (TryCall (Direct 1) 0 (3 ∷ []) (to 4 (arg.Ret 0 ∷ [])) (on (Some 3) (to 2 (arg.Exn 0 ∷ [])) ∷ [])) ∷ [])
-      ∷ block 4 (4 ∷ []) (bare [] (Branches (Jump (to 1 (arg.Value 4 ∷ [])))) ∷ [])
-      ∷ block 1 (1 ∷ []) (bare [] (Return (1 ∷ [])) ∷ [])
-      ∷ block 2 (2 ∷ []) (bare [] (Return (2 ∷ [])) ∷ []) ∷ [];
-}
+-- ---- a throw through a plain call of the callee: the function after inlining, as ir_core's tests build it, with the numbers
+-- of its parts as they came
 
 abbrev pub thrown_text : List ℕ
 thrown_text =
@@ -145,7 +120,7 @@ suffixed_text =
     ++ codes "    v6 = iconst.i8 -1\n    v7 = iadd_imm v0, -1\n    v8 = uload32 notrap aligned vmctx v0-8\n    store big v6, v0+2\n    nop\n    call_indirect sig0, v0(v1)\n    br_table v6, block0, [block0, block0(v0)]\n}\n"
 
 pub record WorkedTexts : Type 0 where
-  pub thrown_is : text_of (thrown ∷ []) ≡ thrown_text
+  pub thrown_is : text_of (inlined ∷ []) ≡ thrown_text
   pub located_is : text_of (located ∷ []) ≡ located_text
   pub tagged_is : text_of (tagged ∷ empty ∷ []) ≡ tagged_text
   pub suffixed_is : text_of (suffixed ∷ []) ≡ suffixed_text

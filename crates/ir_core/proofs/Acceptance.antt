@@ -16,7 +16,7 @@ use Rattle.ir_core.specs.Uses.{targets}
 use Rattle.ir_core.specs.Lookup.{find_block}
 use Rattle.ir_core.specs.Lists.{In, Each}
 use Rattle.ir_core.specs.Available.{Reach, begin, next, branch, Available}
-use Rattle.ir_core.specs.Accepted.{Rule, no_terminator, entry_target, count_mismatch, type_mismatch, convention, signature_mismatch, slot_range, tag_place, KeptAtLine, Declared}
+use Rattle.ir_core.specs.Accepted.{Rule, no_terminator, entry_target, count_mismatch, type_mismatch, convention, signature_mismatch, slot_range, tag_place, not_available, KeptAtLine, Declared}
 use Rattle.ir_core.proofs.Written.{signature, slot, declares, f, h}
 
 -- a rule holds at a line of a block
@@ -354,6 +354,36 @@ by_text_path = branch (begin _ _ refl) _ refl _ refl (record { block = 2; args =
 
 by_text_refused : Available by_text 2 0 1 → ⊥
 by_text_refused p = elim (p (0 ∷ []) by_text_path) [ inl q ↦ cc | inr q ↦ q ]
+
+-- A value that is used before the line that defines it, with a suffix that says its type.
+abbrev too_early : Function
+too_early =
+    record {
+      name = f;
+      sig = signature (I64 ∷ []) (I64 ∷ []) Fast;
+      slots = [];
+      sigs = [];
+      callees = [];
+      types = (0, I64) ∷ (1, I64) ∷ (2, I64) ∷ [];
+      blocks =
+          record {
+            number = 0;
+            params = 0 ∷ [];
+            lines =
+                record { inst = Plain (Pure Iadd (2 ∷ 0 ∷ [])); ty = Some I64; results = 1 ∷ []; tags = [] } ∷
+                record { inst = Plain (Pure Iadd (0 ∷ 0 ∷ [])); ty = Some I64; results = 2 ∷ []; tags = [] } ∷
+                record { inst = Return (0 ∷ []); ty = None; results = []; tags = [] } ∷
+                [];
+          } ∷
+          [];
+    }
+
+too_early_refused : KeptAt too_early 0 0 not_available → ⊥
+too_early_refused p = elim (p.0 (0 ∷ []) (begin _ _ refl)) [ inl q ↦ cc | inr q ↦ q ]
+
+too_early_else : KeptAt too_early 0 0 no_terminator × KeptAt too_early 0 0 entry_target × KeptAt too_early 0 0 count_mismatch × KeptAt too_early 0 0 type_mismatch × KeptAt too_early 0 0 convention × KeptAt too_early 0 0 signature_mismatch × KeptAt too_early 0 0 slot_range × KeptAt too_early 0 0 tag_place
+unfolding row
+too_early_else = (tt, tt, refl, (refl, refl), tt, tt, tt, refl)
 
 -- A block that nothing enters: every value is available there.
 abbrev no_path : Function

@@ -85,7 +85,7 @@ split (suc p) (suc e) = elim (split p e) [ inl q ↦ inl (omega (arith, q)) | in
 outside : (p s e : ℕ) → (s ≤ p → p < e → ⊥) → (p < s) ⊎ (e ≤ p)
 outside p s e h = elim (split p s) [ inl q ↦ inl q | inr q ↦ elim (split p e) [ inl r ↦ absurd (h q r) | inr r ↦ inr r ] ]
 
-but_last_end : (ls : List Line) (l : Line) → but_last (ls ++ (l ∷ [])) ≡ ls
+pub but_last_end : (ls : List Line) (l : Line) → but_last (ls ++ (l ∷ [])) ≡ ls
 but_last_end [] l = refl
 but_last_end (x ∷ []) l = refl
 but_last_end (x ∷ (y ∷ ls)) l = ap (λ r. x ∷ r) (but_last_end (y ∷ ls) l)

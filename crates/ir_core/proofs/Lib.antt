@@ -4,7 +4,9 @@ pub mod Changing
 pub mod Copying
 pub mod Counting
 pub mod Equal
+pub mod Halves
 pub mod Indexing
+pub mod IndirectTails
 pub mod Inserting
 pub mod Keeping
 pub mod Laying
@@ -24,6 +26,7 @@ pub mod Shifting
 pub mod Sizing
 pub mod Splitting
 pub mod Tails
+pub mod Taking
 pub mod Throws
 pub mod Walking
 pub mod Writing

@@ -147,6 +147,45 @@ loop_text : canonical (splice_with sides loop_caller 0 0 loop_callee) ≡ loop_r
 unfolding iadd isub sdiv sdiv_trap srem divides_by_zero ishl clz band iconcat low_half high_half operation meaning row signed wrapped fits fits_signed quotient remainder sum_below with_bits zeros_from_top floored number_of bytes_of memory_read memory_write address_at written same_sig names
 loop_text = refl
 
+abbrev loop_before : Module
+loop_before = loop_callee ∷ loop_caller ∷ []
+
+abbrev loop_after : Module
+loop_after = replace (splice_with sides loop_caller 0 0 loop_callee) loop_before
+
+-- with 0 the loop is not entered, with 2 it is gone through twice; as many steps before as after
+loop_before_0_5 : outcome loop_before f (record { width = W32; value = 0 } ∷ []) (world [] []) 5 ≡ ends [] [] (Returned (record { width = W32; value = 7 } ∷ []))
+unfolding iadd isub sdiv sdiv_trap srem divides_by_zero ishl clz band iconcat low_half high_half operation meaning row signed wrapped fits fits_signed quotient remainder sum_below with_bits zeros_from_top floored number_of bytes_of memory_read memory_write address_at written same_sig names
+loop_before_0_5 = refl
+
+loop_before_0_4 : outcome loop_before f (record { width = W32; value = 0 } ∷ []) (world [] []) 4 ≡ ends [] [] (Going)
+unfolding iadd isub sdiv sdiv_trap srem divides_by_zero ishl clz band iconcat low_half high_half operation meaning row signed wrapped fits fits_signed quotient remainder sum_below with_bits zeros_from_top floored number_of bytes_of memory_read memory_write address_at written same_sig names
+loop_before_0_4 = refl
+
+loop_after_0_5 : outcome loop_after f (record { width = W32; value = 0 } ∷ []) (world [] []) 5 ≡ ends [] [] (Returned (record { width = W32; value = 7 } ∷ []))
+unfolding iadd isub sdiv sdiv_trap srem divides_by_zero ishl clz band iconcat low_half high_half operation meaning row signed wrapped fits fits_signed quotient remainder sum_below with_bits zeros_from_top floored number_of bytes_of memory_read memory_write address_at written same_sig names
+loop_after_0_5 = refl
+
+loop_after_0_4 : outcome loop_after f (record { width = W32; value = 0 } ∷ []) (world [] []) 4 ≡ ends [] [] (Going)
+unfolding iadd isub sdiv sdiv_trap srem divides_by_zero ishl clz band iconcat low_half high_half operation meaning row signed wrapped fits fits_signed quotient remainder sum_below with_bits zeros_from_top floored number_of bytes_of memory_read memory_write address_at written same_sig names
+loop_after_0_4 = refl
+
+loop_before_2_8 : outcome loop_before f (record { width = W32; value = 2 } ∷ []) (world [] []) 8 ≡ ends [] [] (Returned (record { width = W32; value = 0 } ∷ []))
+unfolding iadd isub sdiv sdiv_trap srem divides_by_zero ishl clz band iconcat low_half high_half operation meaning row signed wrapped fits fits_signed quotient remainder sum_below with_bits zeros_from_top floored number_of bytes_of memory_read memory_write address_at written same_sig names
+loop_before_2_8 = refl
+
+loop_before_2_7 : outcome loop_before f (record { width = W32; value = 2 } ∷ []) (world [] []) 7 ≡ ends [] [] (Going)
+unfolding iadd isub sdiv sdiv_trap srem divides_by_zero ishl clz band iconcat low_half high_half operation meaning row signed wrapped fits fits_signed quotient remainder sum_below with_bits zeros_from_top floored number_of bytes_of memory_read memory_write address_at written same_sig names
+loop_before_2_7 = refl
+
+loop_after_2_8 : outcome loop_after f (record { width = W32; value = 2 } ∷ []) (world [] []) 8 ≡ ends [] [] (Returned (record { width = W32; value = 0 } ∷ []))
+unfolding iadd isub sdiv sdiv_trap srem divides_by_zero ishl clz band iconcat low_half high_half operation meaning row signed wrapped fits fits_signed quotient remainder sum_below with_bits zeros_from_top floored number_of bytes_of memory_read memory_write address_at written same_sig names
+loop_after_2_8 = refl
+
+loop_after_2_7 : outcome loop_after f (record { width = W32; value = 2 } ∷ []) (world [] []) 7 ≡ ends [] [] (Going)
+unfolding iadd isub sdiv sdiv_trap srem divides_by_zero ishl clz band iconcat low_half high_half operation meaning row signed wrapped fits fits_signed quotient remainder sum_below with_bits zeros_from_top floored number_of bytes_of memory_read memory_write address_at written same_sig names
+loop_after_2_7 = refl
+
 -- A slot in a loop.
 abbrev slots_callee : Function
 slots_callee =

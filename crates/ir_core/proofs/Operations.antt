@@ -9,10 +9,10 @@ use Rattle.ir_core.specs.Values.{number_of, bytes_of, memory_read, memory_write,
 use Rattle.ir_core.specs.Step.{written}
 use Rattle.ir_core.specs.Signatures.{same_sig}
 use Rattle.ir_core.specs.Names.{names}
-use Rattle.clk_num.specs.declared.width.Width.TheVariants.{W8, W16, W64, W128}
+use Rattle.clk_num.specs.declared.width.Width.TheVariants.{W8, W16, W64}
 use Rattle.clk_num.specs.declared.op.TrapCode.TheVariants.{IntOvf, HeapOob}
-use Rattle.clk_num.specs.declared.op.Op.TheVariants.{Iadd, Isub, Sdiv, Srem, Ishl, Clz, Band, Iconcat, Isplit}
-use Rattle.ir_core.specs.declared.signatures.Ty.TheVariants.{I8, I16, I64, I128}
+use Rattle.clk_num.specs.declared.op.Op.TheVariants.{Iadd, Isub, Sdiv, Srem, Ishl, Clz}
+use Rattle.ir_core.specs.declared.signatures.Ty.TheVariants.{I8, I16, I64}
 use Rattle.ir_core.specs.declared.signatures.Conv.TheVariants.{Fast}
 use Rattle.ir_core.specs.Module.{Const, Pure, PureImm, Store, FuncAddr, Indirect, Plain, Return, Call, Function, Module}
 use Rattle.ir_core.specs.Machine.{Returned, Trapped}
@@ -257,94 +257,3 @@ addresses_run = refl
 addresses_lost_run : outcome addresses_lost_module f (i64s (0 ∷ [])) (world [] []) 20 ≡ ends [] [] (Trapped HeapOob)
 unfolding iadd isub sdiv sdiv_trap srem divides_by_zero ishl clz band iconcat low_half high_half operation meaning row signed wrapped fits fits_signed quotient remainder sum_below with_bits zeros_from_top floored number_of bytes_of memory_read memory_write address_at written same_sig names
 addresses_lost_run = refl
-
--- The halves of an i128.
-abbrev wide_add : Function
-wide_add =
-    record {
-      name = f;
-      sig = signature (I64 ∷ I64 ∷ []) (I64 ∷ I64 ∷ []) Fast;
-      slots = [];
-      sigs = [];
-      callees = [];
-      types = (0, I64) ∷ (1, I64) ∷ (2, I128) ∷ (3, I128) ∷ (4, I64) ∷ (5, I64) ∷ [];
-      blocks =
-          record {
-            number = 0;
-            params = 0 ∷ 1 ∷ [];
-            lines =
-                record { inst = Plain (Pure Iconcat (0 ∷ 1 ∷ [])); ty = Some I64; results = 2 ∷ []; tags = [] } ∷
-                record { inst = Plain (PureImm Iadd 2 (record { width = W128; value = 1 })); ty = Some I128; results = 3 ∷ []; tags = [] } ∷
-                record { inst = Plain (Pure Isplit (3 ∷ [])); ty = Some I128; results = 4 ∷ 5 ∷ []; tags = [] } ∷
-                record { inst = Return (4 ∷ 5 ∷ []); ty = None; results = []; tags = [] } ∷
-                [];
-          } ∷
-          [];
-    }
-
-abbrev wide_band : Function
-wide_band =
-    record {
-      name = f;
-      sig = signature (I64 ∷ I64 ∷ []) (I64 ∷ I64 ∷ []) Fast;
-      slots = [];
-      sigs = [];
-      callees = [];
-      types = (0, I64) ∷ (1, I64) ∷ (2, I128) ∷ (3, I128) ∷ (4, I64) ∷ (5, I64) ∷ [];
-      blocks =
-          record {
-            number = 0;
-            params = 0 ∷ 1 ∷ [];
-            lines =
-                record { inst = Plain (Pure Iconcat (0 ∷ 1 ∷ [])); ty = Some I64; results = 2 ∷ []; tags = [] } ∷
-                record { inst = Plain (PureImm Band 2 (record { width = W128; value = 18446744073709551615 })); ty = Some I128; results = 3 ∷ []; tags = [] } ∷
-                record { inst = Plain (Pure Isplit (3 ∷ [])); ty = Some I128; results = 4 ∷ 5 ∷ []; tags = [] } ∷
-                record { inst = Return (4 ∷ 5 ∷ []); ty = None; results = []; tags = [] } ∷
-                [];
-          } ∷
-          [];
-    }
-
-abbrev wide_less : Function
-wide_less =
-    record {
-      name = f;
-      sig = signature (I64 ∷ I64 ∷ []) (I64 ∷ I64 ∷ []) Fast;
-      slots = [];
-      sigs = [];
-      callees = [];
-      types = (0, I64) ∷ (1, I64) ∷ (2, I128) ∷ (3, I128) ∷ (4, I64) ∷ (5, I64) ∷ [];
-      blocks =
-          record {
-            number = 0;
-            params = 0 ∷ 1 ∷ [];
-            lines =
-                record { inst = Plain (Pure Iconcat (0 ∷ 1 ∷ [])); ty = Some I64; results = 2 ∷ []; tags = [] } ∷
-                record { inst = Plain (PureImm Iadd 2 (record { width = W128; value = 340282366920938463463374607431768211455 })); ty = Some I128; results = 3 ∷ []; tags = [] } ∷
-                record { inst = Plain (Pure Isplit (3 ∷ [])); ty = Some I128; results = 4 ∷ 5 ∷ []; tags = [] } ∷
-                record { inst = Return (4 ∷ 5 ∷ []); ty = None; results = []; tags = [] } ∷
-                [];
-          } ∷
-          [];
-    }
-
-abbrev wide_add_module : Module
-wide_add_module = wide_add ∷ []
-
-wide_add_run : outcome wide_add_module f (i64s (18446744073709551615 ∷ 4 ∷ [])) (world [] []) 9 ≡ ends [] [] (Returned (i64s (0 ∷ 5 ∷ [])))
-unfolding iadd isub sdiv sdiv_trap srem divides_by_zero ishl clz band iconcat low_half high_half operation meaning row signed wrapped fits fits_signed quotient remainder sum_below with_bits zeros_from_top floored number_of bytes_of memory_read memory_write address_at written same_sig names
-wide_add_run = refl
-
-abbrev wide_band_module : Module
-wide_band_module = wide_band ∷ []
-
-wide_band_run : outcome wide_band_module f (i64s (5 ∷ 4 ∷ [])) (world [] []) 9 ≡ ends [] [] (Returned (i64s (5 ∷ 0 ∷ [])))
-unfolding iadd isub sdiv sdiv_trap srem divides_by_zero ishl clz band iconcat low_half high_half operation meaning row signed wrapped fits fits_signed quotient remainder sum_below with_bits zeros_from_top floored number_of bytes_of memory_read memory_write address_at written same_sig names
-wide_band_run = refl
-
-abbrev wide_less_module : Module
-wide_less_module = wide_less ∷ []
-
-wide_less_run : outcome wide_less_module f (i64s (5 ∷ 4 ∷ [])) (world [] []) 9 ≡ ends [] [] (Returned (i64s (4 ∷ 4 ∷ [])))
-unfolding iadd isub sdiv sdiv_trap srem divides_by_zero ishl clz band iconcat low_half high_half operation meaning row signed wrapped fits fits_signed quotient remainder sum_below with_bits zeros_from_top floored number_of bytes_of memory_read memory_write address_at written same_sig names
-wide_less_run = refl

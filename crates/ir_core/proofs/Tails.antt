@@ -14,13 +14,13 @@ use Rattle.debug_tags.specs.declared.tags.Tag.TheVariants.{Slot, User}
 use Rattle.ir_core.specs.declared.signatures.Ty.TheVariants.{I16, I64}
 use Rattle.ir_core.specs.declared.signatures.Conv.TheVariants.{Fast, Tail}
 use Rattle.ir_core.specs.declared.instructions.Arg.TheVariants.{Value, Ret, Exn}
-use Rattle.ir_core.specs.Module.{Const, StackStore, Jump, Direct, Indirect, Plain, Branches, Return, Call, ReturnCall, TryCall, Function, Module}
+use Rattle.ir_core.specs.Module.{Const, StackStore, Jump, Direct, Plain, Branches, Return, Call, ReturnCall, TryCall, Function, Module}
 use Rattle.ir_core.specs.Machine.{Host, Returns, Bytes, Going, Returned}
 use Rattle.ir_core.specs.Machine.{User as ShownUser}
 use Rattle.ir_core.specs.Runs.{outcome}
 use Rattle.ir_core.specs.Splice.{sides, splice_with, replace}
 use Rattle.ir_core.specs.Canon.{canonical}
-use Rattle.ir_core.proofs.Written.{signature, slot, declares, f, g, h, t, i64s, world, ends}
+use Rattle.ir_core.proofs.Written.{signature, slot, declares, f, g, h, i64s, world, ends}
 
 -- A tail call out of the callee, at a plain call.
 abbrev tail_callee : Function
@@ -428,84 +428,3 @@ recursion_result =
 recursion_text : canonical (splice_with sides recursion_caller 0 0 recursion_callee) ≡ recursion_result
 unfolding iadd isub sdiv sdiv_trap srem divides_by_zero ishl clz band iconcat low_half high_half operation meaning row signed wrapped fits fits_signed quotient remainder sum_below with_bits zeros_from_top floored number_of bytes_of memory_read memory_write address_at written same_sig names
 recursion_text = refl
-
--- An indirect tail call out of the callee.
-abbrev indirect_tail_callee : Function
-indirect_tail_callee =
-    record {
-      name = t;
-      sig = signature (I64 ∷ I64 ∷ []) (I64 ∷ []) Tail;
-      slots = [];
-      sigs = signature (I64 ∷ []) (I64 ∷ []) Tail ∷ [];
-      callees = [];
-      types = (0, I64) ∷ (1, I64) ∷ [];
-      blocks =
-          record {
-            number = 0;
-            params = 0 ∷ 1 ∷ [];
-            lines =
-                record { inst = ReturnCall (Indirect 0 0) (1 ∷ []); ty = None; results = []; tags = [] } ∷
-                [];
-          } ∷
-          [];
-    }
-
-abbrev indirect_tail_caller : Function
-indirect_tail_caller =
-    record {
-      name = f;
-      sig = signature (I64 ∷ I64 ∷ []) (I64 ∷ []) Fast;
-      slots = [];
-      sigs = signature (I64 ∷ I64 ∷ []) (I64 ∷ []) Tail ∷ [];
-      callees = declares t 0 ∷ [];
-      types = (0, I64) ∷ (1, I64) ∷ (2, I64) ∷ [];
-      blocks =
-          record {
-            number = 0;
-            params = 0 ∷ 1 ∷ [];
-            lines =
-                record { inst = Call (Direct 0) (0 ∷ 1 ∷ []); ty = None; results = 2 ∷ []; tags = [] } ∷
-                record { inst = Return (2 ∷ []); ty = None; results = []; tags = [] } ∷
-                [];
-          } ∷
-          [];
-    }
-
-abbrev indirect_tail_result : Function
-indirect_tail_result =
-    record {
-      name = f;
-      sig = signature (I64 ∷ I64 ∷ []) (I64 ∷ []) Fast;
-      slots = [];
-      sigs = signature (I64 ∷ I64 ∷ []) (I64 ∷ []) Tail ∷ signature (I64 ∷ []) (I64 ∷ []) Tail ∷ [];
-      callees = declares t 0 ∷ [];
-      types = (0, I64) ∷ (1, I64) ∷ (2, I64) ∷ (3, I64) ∷ (4, I64) ∷ (5, I64) ∷ [];
-      blocks =
-          record {
-            number = 0;
-            params = 0 ∷ 1 ∷ [];
-            lines =
-                record { inst = Branches (Jump (record { block = 1; args = Value 0 ∷ Value 1 ∷ [] })); ty = None; results = []; tags = [] } ∷
-                [];
-          } ∷
-          record {
-            number = 1;
-            params = 2 ∷ 3 ∷ [];
-            lines =
-                record { inst = Call (Indirect 1 2) (3 ∷ []); ty = None; results = 4 ∷ []; tags = [] } ∷
-                record { inst = Branches (Jump (record { block = 2; args = Value 4 ∷ [] })); ty = None; results = []; tags = [] } ∷
-                [];
-          } ∷
-          record {
-            number = 2;
-            params = 5 ∷ [];
-            lines =
-                record { inst = Return (5 ∷ []); ty = None; results = []; tags = [] } ∷
-                [];
-          } ∷
-          [];
-    }
-
-indirect_tail_text : canonical (splice_with sides indirect_tail_caller 0 0 indirect_tail_callee) ≡ indirect_tail_result
-unfolding iadd isub sdiv sdiv_trap srem divides_by_zero ishl clz band iconcat low_half high_half operation meaning row signed wrapped fits fits_signed quotient remainder sum_below with_bits zeros_from_top floored number_of bytes_of memory_read memory_write address_at written same_sig names
-indirect_tail_text = refl

@@ -1,6 +1,7 @@
 pub mod Accepted
 pub mod Alike
 pub mod Available
+pub mod Calling
 pub mod Canon
 pub mod Edits
 pub mod Effect

@@ -1,23 +1,109 @@
-//! A function built and read back, and a module with it.
-ghost use Rattle.std.specs.Prelude.{◌≡◌, IfOk};
+//! Functions built and read back, and a module with them.
+ghost use Rattle.std.specs.Prelude.{◌≡◌, ◌≤◌, ◌∷◌, [], IfOk, OnOk, None};
+ghost use Rattle.ir_core.specs.declared.names.FuncName.TheVariants.{Text};
 ghost use Rattle.ir_core.specs.Sound.{IsWhole};
+ghost use Rattle.ir_core.specs.Viewed.{instruction_of, line_of};
+ghost use Rattle.ir_core.specs.Calling as spec;
 
 use super::*;
 use debug_tags::Tags;
+use exn_tables::{Entry, Table};
 use std::alloc::{AllocError, Global};
+
+/// A parameter of a signature, of 64 bits.
+const WORD: Param = Param {
+    ty: Ty::I64,
+    ext: Ext::No,
+    purpose: Purpose::Normal,
+};
 
 /// A signature of one parameter and no result.
 fn one_param(alloc: Global) -> Result<Sig, AllocError> {
-    let param = Param {
-        ty: Ty::I64,
-        ext: Ext::No,
-        purpose: Purpose::Normal,
-    };
     Ok(Sig {
-        params: List::from_vec(vec![in alloc; param]?),
+        params: List::from_vec(vec![in alloc; WORD]?),
         results: List::from_vec(Vec::new(alloc)),
         conv: Conv::Fast,
     })
+}
+
+/// `(i64) -> i64 fast`
+fn one_to_one(alloc: Global) -> Result<Sig, AllocError>
+    ensures { IfOk result (λ sig. sig ≡ spec.one_to_one) }
+{
+    Ok(Sig {
+        params: List::from_vec(vec![in alloc; WORD]?),
+        results: List::from_vec(vec![in alloc; WORD]?),
+        conv: Conv::Fast,
+    })
+}
+
+/// `%f`, for the letter f.
+fn named(alloc: Global, letter: u8) -> Result<FuncName, AllocError>
+    ensures { IfOk result (λ name. name ≡ Text (letter ∷ [])) }
+{
+    Ok(FuncName::Text(List::from_vec(vec![in alloc; letter]?)))
+}
+
+/// A target with one argument.
+fn to(alloc: Global, block: Block, arg: Arg) -> Result<BlockCall, AllocError>
+    ensures { IfOk result (λ target. target ≡ spec.to block arg) }
+{
+    Ok(BlockCall {
+        block,
+        args: List::from_vec(vec![in alloc; arg]?),
+    })
+}
+
+/// An instruction without results and tags.
+fn line(alloc: Global, inst: Inst) -> InstData
+    ensures { line_of result ≡ spec.line (instruction_of inst) }
+{
+    InstData {
+        inst,
+        ty: None,
+        results: Values::none(),
+        tags: Tags::new(Vec::new(alloc)),
+    }
+}
+
+/// `return vN`
+fn returned(alloc: Global, value: Value) -> InstData
+    ensures { line_of result ≡ spec.returned value }
+{
+    line(alloc, Inst::Return(Values::one(value)))
+}
+
+/// `jump blockN(vM)`
+fn jump(alloc: Global, block: Block, value: Value) -> Result<InstData, AllocError>
+    ensures { IfOk result (λ line. line_of line ≡ spec.jump block value) }
+{
+    Ok(line(alloc, Inst::Jump(to(alloc, block, Arg::Value(value))?)))
+}
+
+/// `try_call fnC(vA), sig0, blockN(ret0), [ tag3: blockH(exn0) ]`
+fn tried(
+    alloc: Global,
+    callee: FuncRef,
+    arg: Value,
+    normal: Block,
+    handler: Block,
+) -> Result<InstData, AllocError>
+    ensures { IfOk result (λ line. line_of line ≡ spec.tried callee arg normal handler) }
+{
+    let entry = Entry {
+        tag: Some(3),
+        target: to(alloc, handler, Arg::Exn(0))?,
+    };
+    Ok(line(
+        alloc,
+        Inst::TryCall {
+            callee,
+            sig: SigRef::new(0),
+            args: Values::one(arg),
+            normal: to(alloc, normal, Arg::Ret(0))?,
+            table: Table::new(vec![in alloc; entry]?),
+        },
+    ))
 }
 
 /// `block0(v0: i64): return v0`
@@ -29,15 +115,146 @@ fn one_block(alloc: Global, name: FuncName) -> Result<Func, AllocError>
     let value = func.declare(Ty::I64)?;
     let block = func.add_block()?;
     func.add_param(block, value)?;
-    func.add_inst(
-        block,
-        InstData {
-            inst: Inst::Return(Values::one(value)),
-            ty: None,
-            results: Values::none(),
-            tags: Tags::new(Vec::new(alloc)),
-        },
+    func.add_inst(block, returned(alloc, value))?;
+    Ok(func)
+}
+
+/// The declarations of `%f`: a signature, the callee `%g` and three values.
+fn declared(alloc: Global) -> Result<Func, AllocError>
+    ensures { IfOk result (λ func. func.function ≡ spec.declared) }
+{
+    let mut func = Func::new(alloc, named(alloc, 102)?, one_to_one(alloc)?)?;
+    let sig = func.add_sig(one_to_one(alloc)?)?;
+    let name = named(alloc, 103)?;
+    func.add_callee(Callee {
+        name,
+        colocated: false,
+        sig,
+    })?;
+    func.declare(Ty::I64)?;
+    func.declare(Ty::I64)?;
+    func.declare(Ty::I64)?;
+    Ok(func)
+}
+
+/// Three blocks, each with one of the values as its parameter.
+fn add_blocks(func: &mut Func) -> Result<(), AllocError>
+    requires { func.old.function ≡ spec.declared }
+    ensures { OnOk result (func.new.function ≡ spec.with_blocks) }
+{
+    let entry = func.add_block()?;
+    func.add_param(entry, Value::new(0))?;
+    let normal = func.add_block()?;
+    func.add_param(normal, Value::new(1))?;
+    let handler = func.add_block()?;
+    func.add_param(handler, Value::new(2))
+}
+
+/// block0 calls `%g`, block1 returns the result and block2 what was thrown.
+fn add_insts(alloc: Global, func: &mut Func) -> Result<(), AllocError>
+    requires { func.old.function ≡ spec.with_blocks }
+    ensures { OnOk result (func.new.function ≡ spec.calling) }
+{
+    let call = tried(
+        alloc,
+        FuncRef::new(0),
+        Value::new(0),
+        Block::new(1),
+        Block::new(2),
     )?;
+    func.add_inst(Block::new(0), call)?;
+    func.add_inst(Block::new(1), returned(alloc, Value::new(1)))?;
+    func.add_inst(Block::new(2), returned(alloc, Value::new(2)))
+}
+
+/// What `%f` takes over from `%g`: the callee `%h` and two values.
+fn append_declarations(alloc: Global, func: &mut Func) -> Result<(), AllocError>
+    requires { func.old.function ≡ spec.calling }
+    ensures function { OnOk result (func.new.function ≡ spec.appended) }
+    ensures room { OnOk result ((2 ≤ func.new.room.blocks) × (3 ≤ func.new.room.insts)) }
+{
+    func.reserve(Room {
+        slots: 0,
+        sigs: 0,
+        callees: 1,
+        values: 2,
+        blocks: 2,
+        insts: 3,
+    })?;
+    let callee = Callee {
+        name: named(alloc, 104)?,
+        colocated: false,
+        sig: SigRef::new(0),
+    };
+    let callees = List::from_vec(vec![in alloc; callee]?);
+    let types = List::from_vec(vec![in alloc; Ty::I64, Ty::I64]?);
+    let (slots, sigs) = (
+        List::from_vec(Vec::new(alloc)),
+        List::from_vec(Vec::new(alloc)),
+    );
+    func.append(slots, sigs, callees, types);
+    Ok(())
+}
+
+/// Two blocks behind block0: one for the body of `%g`, and one behind its call.
+fn insert_blocks(alloc: Global, func: &mut Func) -> Result<(), AllocError>
+    requires function { func.old.function ≡ spec.appended }
+    requires room { 2 ≤ func.old.room.blocks }
+    ensures function { OnOk result (func.new.function ≡ spec.linked) }
+    ensures room { OnOk result (func.new.room.insts ≡ func.old.room.insts) }
+{
+    let of_body = List::from_vec(vec![in alloc; Value::new(3)]?);
+    let of_back = List::from_vec(vec![in alloc; Value::new(4)]?);
+    let body = func.insert_block(Block::new(0), of_body);
+    func.insert_block(body, of_back);
+    Ok(())
+}
+
+/// The call of `%g` is taken away.
+fn take_call(func: &mut Func)
+    requires { func.old.function ≡ spec.linked }
+    ensures function { func.new.function ≡ spec.emptied }
+    ensures room { func.new.room ≡ func.old.room }
+{
+    let _ = func.take_last(Block::new(0));
+}
+
+/// In its place comes a jump into the body of `%g`, which calls `%h` and jumps to block1.
+fn put_insts(func: &mut Func, enter: InstData, call: InstData, leave: InstData)
+    requires function { func.old.function ≡ spec.emptied }
+    requires room { 3 ≤ func.old.room.insts }
+    requires enter { line_of enter ≡ spec.jump 3 0 }
+    requires call { line_of call ≡ spec.tried 1 3 4 2 }
+    requires leave { line_of leave ≡ spec.jump 1 4 }
+    ensures { func.new.function ≡ spec.inlined }
+{
+    let entry = Block::new(0);
+    func.put_inst(entry, enter);
+    func.put_inst(entry, call);
+    func.cut(entry, 1, Block::new(3));
+    func.put_inst(Block::new(4), leave);
+}
+
+/// `%f` with its call replaced by the body of `%g`, by the calls that change a function in place.
+fn inlined(alloc: Global) -> Result<Func, AllocError>
+    ensures { IfOk result (λ func. func.function ≡ spec.inlined) }
+{
+    let mut func = declared(alloc)?;
+    add_blocks(&mut func)?;
+    add_insts(alloc, &mut func)?;
+    append_declarations(alloc, &mut func)?;
+    insert_blocks(alloc, &mut func)?;
+    let enter = jump(alloc, Block::new(3), Value::new(0))?;
+    let call = tried(
+        alloc,
+        FuncRef::new(1),
+        Value::new(3),
+        Block::new(4),
+        Block::new(2),
+    )?;
+    let leave = jump(alloc, Block::new(1), Value::new(4))?;
+    take_call(&mut func);
+    put_insts(&mut func, enter, call, leave);
     Ok(func)
 }
 
@@ -57,6 +274,33 @@ fn reads_back(rt: HostRuntime) -> Result<(), AllocError> {
     module.push(func)?;
     assert_eq!(rt; module.find(&name), Some(0));
     assert_eq!(rt; module.len(), 1);
+    Ok(())
+}
+
+#[test]
+fn reads_back_what_was_inlined(rt: HostRuntime) -> Result<(), AllocError> {
+    let alloc = rt.alloc();
+    let func = inlined(alloc)?;
+    assert!(rt; matches!(func.name(), FuncName::Text(text) if text.as_slice() == b"f".as_slice()));
+    assert_eq!(rt; func.sig().params.as_slice(), [WORD].as_slice());
+    assert_eq!(rt; func.sig().results.as_slice(), [WORD].as_slice());
+    assert!(rt; func.slots().is_empty());
+    assert_eq!(rt; func.sigs().len(), 1);
+    assert_eq!(rt; func.callees().len(), 2);
+    assert_eq!(rt; func.values(), 5);
+    assert_eq!(rt; func.ty(Value::new(4)), Ty::I64);
+    assert!(rt; func.whole());
+    assert_eq!(rt; func.size(), 28);
+
+    let mut place = 0;
+    let numbers = [0, 3, 4, 1, 2];
+    for block in func.blocks() {
+        assert_eq!(rt; block, Block::new(numbers[place]));
+        assert_eq!(rt; func.params(block), [Value::new(numbers[place])].as_slice());
+        assert_eq!(rt; func.insts(block).count(), 1);
+        place += 1;
+    }
+    assert_eq!(rt; place, 5);
     Ok(())
 }
 

@@ -223,10 +223,10 @@ fn opcode_number(alloc: Global, text: &str) -> Option<u64> {
 
 #[test]
 fn reads_every_opcode(rt: HostRuntime) {
-    let mut number = 0;
+    let mut number: u64 = 0;
     for line in EVERY_OPCODE.lines() {
         assert_eq!(rt; opcode_number(rt.alloc(), line), Some(number), "at {line}");
-        number += 1;
+        number = number.saturating_add(1);
     }
     assert_eq!(rt; number, 79);
 }

@@ -1,6 +1,8 @@
 //! Functions built and read back, and a module with them.
 ghost use Rattle.std.specs.Prelude.{◌≡◌, ◌≤◌, ◌∷◌, [], IfOk, OnOk, None};
 ghost use Rattle.ir_core.specs.declared.names.FuncName.TheVariants.{Text};
+ghost use Rattle.ir_core.specs.Lists.{In};
+ghost use Rattle.ir_core.specs.Lookup.{block_numbers};
 ghost use Rattle.ir_core.specs.Sound.{IsWhole};
 ghost use Rattle.ir_core.specs.Viewed.{instruction_of, line_of};
 ghost use Rattle.ir_core.specs.Calling as spec;
@@ -277,6 +279,57 @@ fn reads_back(rt: HostRuntime) -> Result<(), AllocError> {
     Ok(())
 }
 
+/// A block as it is read back: its number, how many parameters it has, and its one instruction by opcode, first value and the block where it goes on.
+type Told = (u32, usize, &'static str, u32, Option<u32>);
+
+fn told(func: &Func, block: Block) -> Told
+    requires { In block (block_numbers func.now.function.blocks) }
+{
+    let number = block.number();
+    let params = func.params(block).len();
+    let mut insts = func.insts(block);
+    let (Some(first), None) = (insts.next(), insts.next()) else {
+        return (number, params, "", 0, None);
+    };
+    match &first.inst {
+        Inst::Jump(target) => {
+            let next = target.block.number();
+            (number, params, "jump", first_argument(target), Some(next))
+        }
+        Inst::TryCall { args, normal, .. } => {
+            let next = normal.block.number();
+            (number, params, "try_call", first_value(args), Some(next))
+        }
+        Inst::Return(values) => (number, params, "return", first_value(values), None),
+        _ => (number, params, "", 0, None),
+    }
+}
+
+/// The blocks in order.
+fn all_told(alloc: Global, func: &Func) -> Result<Vec<Told>, AllocError> {
+    let mut list = Vec::new(alloc);
+    for block in func.blocks() {
+        list.push(told(func, block))?;
+    }
+    Ok(list)
+}
+
+/// The number of the first of some values.
+fn first_value(values: &Values) -> u32 {
+    match values.as_slice() {
+        [first, ..] => first.number(),
+        [] => 0,
+    }
+}
+
+/// The number of a target's first argument, where it is a value.
+fn first_argument(target: &BlockCall) -> u32 {
+    match target.args.as_slice() {
+        [Arg::Value(value), ..] => value.number(),
+        _ => 0,
+    }
+}
+
 #[test]
 fn reads_back_what_was_inlined(rt: HostRuntime) -> Result<(), AllocError> {
     let alloc = rt.alloc();
@@ -292,11 +345,14 @@ fn reads_back_what_was_inlined(rt: HostRuntime) -> Result<(), AllocError> {
     assert!(rt; func.whole());
     assert_eq!(rt; func.size(), 28);
 
-    let mut numbers = [0, 3, 4, 1, 2].into_iter();
-    for block in func.blocks() {
-        assert_eq!(rt; numbers.next(), Some(block.number()));
-    }
-    assert_eq!(rt; numbers.next(), None);
+    let expected = [
+        (0, 1, "jump", 0, Some(3)),
+        (3, 1, "try_call", 3, Some(4)),
+        (4, 1, "jump", 4, Some(1)),
+        (1, 1, "return", 1, None),
+        (2, 1, "return", 2, None),
+    ];
+    assert!(rt; all_told(alloc, &func)?.as_slice() == expected.as_slice());
     Ok(())
 }
 

@@ -16,3 +16,4 @@ pub mod Names
 pub mod Singles
 pub mod FlagLetter
 pub mod Next
+pub mod Choice

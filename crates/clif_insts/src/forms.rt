@@ -1,6 +1,10 @@
 //! The forms of instructions, told apart by the class of the opcode.
 
-ghost use Rattle.std.specs.Prelude.{◌<◌, length, IfOk};
+ghost use Rattle.std.specs.Prelude.{◌≡◌, if◌then◌else◌, ℕ, List, ◌<◌, length, IfOk};
+ghost use Rattle.grammar.specs.Rules.{heads, member};
+ghost use Rattle.clif_words.specs.Classes.{code};
+ghost use Rattle.clif_insts.specs.declared.stop.Stop.TheVariants.{UnknownOpcode, Syntax};
+ghost use Rattle.clif_insts.specs.Grammar.{excepted, words_but};
 ghost use Rattle.clif_insts.specs.Reading.{Gives, same};
 ghost use Rattle.clif_insts.specs.Forms as spec;
 
@@ -15,67 +19,66 @@ use crate::stop::Stop;
 use clif_words::Class;
 use std::alloc::Global;
 
+/// Why a token of this class begins no instruction behind what stands before it.
+fn no_opcode(opening: Opening, class: Class) -> Stop
+    ensures { result ≡ (if member (code class) (words_but (excepted opening)) then UnknownOpcode else Syntax) }
+{
+    if opening.refuses(class) {
+        Stop::UnknownOpcode
+    } else {
+        Stop::Syntax
+    }
+}
+
+/// An instruction whose first token is of this class.
+fn inst_of(
+    alloc: Global,
+    reader: &mut Reader<'_>,
+    opening: Opening,
+    class: Class,
+) -> Result<RawInst, Stop>
+    requires class { (codes : List ℕ) → member (code class) codes ≡ heads codes reader.old }
+    ensures is { Gives same reader.new result (spec.inst_at opening reader.old) }
+    ensures shorter { IfOk result (λ _. length reader.new < length reader.old) }
+{
+    match class {
+        Class::Iconst => iconst(reader),
+        Class::Binary => binary(reader),
+        Class::Unary => unary(reader),
+        Class::Icmp => icmp(reader),
+        Class::Select => select(reader),
+        Class::Convert => convert(reader),
+        Class::BinaryImm => binary_imm(reader),
+        Class::IcmpImm => icmp_imm(reader),
+        Class::Load => load(alloc, reader),
+        Class::LoadWide => load_wide(alloc, reader),
+        Class::Store => store(alloc, reader),
+        Class::StackLoad => stack_load(reader),
+        Class::StackStore => stack_store(reader),
+        Class::FuncAddr => func_addr(reader),
+        Class::Nullary => nullary(reader),
+        Class::Jump => jump(alloc, reader),
+        Class::Brif => brif(alloc, reader),
+        Class::BrTable => br_table(alloc, reader),
+        Class::Return => return_inst(alloc, reader),
+        Class::Trap => trap_inst(reader),
+        Class::TrapIf => trap_if(reader),
+        Class::Call => call(alloc, reader),
+        Class::TryCall => try_call(alloc, reader),
+        Class::CallIndirect => call_indirect(alloc, reader),
+        Class::TryCallIndirect => try_call_indirect(alloc, reader),
+        Class::RefusedOpcode => Err(Stop::Unsupported),
+        _ => Err(no_opcode(opening, class)),
+    }
+}
+
 /// An instruction behind what stands before it. The values of a `return` are not part of it.
-#[tactic(auto, unfolding(crate::specs::Forms::inst_at))]
 pub fn any_inst(alloc: Global, reader: &mut Reader<'_>, opening: Opening) -> Result<RawInst, Stop>
     ensures is { Gives same reader.new result (spec.inst_at opening reader.old) }
     ensures shorter { IfOk result (λ _. length reader.new < length reader.old) }
 {
-    if reader.next_is(Class::Iconst) {
-        iconst(reader)
-    } else if reader.next_is(Class::Binary) {
-        binary(reader)
-    } else if reader.next_is(Class::Unary) {
-        unary(reader)
-    } else if reader.next_is(Class::Icmp) {
-        icmp(reader)
-    } else if reader.next_is(Class::Select) {
-        select(reader)
-    } else if reader.next_is(Class::Convert) {
-        convert(reader)
-    } else if reader.next_is(Class::BinaryImm) {
-        binary_imm(reader)
-    } else if reader.next_is(Class::IcmpImm) {
-        icmp_imm(reader)
-    } else if reader.next_is(Class::Load) {
-        load(alloc, reader)
-    } else if reader.next_is(Class::LoadWide) {
-        load_wide(alloc, reader)
-    } else if reader.next_is(Class::Store) {
-        store(alloc, reader)
-    } else if reader.next_is(Class::StackLoad) {
-        stack_load(reader)
-    } else if reader.next_is(Class::StackStore) {
-        stack_store(reader)
-    } else if reader.next_is(Class::FuncAddr) {
-        func_addr(reader)
-    } else if reader.next_is(Class::Nullary) {
-        nullary(reader)
-    } else if reader.next_is(Class::Jump) {
-        jump(alloc, reader)
-    } else if reader.next_is(Class::Brif) {
-        brif(alloc, reader)
-    } else if reader.next_is(Class::BrTable) {
-        br_table(alloc, reader)
-    } else if reader.next_is(Class::Return) {
-        return_inst(alloc, reader)
-    } else if reader.next_is(Class::Trap) {
-        trap_inst(reader)
-    } else if reader.next_is(Class::TrapIf) {
-        trap_if(reader)
-    } else if reader.next_is(Class::Call) {
-        call(alloc, reader)
-    } else if reader.next_is(Class::TryCall) {
-        try_call(alloc, reader)
-    } else if reader.next_is(Class::CallIndirect) {
-        call_indirect(alloc, reader)
-    } else if reader.next_is(Class::TryCallIndirect) {
-        try_call_indirect(alloc, reader)
-    } else if reader.next_is(Class::RefusedOpcode) {
-        Err(Stop::Unsupported)
-    } else if reader.next_is_refused(opening) {
-        Err(Stop::UnknownOpcode)
-    } else {
-        Err(Stop::Syntax)
+    match reader.next_class() {
+        Some(class) => inst_of(alloc, reader, opening, class),
+        None => Err(Stop::Syntax),
     }
 }

@@ -14,3 +14,4 @@ pub mod Insts
 pub mod Names
 pub mod FlagLetter
 pub mod Next
+pub mod Listed

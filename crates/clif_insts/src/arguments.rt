@@ -1,11 +1,11 @@
 //! Values behind one another, and the arguments of a call.
 
-ghost use Rattle.std.specs.Prelude.{◌≡◌, ◌∷◌, [], ◌<◌, ◌≤◌, length, IfOk, IfErr};
+ghost use Rattle.std.specs.Prelude.{◌∷◌, [], ◌<◌, ◌≤◌, length, IfOk};
 ghost use Rattle.clif_words.specs.declared.class.Class.TheVariants as classes;
-ghost use Rattle.clif_insts.specs.declared.stop.Stop.TheVariants.{NoMemory};
 ghost use Rattle.clif_insts.specs.Reading.{Gives, same};
 ghost use Rattle.clif_insts.specs.Arguments as spec;
 
+use crate::lists::{RawNames, one_item};
 use crate::raw::RawName;
 use crate::reader::Reader;
 use crate::stop::Stop;
@@ -21,15 +21,6 @@ pub fn comma_value(reader: &mut Reader<'_>) -> Result<RawName, Stop>
     reader.take(Class::Value)
 }
 
-pub fn one_value(alloc: Global, item: RawName) -> Result<Vec<RawName>, Stop>
-    ensures some { IfOk result (λ list. list.items ≡ item ∷ []) }
-    ensures none { IfErr result (λ e. e ≡ NoMemory) }
-{
-    let mut list = Vec::new(alloc);
-    list.push(item)?;
-    Ok(list)
-}
-
 /// Those behind commas, after those in front.
 pub fn more_values(reader: &mut Reader<'_>, front: Vec<RawName>) -> Result<Vec<RawName>, Stop>
     ensures is { Gives (λ x. x.items) reader.new result (spec.more_values_at front.items reader.old) }
@@ -43,6 +34,19 @@ pub fn more_values(reader: &mut Reader<'_>, front: Vec<RawName>) -> Result<Vec<R
     Ok(list)
 }
 
+/// This value and those behind commas after it.
+pub fn more_names(alloc: Global, reader: &mut Reader<'_>, first: RawName) -> Result<RawNames, Stop>
+    ensures is { Gives same reader.new result (spec.more_values_at (first ∷ []) reader.old) }
+    ensures shorter { IfOk result (λ _. length reader.new ≤ length reader.old) }
+{
+    if reader.next_is(Class::Comma) {
+        let front = one_item(alloc, first)?;
+        Ok(RawNames::from_vec(more_values(reader, front)?))
+    } else {
+        Ok(RawNames::one(first))
+    }
+}
+
 /// Values.
 #[tactic(auto, unfolding(crate::specs::Arguments::values_at))]
 pub fn values(alloc: Global, reader: &mut Reader<'_>) -> Result<Vec<RawName>, Stop>
@@ -50,7 +54,7 @@ pub fn values(alloc: Global, reader: &mut Reader<'_>) -> Result<Vec<RawName>, St
     ensures shorter { IfOk result (λ _. length reader.new < length reader.old) }
 {
     let value = reader.take(Class::Value)?;
-    let front = one_value(alloc, value)?;
+    let front = one_item(alloc, value)?;
     more_values(reader, front)
 }
 

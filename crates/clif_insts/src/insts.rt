@@ -8,8 +8,9 @@ ghost use Rattle.clif_insts.specs.Forms as forms;
 ghost use Rattle.clif_insts.specs.Insts.{Found, Stopped};
 ghost use Rattle.clif_insts.specs.Insts as insts;
 
-use crate::arguments::{more_values, one_value};
+use crate::arguments::more_values;
 use crate::forms::any_inst;
+use crate::lists::one_item;
 use crate::opening::Opening;
 use crate::raw::{RawInst, RawName, RawOperands};
 use crate::reader::Reader;
@@ -58,7 +59,7 @@ fn own_values(alloc: Global, reader: &mut Reader<'_>) -> Result<Vec<RawName>, St
         *reader = behind;
         return Ok(Vec::new(alloc));
     }
-    let front = one_value(alloc, value)?;
+    let front = one_item(alloc, value)?;
     let values = more_values(reader, front)?;
     if reader.next_is(Class::Equals) {
         *reader = behind;

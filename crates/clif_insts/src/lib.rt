@@ -9,6 +9,7 @@ mod flags;
 mod forms;
 mod insts;
 mod laws;
+mod lists;
 mod memory;
 mod numbers;
 mod opening;
@@ -22,9 +23,10 @@ mod targets;
 mod tests;
 mod types;
 
-pub use arguments::{comma_value, more_values, one_value, values};
+pub use arguments::{comma_value, more_names, more_values, values};
 pub use forms::any_inst;
 pub use insts::{SyntaxErr, inst};
+pub use lists::{RawNames, one_item};
 pub use numbers::number;
 pub use opening::Opening;
 pub use raw::{

@@ -1,10 +1,10 @@
 //! Exception tables.
 
-ghost use Rattle.std.specs.Prelude.{◌≡◌, ◌∷◌, [], ◌<◌, ◌≤◌, length, IfOk, IfErr};
-ghost use Rattle.clif_insts.specs.declared.stop.Stop.TheVariants.{NoMemory};
+ghost use Rattle.std.specs.Prelude.{◌<◌, ◌≤◌, length, IfOk};
 ghost use Rattle.clif_insts.specs.Reading.{Gives, same};
 ghost use Rattle.clif_insts.specs.Tables as spec;
 
+use crate::lists::one_item;
 use crate::raw::{RawEntry, RawName};
 use crate::reader::Reader;
 use crate::stop::Stop;
@@ -53,15 +53,6 @@ pub(crate) fn comma_entry(alloc: Global, reader: &mut Reader<'_>) -> Result<RawE
     entry(alloc, reader)
 }
 
-fn one_entry(alloc: Global, item: RawEntry) -> Result<Vec<RawEntry>, Stop>
-    ensures some { IfOk result (λ list. list.items ≡ item ∷ []) }
-    ensures none { IfErr result (λ e. e ≡ NoMemory) }
-{
-    let mut list = Vec::new(alloc);
-    list.push(item)?;
-    Ok(list)
-}
-
 /// Those behind commas, after those in front.
 pub(crate) fn more_entries(
     alloc: Global,
@@ -85,7 +76,7 @@ pub(crate) fn entries(alloc: Global, reader: &mut Reader<'_>) -> Result<Vec<RawE
     ensures shorter { IfOk result (λ _. length reader.new < length reader.old) }
 {
     let first = entry(alloc, reader)?;
-    let front = one_entry(alloc, first)?;
+    let front = one_item(alloc, first)?;
     more_entries(alloc, reader, front)
 }
 

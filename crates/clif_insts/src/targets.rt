@@ -1,10 +1,10 @@
 //! Targets of branches.
 
-ghost use Rattle.std.specs.Prelude.{◌≡◌, ◌∷◌, [], ◌<◌, ◌≤◌, length, IfOk, IfErr};
-ghost use Rattle.clif_insts.specs.declared.stop.Stop.TheVariants.{NoMemory};
+ghost use Rattle.std.specs.Prelude.{◌≡◌, ◌<◌, ◌≤◌, length, IfOk};
 ghost use Rattle.clif_insts.specs.Reading.{Gives, same};
 ghost use Rattle.clif_insts.specs.Targets as spec;
 
+use crate::lists::one_item;
 use crate::raw::{RawArg, RawTarget};
 use crate::reader::Reader;
 use crate::stop::Stop;
@@ -55,15 +55,6 @@ pub(crate) fn comma_arg(reader: &mut Reader<'_>, place: Place) -> Result<RawArg,
     arg(reader, place)
 }
 
-fn one_arg(alloc: Global, item: RawArg) -> Result<Vec<RawArg>, Stop>
-    ensures some { IfOk result (λ list. list.items ≡ item ∷ []) }
-    ensures none { IfErr result (λ e. e ≡ NoMemory) }
-{
-    let mut list = Vec::new(alloc);
-    list.push(item)?;
-    Ok(list)
-}
-
 /// Those behind commas, after those in front.
 pub(crate) fn more_args(
     reader: &mut Reader<'_>,
@@ -91,7 +82,7 @@ pub(crate) fn some_args(
     ensures shorter { IfOk result (λ _. length reader.new < length reader.old) }
 {
     let first = arg(reader, place)?;
-    let front = one_arg(alloc, first)?;
+    let front = one_item(alloc, first)?;
     more_args(reader, place, front)
 }
 
@@ -168,15 +159,6 @@ pub(crate) fn comma_target(alloc: Global, reader: &mut Reader<'_>) -> Result<Raw
     target(alloc, reader, Place::Branch)
 }
 
-fn one_target(alloc: Global, item: RawTarget) -> Result<Vec<RawTarget>, Stop>
-    ensures some { IfOk result (λ list. list.items ≡ item ∷ []) }
-    ensures none { IfErr result (λ e. e ≡ NoMemory) }
-{
-    let mut list = Vec::new(alloc);
-    list.push(item)?;
-    Ok(list)
-}
-
 /// Those behind commas, after those in front.
 pub(crate) fn more_targets(
     alloc: Global,
@@ -200,7 +182,7 @@ pub(crate) fn targets(alloc: Global, reader: &mut Reader<'_>) -> Result<Vec<RawT
     ensures shorter { IfOk result (λ _. length reader.new < length reader.old) }
 {
     let first = target(alloc, reader, Place::Branch)?;
-    let front = one_target(alloc, first)?;
+    let front = one_item(alloc, first)?;
     more_targets(alloc, reader, front)
 }
 

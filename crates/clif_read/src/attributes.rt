@@ -7,7 +7,7 @@ ghost use Rattle.clif_read.specs.DeclarationValues as values;
 ghost use Rattle.clif_read.specs.Attributes as spec;
 
 use crate::raw::RawAttribute;
-use clif_insts::{Reader, Stop};
+use clif_insts::{Reader, Stop, one_item};
 use clif_words::Class;
 use std::alloc::Global;
 
@@ -46,15 +46,6 @@ fn purpose(reader: &mut Reader<'_>) -> Result<RawAttribute, Stop>
     }
 }
 
-fn one_attribute(alloc: Global, item: RawAttribute) -> Result<Vec<RawAttribute>, Stop>
-    ensures some { IfOk result (λ list. list.items ≡ item ∷ []) }
-    ensures none { IfErr result (λ e. e ≡ NoMemory) }
-{
-    let mut list = Vec::new(alloc);
-    list.push(item)?;
-    Ok(list)
-}
-
 fn two_attributes(
     alloc: Global,
     first: RawAttribute,
@@ -83,7 +74,7 @@ fn opt_purpose(
         let second = purpose(reader)?;
         two_attributes(alloc, first, second)
     } else {
-        one_attribute(alloc, first)
+        one_item(alloc, first)
     }
 }
 
@@ -101,7 +92,7 @@ fn opt_ext(
         let second = ext(reader)?;
         two_attributes(alloc, first, second)
     } else {
-        one_attribute(alloc, first)
+        one_item(alloc, first)
     }
 }
 

@@ -1,12 +1,11 @@
 //! What stands at the head of a module and of a block.
 
-ghost use Rattle.std.specs.Prelude.{◌≡◌, ◌∷◌, [], ◌<◌, ◌≤◌, length, IfOk, IfErr};
-ghost use Rattle.clif_insts.specs.declared.stop.Stop.TheVariants.{NoMemory};
+ghost use Rattle.std.specs.Prelude.{◌<◌, ◌≤◌, length, IfOk};
 ghost use Rattle.clif_insts.specs.Reading.{Gives, same};
 ghost use Rattle.clif_read.specs.Heads as spec;
 
 use crate::raw::RawBlockParam;
-use clif_insts::{Reader, Stop, any_type};
+use clif_insts::{Reader, Stop, any_type, one_item};
 use clif_words::Class;
 use std::alloc::Global;
 
@@ -54,15 +53,6 @@ fn comma_block_param(reader: &mut Reader<'_>) -> Result<RawBlockParam, Stop>
     block_param(reader)
 }
 
-fn one_block_param(alloc: Global, item: RawBlockParam) -> Result<Vec<RawBlockParam>, Stop>
-    ensures some { IfOk result (λ list. list.items ≡ item ∷ []) }
-    ensures none { IfErr result (λ e. e ≡ NoMemory) }
-{
-    let mut list = Vec::new(alloc);
-    list.push(item)?;
-    Ok(list)
-}
-
 /// Those behind commas, after those in front.
 fn more_block_params(
     reader: &mut Reader<'_>,
@@ -85,7 +75,7 @@ fn some_block_params(alloc: Global, reader: &mut Reader<'_>) -> Result<Vec<RawBl
     ensures shorter { IfOk result (λ _. length reader.new < length reader.old) }
 {
     let first = block_param(reader)?;
-    let front = one_block_param(alloc, first)?;
+    let front = one_item(alloc, first)?;
     more_block_params(reader, front)
 }
 

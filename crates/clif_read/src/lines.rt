@@ -12,7 +12,8 @@ ghost use Rattle.clif_read.specs.Lines as spec;
 use crate::raw::{RawLine, RawTag};
 use crate::tags::debug_tags;
 use clif_insts::{
-    Opening, RawInst, RawName, RawOperands, Reader, Stop, any_inst, more_values, one_value, values,
+    Opening, RawInst, RawName, RawNames, RawOperands, Reader, Stop, any_inst, more_values, more_names,
+    one_item,
 };
 use clif_words::Class;
 use ir_core::List;
@@ -61,13 +62,12 @@ fn results(
     ensures is { Gives same reader.new result (spec.results_at location first reader.old) }
     ensures shorter { IfOk result (λ _. length reader.new < length reader.old) }
 {
-    let front = one_value(alloc, first)?;
-    let results = more_values(reader, front)?;
+    let results = more_names(alloc, reader, first)?;
     let inst = made(alloc, reader)?;
     Ok(RawLine::Inst {
         location,
         tags: List::from_vec(Vec::new(alloc)),
-        results: List::from_vec(results),
+        results,
         inst,
     })
 }
@@ -102,13 +102,16 @@ fn plain(
     Ok(RawLine::Inst {
         location,
         tags,
-        results: List::from_vec(Vec::new(alloc)),
+        results: RawNames::from_vec(Vec::new(alloc)),
         inst,
     })
 }
 
 /// Results behind tags, and their instruction.
-#[tactic(auto, unfolding(crate::specs::Lines::tagged_results_at))]
+#[tactic(
+    auto,
+    unfolding(crate::specs::Lines::tagged_results_at, Rattle.clif_insts.specs.Arguments.values_at)
+)]
 fn tagged_results(
     alloc: Global,
     reader: &mut Reader<'_>,
@@ -118,12 +121,13 @@ fn tagged_results(
     ensures is { Gives same reader.new result (spec.tagged_results_at location tags reader.old) }
     ensures shorter { IfOk result (λ _. length reader.new < length reader.old) }
 {
-    let results = values(alloc, reader)?;
+    let first = reader.take(Class::Value)?;
+    let results = more_names(alloc, reader, first)?;
     let inst = made(alloc, reader)?;
     Ok(RawLine::Inst {
         location,
         tags,
-        results: List::from_vec(results),
+        results,
         inst,
     })
 }
@@ -186,7 +190,7 @@ fn opt_made(alloc: Global, reader: &mut Reader<'_>, values: List<RawName>) -> Re
         Ok(LinePart::Whole(RawLine::Inst {
             location: None,
             tags: List::from_vec(Vec::new(alloc)),
-            results: values,
+            results: RawNames::from_vec(values.into_vec()),
             inst,
         }))
     } else {
@@ -204,7 +208,7 @@ fn values_or_results(
     ensures is { Gives same reader.new result (spec.values_or_results_at first reader.old) }
     ensures shorter { IfOk result (λ _. length reader.new ≤ length reader.old) }
 {
-    let front = one_value(alloc, first)?;
+    let front = one_item(alloc, first)?;
     let values = more_values(reader, front)?;
     opt_made(alloc, reader, List::from_vec(values))
 }
@@ -310,5 +314,6 @@ pub(crate) fn block_lines(alloc: Global, reader: &mut Reader<'_>) -> Result<Vec<
         after_return = is_return(&part);
         add_part(&mut list, part)?;
     }
+    list.shrink_to_fit();
     Ok(list)
 }

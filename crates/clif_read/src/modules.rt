@@ -1,7 +1,6 @@
 //! Blocks, functions and modules.
 
-ghost use Rattle.std.specs.Prelude.{◌≡◌, ◌∷◌, [], ◌<◌, ◌≤◌, length, IfOk, IfErr};
-ghost use Rattle.clif_insts.specs.declared.stop.Stop.TheVariants.{NoMemory};
+ghost use Rattle.std.specs.Prelude.{◌<◌, ◌≤◌, length, IfOk};
 ghost use Rattle.clif_insts.specs.Reading.{Gives, same};
 ghost use Rattle.clif_read.specs.Modules as spec;
 
@@ -10,7 +9,7 @@ use crate::heads::{block_params, headers};
 use crate::lines::block_lines;
 use crate::raw::{RawBlock, RawBlockParam, RawFunction, RawModule};
 use crate::signatures::signature;
-use clif_insts::{Reader, Stop};
+use clif_insts::{Reader, Stop, one_item};
 use clif_words::Class;
 use ir_core::List;
 use std::alloc::Global;
@@ -60,15 +59,6 @@ fn block(alloc: Global, reader: &mut Reader<'_>) -> Result<RawBlock, Stop>
     })
 }
 
-fn one_block(alloc: Global, item: RawBlock) -> Result<Vec<RawBlock>, Stop>
-    ensures some { IfOk result (λ list. list.items ≡ item ∷ []) }
-    ensures none { IfErr result (λ e. e ≡ NoMemory) }
-{
-    let mut list = Vec::new(alloc);
-    list.push(item)?;
-    Ok(list)
-}
-
 /// Blocks, after those in front.
 fn more_blocks(
     alloc: Global,
@@ -98,7 +88,7 @@ fn function(alloc: Global, reader: &mut Reader<'_>) -> Result<RawFunction, Stop>
     reader.take(Class::LeftBrace)?;
     let decls = decls(alloc, reader)?;
     let first = block(alloc, reader)?;
-    let front = one_block(alloc, first)?;
+    let front = one_item(alloc, first)?;
     let blocks = more_blocks(alloc, reader, front)?;
     reader.take(Class::RightBrace)?;
     Ok(RawFunction {

@@ -1,14 +1,13 @@
 //! Signatures.
 
-ghost use Rattle.std.specs.Prelude.{◌≡◌, ◌∷◌, [], ◌<◌, ◌≤◌, length, IfOk, IfErr};
-ghost use Rattle.clif_insts.specs.declared.stop.Stop.TheVariants.{NoMemory};
+ghost use Rattle.std.specs.Prelude.{◌≡◌, ◌<◌, ◌≤◌, length, IfOk};
 ghost use Rattle.clif_insts.specs.Reading.{Gives, same};
 ghost use Rattle.clif_read.specs.DeclarationValues as values;
 ghost use Rattle.clif_read.specs.Signatures as spec;
 
 use crate::attributes::attributes;
 use crate::raw::{RawParam, RawSignature};
-use clif_insts::{Reader, Stop, any_type};
+use clif_insts::{Reader, Stop, any_type, one_item};
 use clif_words::Class;
 use ir_core::{Conv, List};
 use std::alloc::Global;
@@ -36,15 +35,6 @@ fn comma_param(alloc: Global, reader: &mut Reader<'_>) -> Result<RawParam, Stop>
     param(alloc, reader)
 }
 
-fn one_param(alloc: Global, item: RawParam) -> Result<Vec<RawParam>, Stop>
-    ensures some { IfOk result (λ list. list.items ≡ item ∷ []) }
-    ensures none { IfErr result (λ e. e ≡ NoMemory) }
-{
-    let mut list = Vec::new(alloc);
-    list.push(item)?;
-    Ok(list)
-}
-
 /// Those behind commas, after those in front.
 fn more_params(
     alloc: Global,
@@ -68,7 +58,7 @@ fn params(alloc: Global, reader: &mut Reader<'_>) -> Result<Vec<RawParam>, Stop>
     ensures shorter { IfOk result (λ _. length reader.new < length reader.old) }
 {
     let first = param(alloc, reader)?;
-    let front = one_param(alloc, first)?;
+    let front = one_item(alloc, first)?;
     more_params(alloc, reader, front)
 }
 

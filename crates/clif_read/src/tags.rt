@@ -1,12 +1,11 @@
 //! Debug tags.
 
-ghost use Rattle.std.specs.Prelude.{◌≡◌, ◌∷◌, [], ◌<◌, ◌≤◌, length, IfOk, IfErr};
-ghost use Rattle.clif_insts.specs.declared.stop.Stop.TheVariants.{NoMemory};
+ghost use Rattle.std.specs.Prelude.{◌<◌, ◌≤◌, length, IfOk};
 ghost use Rattle.clif_insts.specs.Reading.{Gives, same};
 ghost use Rattle.clif_read.specs.Tags as spec;
 
 use crate::raw::RawTag;
-use clif_insts::{Reader, Stop, number};
+use clif_insts::{Reader, Stop, number, one_item};
 use clif_words::Class;
 use std::alloc::Global;
 
@@ -32,15 +31,6 @@ fn comma_tag(reader: &mut Reader<'_>) -> Result<RawTag, Stop>
     debug_tag(reader)
 }
 
-fn one_tag(alloc: Global, item: RawTag) -> Result<Vec<RawTag>, Stop>
-    ensures some { IfOk result (λ list. list.items ≡ item ∷ []) }
-    ensures none { IfErr result (λ e. e ≡ NoMemory) }
-{
-    let mut list = Vec::new(alloc);
-    list.push(item)?;
-    Ok(list)
-}
-
 /// Those behind commas, after those in front.
 fn more_tags(reader: &mut Reader<'_>, front: Vec<RawTag>) -> Result<Vec<RawTag>, Stop>
     ensures is { Gives (λ x. x.items) reader.new result (spec.more_tags_at front.items reader.old) }
@@ -60,7 +50,7 @@ fn some_tags(alloc: Global, reader: &mut Reader<'_>) -> Result<Vec<RawTag>, Stop
     ensures shorter { IfOk result (λ _. length reader.new < length reader.old) }
 {
     let first = debug_tag(reader)?;
-    let front = one_tag(alloc, first)?;
+    let front = one_item(alloc, first)?;
     more_tags(reader, front)
 }
 

@@ -12,8 +12,8 @@ ghost use Rattle.clif_read.specs.Lines as spec;
 use crate::raw::{RawLine, RawTag};
 use crate::tags::debug_tags;
 use clif_insts::{
-    Opening, RawInst, RawName, RawNames, RawOperands, Reader, Stop, any_inst, more_values, more_names,
-    one_item,
+    Opening, RawInst, RawName, RawNames, RawOperands, Reader, Stop, any_inst, more_names,
+    more_values, one_item,
 };
 use clif_words::Class;
 use ir_core::List;
@@ -108,10 +108,7 @@ fn plain(
 }
 
 /// Results behind tags, and their instruction.
-#[tactic(
-    auto,
-    unfolding(crate::specs::Lines::tagged_results_at, Rattle.clif_insts.specs.Arguments.values_at)
-)]
+#[tactic(auto, unfolding(crate::specs::Lines::tagged_results_at, clif_insts::specs::Arguments::values_at))]
 fn tagged_results(
     alloc: Global,
     reader: &mut Reader<'_>,

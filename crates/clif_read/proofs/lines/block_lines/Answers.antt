@@ -16,4 +16,6 @@ returns-in_err-part-clause-is c =
 
 pub returns-clause-is : goal.returns-clause-is
 unfolding lines_at
-returns-clause-is c = is_done c.lines.list.items c.lines.after_return c.lines.reader (more_lines_at (length c.args.reader.now) [] false c.args.reader.now) (sym c.begins_line.ensures ∙ c.lines-test.false) c.lines.invariant.0
+returns-clause-is c =
+    rw c.shrink_to_fit.ensures.items
+    (is_done c.lines.list.items c.lines.after_return c.lines.reader (more_lines_at (length c.args.reader.now) [] false c.args.reader.now) (sym c.begins_line.ensures ∙ c.lines-test.false) c.lines.invariant.0)

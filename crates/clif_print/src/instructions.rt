@@ -495,7 +495,16 @@ pub(crate) fn put_instruction<O: Output>(
             args,
             normal,
             table,
-        } => put_try_call(out, numbers, suffix, *callee, *sig, args, normal.get(), table.get()),
+        } => put_try_call(
+            out,
+            numbers,
+            suffix,
+            *callee,
+            *sig,
+            args,
+            normal.get(),
+            table.get(),
+        ),
         Inst::CallIndirect { sig, address, args } => {
             put_call_indirect(out, numbers, suffix, *sig, *address, args)
         }
@@ -508,6 +517,15 @@ pub(crate) fn put_instruction<O: Output>(
             args,
             normal,
             table,
-        } => put_try_call_indirect(out, numbers, suffix, *sig, *address, args, normal.get(), table.get()),
+        } => put_try_call_indirect(
+            out,
+            numbers,
+            suffix,
+            *sig,
+            *address,
+            args,
+            normal.get(),
+            table.get(),
+        ),
     }
 }

@@ -111,8 +111,11 @@ fn digit_run(text: &[u8]) -> usize
     text.iter().take_while(|c| c.is_ascii_digit()).count()
 }
 
+/// How many digits a number may have that is in the range of 64 bits whatever they are, with a sign or without.
+const SURE_DIGITS: usize = 18;
+
 /// The Number that begins the text, before which `at` bytes stand.
-/// One of at most 18 digits, with nothing else to it but a sign, is in the range of 64 bits.
+/// One of few digits, with nothing else to it but a sign, is in range.
 #[inline]
 fn number_at(at: usize, text: &[u8]) -> Result<Token, LexErr>
     requires short { at + length text.now < 2 ^ 32 }
@@ -122,7 +125,7 @@ fn number_at(at: usize, text: &[u8]) -> Result<Token, LexErr>
 {
     let digits = unsigned(text);
     let count = digit_run(digits);
-    if count <= 18 && !is_word_byte(first(&digits[count..])) {
+    if count <= SURE_DIGITS && !is_word_byte(first(&digits[count..])) {
         return Ok(Token {
             kind: TokenKind::Number,
             start: at,

@@ -1,4 +1,5 @@
 pub mod Blocks
+pub mod Digits
 pub mod Left
 pub mod PlacesLemmas
 pub mod Puts

@@ -6,7 +6,7 @@ ghost use Rattle.clif_print.specs.Output.{Start, Puts};
 
 use crate::numbers::FuncNumbers;
 use crate::operands::put_signature_reference;
-use crate::output::{Output, put_number, put_numbered};
+use crate::output::{Output, put_number};
 use crate::signatures::{put_name, put_signature};
 use ir_core::{Callee, Sig, SlotDecl};
 
@@ -46,8 +46,8 @@ impl Declared for SlotDecl {
     ghost line = { slot_line };
 
     fn put_line<O: Output>(&self, number: usize, _numbers: &FuncNumbers, out: &mut O) {
-        out.put(b"    ");
-        put_numbered(out, b"ss", number);
+        out.put(b"    ss");
+        put_number(out, number);
         out.put(b" = explicit_slot ");
         put_number(out, self.size);
         put_alignment(out, self.align);
@@ -59,8 +59,8 @@ impl Declared for Sig {
     ghost line = { signature_line };
 
     fn put_line<O: Output>(&self, number: usize, numbers: &FuncNumbers, out: &mut O) {
-        out.put(b"    ");
-        put_numbered(out, b"sig", number);
+        out.put(b"    sig");
+        put_number(out, number);
         out.put(b" = ");
         put_signature(out, numbers, self);
         out.put(b"\n");
@@ -79,8 +79,8 @@ impl Declared for Callee {
     ghost line = { callee_line };
 
     fn put_line<O: Output>(&self, number: usize, _numbers: &FuncNumbers, out: &mut O) {
-        out.put(b"    ");
-        put_numbered(out, b"fn", number);
+        out.put(b"    fn");
+        put_number(out, number);
         out.put(b" = ");
         put_colocation(out, self.colocated);
         put_name(out, &self.name);

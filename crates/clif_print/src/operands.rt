@@ -19,7 +19,8 @@ use ir_core::{Arg, Block, BlockCall, Flags, FuncRef, SigRef, Slot, Ty, Value};
 pub(crate) fn put_value<O: Output>(out: &mut O, numbers: &FuncNumbers, number: Value)
     ensures { Puts O.holds out.old out.new (spelled (value numbers.now number)) }
 {
-    put_numbered(out, b"v", numbers.value(number));
+    out.put(b"v");
+    out.put_digits(numbers.value(number));
 }
 
 /// Puts a block's word.

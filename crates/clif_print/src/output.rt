@@ -1,5 +1,6 @@
 //! Where a text goes, and the pieces that every text is made of.
 ghost use Rattle.std.specs.Prelude.{ℕ, List, ◌++◌};
+ghost use Rattle.std.specs.Fmt.{decimal};
 ghost use Rattle.clif_print.specs.Output.{Start, Puts};
 
 use itoa::Integer;
@@ -12,6 +13,13 @@ pub(crate) trait Output {
     /// Takes the bytes.
     fn put(&mut self, bytes: &[u8])
         ensures { Puts holds self.old self.new bytes.now };
+
+    /// Takes the digits of the number.
+    fn put_digits(&mut self, number: u32)
+        ensures { Puts holds self.old self.new (decimal number) }
+    {
+        self.put(itoa::Buffer::new().format(number).as_bytes());
+    }
 }
 
 /// Puts the number in decimal digits, with a sign where it is below 0.
@@ -22,9 +30,9 @@ pub(crate) fn put_number<O: Output, I: Integer>(out: &mut O, number: I)
 }
 
 /// Puts a word that ends with a number.
-pub(crate) fn put_numbered<O: Output, I: Integer>(out: &mut O, word: &[u8], number: I)
-    ensures { Puts O.holds out.old out.new (word.now ++ I.text number) }
+pub(crate) fn put_numbered<O: Output>(out: &mut O, word: &[u8], number: u32)
+    ensures { Puts O.holds out.old out.new (word.now ++ decimal number) }
 {
     out.put(word);
-    put_number(out, number);
+    out.put_digits(number);
 }

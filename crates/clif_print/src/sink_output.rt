@@ -3,7 +3,7 @@ ghost use Rattle.std.specs.Prelude.{◌≡◌, ◌≤◌, ◌+◌, ℕ, length, 
 ghost use Rattle.clif_print.specs.Output.{Start, HasText, Takes, Ends};
 
 use crate::output::Output;
-use crate::waiting::Waiting;
+use crate::waiting::{MOST_DIGITS, Waiting};
 use clk_flow::{Failed, Sink};
 
 /// A sink, and bytes that wait until there are enough. After a failure nothing more is given to the sink.
@@ -91,6 +91,14 @@ impl<'a, K: Sink> Output for SinkOutput<'a, K> {
             self.waiting.append(bytes);
         } else {
             self.put_behind(bytes);
+        }
+    }
+
+    fn put_digits(&mut self, number: u32) {
+        if self.waiting.has_room(MOST_DIGITS) {
+            self.waiting.append_digits(number);
+        } else {
+            self.put_behind(itoa::Buffer::new().format(number).as_bytes());
         }
     }
 }

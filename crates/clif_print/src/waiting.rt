@@ -1,10 +1,14 @@
 //! Bytes that wait to be given to a sink.
 ghost use Rattle.std.specs.Prelude.{◌≡◌, ◌≤◌, ◌++◌, ◌+◌, ◌↔◌, IsTrue, List, [], take, length};
+ghost use Rattle.std.specs.Fmt.{decimal};
 
 use std::marker::Model;
 
 /// How many bytes wait at most.
 const ROOM: usize = 4096;
+
+/// How many digits a number of 32 bits has at most.
+pub(crate) const MOST_DIGITS: usize = 10;
 
 /// A few kilobytes that wait. Contracts see them as a list.
 #[derive(Drop)]
@@ -49,14 +53,27 @@ impl Waiting {
         count <= ROOM - self.len
     }
 
-    /// Appends the bytes.
+    /// Appends the bytes, one by one: most pieces are a few bytes long.
     #[inline(always)]
     pub(crate) fn append(&mut self, bytes: &[u8])
         requires { length self.old + length bytes.now ≤ 4096 }
         ensures { self.new ≡ self.old ++ bytes.now }
     {
-        let end = self.len + bytes.len();
-        self.bytes[self.len..end].copy_from_slice(bytes);
+        let start = self.len;
+        'bytes: for i in 0..bytes.len() {
+            self.bytes[start + i] = bytes[i];
+        }
+        self.len = start + bytes.len();
+    }
+
+    /// Appends the digits of the number, written in place.
+    #[inline(always)]
+    pub(crate) fn append_digits(&mut self, number: u32)
+        requires { length self.old + 10 ≤ 4096 }
+        ensures { self.new ≡ self.old ++ decimal number }
+    {
+        let end = self.len + digits(number);
+        itoa::write_digits(u64::from(number), &mut self.bytes, end);
         self.len = end;
     }
 
@@ -65,5 +82,26 @@ impl Waiting {
         ensures { self.new ≡ [] }
     {
         self.len = 0;
+    }
+}
+
+/// How many digits a number has.
+fn digits(number: u32) -> usize
+    ensures { result ≡ length (decimal number) }
+{
+    let mut left = number;
+    let mut count = 1;
+    'four: while left >= 10000 {
+        left /= 10000;
+        count += 4;
+    }
+    if left < 10 {
+        count
+    } else if left < 100 {
+        count + 1
+    } else if left < 1000 {
+        count + 2
+    } else {
+        count + 3
     }
 }

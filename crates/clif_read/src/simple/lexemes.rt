@@ -28,20 +28,6 @@ pub enum Class {
     Other,
 }
 
-/// A token that is no comment.
-#[derive(Clone, Copy, Debug)]
-pub struct Item<'a> {
-    pub class: Class,
-    /// The number of a value or a block.
-    pub number: u64,
-    /// What a number spells.
-    pub amount: i128,
-    /// The bytes of a name, without its `%`.
-    pub name: &'a [u8],
-    /// The first byte.
-    pub spot: usize,
-}
-
 /// The number that the digits of an entity write.
 #[inline]
 #[tactic(auto, unfolding(crate::specs::SimpleWords::entity_number))]
@@ -147,20 +133,6 @@ pub(crate) fn mark(byte: u8) -> Class
         b'=' => Class::Equals,
         b'.' => Class::Dot,
         _ => Class::Other,
-    }
-}
-
-/// A token that has no amount and no name.
-#[inline]
-pub(crate) fn plain<'a>(class: Class, number: u64, spot: usize) -> Item<'a>
-    ensures { spec.lexeme_of result ≡ spec.plain class number spot }
-{
-    Item {
-        class,
-        number,
-        amount: 0,
-        name: &[],
-        spot,
     }
 }
 

@@ -1,12 +1,12 @@
 use Rattle.std.proofs.Common.{sym, ◌∙◌, arith}
-use Rattle.clif_read.specs.SimpleWords.{lexeme_of}
-use Rattle.clif_read.proofs.SimpleRest.{at_end, past_comment, next_is}
+use Rattle.clif_read.specs.SimpleWords.{lexeme_at}
+use Rattle.clif_read.proofs.SimpleRest.{at_end, past_comment, next_is, at_is}
 use Rattle.clif_read.proofs.simple.source.Source.next.Goals as goal
 
 pub returns-then-not-is_comment-clause-next : goal.returns-then-not-is_comment-clause-next
 returns-then-not-is_comment-clause-next c =
     sym c.comments.invariant.same
-    ∙ next_is c.args.self.now.text.now c.args.self.now.tokens.now c.comments.place c.is_comment.result (lexeme_of c.item.result) (omega arith) c.is_comment.ensures c.if-not-is_comment.true c.item.ensures
+    ∙ next_is c.args.self.now.text.now c.args.self.now.tokens.now c.comments.place c.is_comment.result (lexeme_at c.args.self.now.text.now c.args.self.now.tokens.now c.comments.place) (omega arith) c.is_comment.ensures c.if-not-is_comment.true (at_is c.args.self.now.text.now c.args.self.now.tokens.now c.comments.place)
 
 pub comments-preserved : goal.comments-preserved
 comments-preserved c = record {

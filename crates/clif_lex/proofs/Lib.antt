@@ -1,4 +1,7 @@
 pub mod Amounts
+pub mod Classes
+pub mod Fronts
+pub mod Plain
 pub mod Runs
 pub mod Starts
 pub mod Spelled

@@ -1,11 +1,11 @@
 -- Going on from a token.
-use Rattle.std.proofs.Common.{◌≡◌, ℕ, zero, suc, ◌+◌, ◌-◌, ◌≤◌, ◌<◌, Bool, true, false, ◌&&◌, nat_lt, cond, List, [], ◌∷◌, ◌++◌, length, drop, Result, Ok, Err, refl, sym, ap, ◌∙◌, arith, append_assoc}
-use Rattle.std.proofs.lemmas.List.{append-nil, nil_from_length}
+use Rattle.std.proofs.Common.{◌≡◌, ℕ, zero, suc, ◌+◌, ◌-◌, ◌≤◌, ◌<◌, Bool, true, false, ◌&&◌, nat_lt, cond, List, [], ◌∷◌, ◌++◌, length, drop, get_or, Result, Ok, Err, refl, sym, ap, ◌∙◌, arith, append_assoc}
+use Rattle.std.proofs.lemmas.List.{length-drop, append-nil, nil_from_length, drop_more, drop-drop}
 use Rattle.std.proofs.lemmas.Bool.Decides.{nat_tests}
 use Rattle.clif_lex.specs.declared.spans.Token.{Token}
 use Rattle.clif_lex.specs.declared.faults.LexErr.{LexErr}
 use Rattle.clif_lex.specs.declared.faults.LexErr.TheVariants.{BadChar, BadNumber, NoMemory}
-use Rattle.clif_lex.specs.Bytes.{is_blank}
+use Rattle.clif_lex.specs.Bytes.{is_blank, first}
 use Rattle.clif_lex.specs.Lexing.{◌>>=◌, is_preamble, token_at, tokens_from, Gives}
 
 -- what was read before, and what is still read
@@ -67,28 +67,36 @@ at_fault preamble at c cs e blank h =
     let none : nat_lt at 0 ≡ false = grind (arith, nat_tests) in
     rw (none, blank, h) refl
 
--- the same in a loop over the text, in which `rest` is read next
-pub passes_blank : (preamble : Bool) (front : List Token) (at c : ℕ) (rest cs : List ℕ) (total : Result (List Token) LexErr) → rest ≡ c ∷ cs → is_blank c ≡ true
-    → with_front front (tokens_from preamble 0 at rest) ≡ total → with_front front (tokens_from preamble 0 (at + 1) cs) ≡ total
-passes_blank preamble front at c rest cs total e blank h = ap (with_front front) (sym (ap (tokens_from preamble 0 at) e ∙ at_blank preamble at c cs blank)) ∙ h
+-- the same in a loop over the text, in which the byte at `at` is read next
+pub passes_blank : (preamble : Bool) (at : ℕ) (text : List ℕ) → at < length text → is_blank (first (drop at text)) ≡ true
+    → tokens_from preamble 0 (at + 1) (drop (at + 1) text) ≡ tokens_from preamble 0 at (drop at text)
+passes_blank preamble at text below blank =
+    let split = drop_more text at 0 below in
+    sym (ap (tokens_from preamble 0 at) split ∙ at_blank preamble at (get_or text at 0) (drop (at + 1) text) (rw split at blank))
 
-pub takes_token : (preamble : Bool) (front : List Token) (at c : ℕ) (rest cs : List ℕ) (t : Token) (total : Result (List Token) LexErr) → rest ≡ c ∷ cs → is_blank c ≡ false → token_at preamble at rest ≡ Ok t → at < t.end
-    → with_front front (tokens_from preamble 0 at rest) ≡ total → with_front (front ++ t ∷ []) (tokens_from (preamble && is_preamble t.kind) 0 t.end (drop (t.end - at) rest)) ≡ total
-takes_token preamble front at c rest cs t total e blank h some so_far =
-    let h' : token_at preamble at (c ∷ cs) ≡ Ok t = rw e at h in
-    let one : tokens_from preamble 0 at rest ≡ (tokens_from (preamble && is_preamble t.kind) 0 t.end (drop (t.end - at) rest) >>= λ ts. Ok (t ∷ ts)) = rw e (at_token preamble at c cs t blank h' some) in
-    sym (ap (with_front front) one ∙ regroup front t (tokens_from (preamble && is_preamble t.kind) 0 t.end (drop (t.end - at) rest))) ∙ so_far
+pub takes_token : (preamble : Bool) (front : List Token) (at : ℕ) (text : List ℕ) (t : Token) (total : Result (List Token) LexErr) → at < length text → is_blank (first (drop at text)) ≡ false
+    → token_at preamble at (drop at text) ≡ Ok t → at < t.end
+    → with_front front (tokens_from preamble 0 at (drop at text)) ≡ total → with_front (front ++ t ∷ []) (tokens_from (preamble && is_preamble t.kind) 0 t.end (drop t.end text)) ≡ total
+takes_token preamble front at text t total below blank h some so_far =
+    let split = drop_more text at 0 below in
+    let end : drop (t.end - at) (drop at text) ≡ drop t.end text = drop-drop (t.end - at) at text ∙ ap (λ (i : ℕ). drop i text) (omega arith) in
+    let one : tokens_from preamble 0 at (drop at text) ≡ (tokens_from (preamble && is_preamble t.kind) 0 t.end (drop t.end text) >>= λ ts. Ok (t ∷ ts)) =
+    rw (sym end, split) (at_token preamble at (get_or text at 0) (drop (at + 1) text) t (rw split at blank) (rw split at h) some) in
+    sym (ap (with_front front) one ∙ regroup front t (tokens_from (preamble && is_preamble t.kind) 0 t.end (drop t.end text))) ∙ so_far
 
-pub meets_fault : (preamble : Bool) (front : List Token) (at c : ℕ) (rest cs : List ℕ) (e : LexErr) (total : Result (List Token) LexErr) → rest ≡ c ∷ cs → is_blank c ≡ false → token_at preamble at rest ≡ Err e
-    → with_front front (tokens_from preamble 0 at rest) ≡ total → total ≡ Err e
-meets_fault preamble front at c rest cs e total whole blank h so_far =
-    let h' : token_at preamble at (c ∷ cs) ≡ Err e = rw whole at h in
-    sym so_far ∙ ap (with_front front) (ap (tokens_from preamble 0 at) whole ∙ at_fault preamble at c cs e blank h')
+pub meets_fault : (preamble : Bool) (front : List Token) (at : ℕ) (text : List ℕ) (e : LexErr) (total : Result (List Token) LexErr) → at < length text → is_blank (first (drop at text)) ≡ false
+    → token_at preamble at (drop at text) ≡ Err e → with_front front (tokens_from preamble 0 at (drop at text)) ≡ total → total ≡ Err e
+meets_fault preamble front at text e total below blank h so_far =
+    let split = drop_more text at 0 below in
+    let one : tokens_from preamble 0 at (drop at text) ≡ Err e = rw split (at_fault preamble at (get_or text at 0) (drop (at + 1) text) e (rw split at blank) (rw split at h)) in
+    sym so_far ∙ ap (with_front front) one
 
-pub ends : (preamble : Bool) (front : List Token) (at : ℕ) (rest : List ℕ) (total : Result (List Token) LexErr) → length rest ≡ 0
-    → with_front front (tokens_from preamble 0 at rest) ≡ total → total ≡ Ok front
+pub ends : (preamble : Bool) (front : List Token) (at : ℕ) (text : List ℕ) (total : Result (List Token) LexErr) → length text ≤ at
+    → with_front front (tokens_from preamble 0 at (drop at text)) ≡ total → total ≡ Ok front
 unfolding tokens_from
-ends preamble front at rest total e so_far = sym so_far ∙ ap (with_front front) (ap (tokens_from preamble 0 at) (nil_from_length rest e)) ∙ ap (λ (x : List Token). Ok x) (append-nil front)
+ends preamble front at text total e so_far =
+    let none : drop at text ≡ [] = nil_from_length (drop at text) (omega (arith, length-drop at text)) in
+    sym so_far ∙ ap (with_front front) (ap (tokens_from preamble 0 at) none) ∙ ap (λ (x : List Token). Ok x) (append-nil front)
 
 -- what stops the reading is what the definition gives
 pub gives_fault : (e : LexErr) (total : Result (List Token) LexErr) → total ≡ Err e → Gives (Err e) total

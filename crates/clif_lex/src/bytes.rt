@@ -1,14 +1,46 @@
 //! The sets of bytes that tokens are made of.
 
-ghost use Rattle.std.specs.Prelude.{◌≡◌};
+ghost use Rattle.std.specs.Prelude.{◌≡◌, ◌==◌, not, bit_and, slice_index};
 ghost use Rattle.clif_lex.specs.Bytes as spec;
+
+/// The bit of what a word or a name goes on with.
+const WORD_BYTE: u8 = 1;
+
+/// The bit of what begins a word.
+const LETTER: u8 = 2;
+
+/// The bit of what is a token by itself.
+const MARK: u8 = 4;
+
+/// The bit of what stands between tokens.
+const BLANK: u8 = 8;
+
+/// The sets that each byte is in, as bits: one look tells what a token begins with.
+const CLASSES: [u8; 256] = [
+    0, 0, 0, 0, 0, 0, 0, 0, 0, 8, 8, 0, 0, 8, 0, 0, 0, 0, 0, 0, 0, 0, 0, 0, 0, 0, 0, 0, 0, 0, 0, 0,
+    8, 0, 0, 0, 0, 0, 0, 0, 4, 4, 0, 0, 4, 0, 4, 0, 1, 1, 1, 1, 1, 1, 1, 1, 1, 1, 4, 0, 4, 4, 4, 0,
+    0, 3, 3, 3, 3, 3, 3, 3, 3, 3, 3, 3, 3, 3, 3, 3, 3, 3, 3, 3, 3, 3, 3, 3, 3, 3, 3, 4, 0, 4, 0, 3,
+    0, 3, 3, 3, 3, 3, 3, 3, 3, 3, 3, 3, 3, 3, 3, 3, 3, 3, 3, 3, 3, 3, 3, 3, 3, 3, 3, 4, 0, 4, 0, 0,
+    0, 0, 0, 0, 0, 0, 0, 0, 0, 0, 0, 0, 0, 0, 0, 0, 0, 0, 0, 0, 0, 0, 0, 0, 0, 0, 0, 0, 0, 0, 0, 0,
+    0, 0, 0, 0, 0, 0, 0, 0, 0, 0, 0, 0, 0, 0, 0, 0, 0, 0, 0, 0, 0, 0, 0, 0, 0, 0, 0, 0, 0, 0, 0, 0,
+    0, 0, 0, 0, 0, 0, 0, 0, 0, 0, 0, 0, 0, 0, 0, 0, 0, 0, 0, 0, 0, 0, 0, 0, 0, 0, 0, 0, 0, 0, 0, 0,
+    0, 0, 0, 0, 0, 0, 0, 0, 0, 0, 0, 0, 0, 0, 0, 0, 0, 0, 0, 0, 0, 0, 0, 0, 0, 0, 0, 0, 0, 0, 0, 0,
+];
+
+/// Whether a table of bytes says that a byte is in the set of a bit.
+#[inline]
+fn is_in(classes: &[u8; 256], c: u8, bit: u8) -> bool
+    ensures { result ≡ not (bit_and (slice_index classes.now c) bit == 0) }
+{
+    classes[c as usize] & bit != 0
+}
 
 /// What stands between tokens.
 #[inline]
 pub(crate) fn is_blank(c: u8) -> bool
     ensures { result ≡ spec.is_blank c }
 {
-    c == b' ' || c == b'\n' || c == b'\t' || c == b'\r'
+    is_in(&CLASSES, c, BLANK)
 }
 
 /// What begins a word.
@@ -16,7 +48,7 @@ pub(crate) fn is_blank(c: u8) -> bool
 pub(crate) fn is_letter(c: u8) -> bool
     ensures { result ≡ spec.is_letter c }
 {
-    c.is_ascii_alphabetic() || c == b'_'
+    is_in(&CLASSES, c, LETTER)
 }
 
 /// What a word or a name goes on with.
@@ -24,7 +56,15 @@ pub(crate) fn is_letter(c: u8) -> bool
 pub(crate) fn is_word_byte(c: u8) -> bool
     ensures { result ≡ spec.is_word_byte c }
 {
-    c.is_ascii_alphanumeric() || c == b'_'
+    is_in(&CLASSES, c, WORD_BYTE)
+}
+
+/// What is a token by itself.
+#[inline]
+pub(crate) fn is_mark(c: u8) -> bool
+    ensures { result ≡ spec.is_mark c }
+{
+    is_in(&CLASSES, c, MARK)
 }
 
 /// What a number in base 10 goes on with.
@@ -49,25 +89,6 @@ pub(crate) fn is_sign(c: u8) -> bool
     ensures { result ≡ spec.is_sign c }
 {
     c == b'+' || c == b'-'
-}
-
-/// What is a token by itself.
-#[inline]
-pub(crate) fn is_mark(c: u8) -> bool
-    ensures { result ≡ spec.is_mark c }
-{
-    c == b'('
-        || c == b')'
-        || c == b'{'
-        || c == b'}'
-        || c == b'['
-        || c == b']'
-        || c == b','
-        || c == b':'
-        || c == b'='
-        || c == b'.'
-        || c == b'<'
-        || c == b'>'
 }
 
 /// The byte at the front, or 0 in an empty text.

@@ -1,8 +1,8 @@
 //! The tokens of a text.
 
-ghost use Rattle.std.specs.Prelude.{◌≡◌, ◌∷◌, ◌&&◌, ◌+◌, ◌<◌, ◌≤◌, ◌^◌, length, slice_get, IfSome, IfOk, IfErr};
+ghost use Rattle.std.specs.Prelude.{◌≡◌, ◌∷◌, ◌&&◌, ◌+◌, ◌<◌, ◌≤◌, ◌^◌, Bool, true, false, drop, length, slice_get, IfSome, IfOk, IfErr};
 ghost use Rattle.std.specs.List.{prefix_len};
-ghost use Rattle.std.specs.Char.{is_ascii_hexdigit};
+ghost use Rattle.std.specs.Char.{is_ascii_digit, is_ascii_hexdigit};
 ghost use Rattle.clif_lex.specs.Bytes as bytes;
 ghost use Rattle.clif_lex.specs.declared.spans.TokenKind.TheVariants.{Number};
 ghost use Rattle.clif_lex.specs.Numbers as numbers;
@@ -13,17 +13,38 @@ ghost use Rattle.clif_lex.specs.Spelling.{IsFaultIn};
 
 use crate::bytes::{first, is_blank, is_letter, is_mark, is_sign, is_word_byte, second};
 use crate::faults::LexErr;
-use crate::numbers::{is_in_range, lacks_digits, number_len};
+use crate::numbers::{is_in_range, lacks_digits, number_len, unsigned};
 use crate::spans::{Span, Token, TokenKind, Tokens};
 use std::alloc::Global;
 
-/// How many word bytes stand at the front.
+/// Where the word bytes that stand at a place end.
 #[inline]
-fn word_run(text: &[u8]) -> usize
-    ensures len { result ≡ prefix_len bytes.is_word_byte text.now }
+fn word_end(text: &[u8], at: usize) -> usize
+    requires { at ≤ length text.now }
+    ensures end { result ≡ at + prefix_len bytes.is_word_byte (drop at text.now) }
     ensures within { result ≤ length text.now }
 {
-    text.iter().take_while(|c| is_word_byte(**c)).count()
+    let mut end = at;
+    'bytes: while end < text.len() && is_word_byte(text[end]) {
+        end += 1;
+    }
+    end
+}
+
+/// Where the blanks that stand at a place end.
+#[inline]
+fn blanks_end(text: &[u8], at: usize) -> usize
+    requires { at ≤ length text.now }
+    ensures same { (preamble : Bool) → spec.tokens_from preamble 0 result (drop result text.now) ≡ spec.tokens_from preamble 0 at (drop at text.now) }
+    ensures stop { bytes.is_blank (bytes.first (drop result text.now)) ≡ false }
+    ensures forward { at ≤ result }
+    ensures within { result ≤ length text.now }
+{
+    let mut end = at;
+    'bytes: while end < text.len() && is_blank(text[end]) {
+        end += 1;
+    }
+    end
 }
 
 /// How many hexadecimal digits stand at the front.
@@ -60,18 +81,9 @@ fn stays_preamble(preamble: bool, kind: TokenKind) -> bool
     preamble && matches!(kind, TokenKind::Header | TokenKind::Comment)
 }
 
-/// Whether a number begins the text: a digit, or a sign before one.
-#[inline]
-fn begins_number(text: &[u8]) -> bool
-    ensures { result ≡ spec.begins_number text.now }
-{
-    first(text).is_ascii_digit() || (is_sign(first(text)) && second(text).is_ascii_digit())
-}
-
 /// The Number that begins the text, before which `at` bytes stand.
-#[inline]
 #[tactic(auto, unfolding(crate::specs::Lexing::number_at))]
-fn number_at(at: usize, text: &[u8]) -> Result<Token, LexErr>
+fn any_number_at(at: usize, text: &[u8]) -> Result<Token, LexErr>
     requires short { at + length text.now < 2 ^ 32 }
     ensures is { result ≡ spec.number_at at text.now }
     ensures start { IfOk result (λ t. t.start ≡ at) }
@@ -90,52 +102,93 @@ fn number_at(at: usize, text: &[u8]) -> Result<Token, LexErr>
     }
 }
 
-/// The word that begins the text, or the Header where one may stand.
+/// How many digits stand at the front.
 #[inline]
-#[tactic(auto, unfolding(crate::specs::Lexing::word_at))]
-fn word_at(preamble: bool, at: usize, text: &[u8]) -> Token
-    requires short { at + length text.now < 2 ^ 32 }
-    ensures is { result ≡ spec.word_at preamble at text.now }
-    ensures start { result.start ≡ at }
-    ensures within { result.end ≤ at + length text.now }
+fn digit_run(text: &[u8]) -> usize
+    ensures len { result ≡ prefix_len is_ascii_digit text.now }
+    ensures within { result ≤ length text.now }
 {
-    let len = word_run(text);
-    if preamble && is_header_word(&text[..len]) {
+    text.iter().take_while(|c| c.is_ascii_digit()).count()
+}
+
+/// How many digits a number may have that is in the range of 64 bits whatever they are, with a sign or without.
+const SURE_DIGITS: usize = 18;
+
+/// The Number that begins the text, before which `at` bytes stand.
+/// One of few digits, with nothing else to it but a sign, is in range.
+#[inline]
+fn number_at(at: usize, text: &[u8]) -> Result<Token, LexErr>
+    requires short { at + length text.now < 2 ^ 32 }
+    ensures is { result ≡ spec.number_at at text.now }
+    ensures start { IfOk result (λ t. t.start ≡ at) }
+    ensures within { IfOk result (λ t. t.end ≤ at + length text.now) }
+{
+    let digits = unsigned(text);
+    let count = digit_run(digits);
+    if count <= SURE_DIGITS && !is_word_byte(first(&digits[count..])) {
+        return Ok(Token {
+            kind: TokenKind::Number,
+            start: at,
+            end: at + (text.len() - digits.len()) + count,
+        });
+    }
+    any_number_at(at, text)
+}
+
+/// The word that stands at a place, or the Header where one may stand.
+#[inline]
+fn word_at(preamble: bool, text: &[u8], at: usize) -> Token
+    requires below { at < length text.now }
+    requires letter { bytes.is_letter (bytes.first (drop at text.now)) ≡ true }
+    requires short { length text.now < 2 ^ 32 }
+    ensures is { result ≡ spec.word_at preamble at (drop at text.now) }
+    ensures start { result.start ≡ at }
+    ensures some { at < result.end }
+    ensures within { result.end ≤ length text.now }
+{
+    let end = word_end(text, at + 1);
+    if preamble && is_header_word(&text[at..end]) {
         return Token {
             kind: TokenKind::Header,
             start: at,
-            end: at + line_run(text),
+            end: at + line_run(&text[at..]),
         };
     }
     Token {
         kind: TokenKind::Word,
         start: at,
-        end: at + len,
+        end,
     }
 }
 
-/// The token that begins the text, before which `at` bytes stand. The text is the byte `c` and the rest.
-#[inline(always)]
+/// Whether a number begins the text: a digit, or a sign before one.
+#[inline]
+fn begins_number(text: &[u8]) -> bool
+    ensures { result ≡ spec.begins_number text.now }
+{
+    first(text).is_ascii_digit() || (is_sign(first(text)) && second(text).is_ascii_digit())
+}
+
+/// The token that begins the text, before which `at` bytes stand, if it is no word and no mark.
+/// The text is the byte `c` and the rest.
+#[inline]
 #[tactic(auto, unfolding(crate::specs::Lexing::token_at))]
-fn token_at(preamble: bool, at: usize, text: &[u8], c: u8, rest: &[u8]) -> Result<Token, LexErr>
+fn other_at(at: usize, text: &[u8], c: u8, rest: &[u8]) -> Result<Token, LexErr>
     requires whole { text.now ≡ c ∷ rest.now }
+    requires no_letter { bytes.is_letter c ≡ false }
+    requires no_mark { bytes.is_mark c ≡ false }
     requires short { at + length text.now < 2 ^ 32 }
-    ensures is { result ≡ spec.token_at preamble at text.now }
+    ensures is { (preamble : Bool) → result ≡ spec.token_at preamble at text.now }
     ensures start { IfOk result (λ t. t.start ≡ at) }
     ensures some { IfOk result (λ t. at < t.end) }
     ensures within { IfOk result (λ t. t.end ≤ at + length text.now) }
 {
-    let next = first(rest);
-    if is_letter(c) {
-        return Ok(word_at(preamble, at, text));
-    }
     if begins_number(text) {
         return number_at(at, text);
     }
-    let (kind, len) = if is_mark(c) {
-        (TokenKind::Mark(c), 1)
-    } else if c == b'%' && is_word_byte(next) {
-        (TokenKind::Name, 1 + word_run(rest))
+    let next = first(rest);
+    let (kind, len) = if c == b'%' && is_word_byte(next) {
+        (TokenKind::Name, 1 + word_end(rest, 0))
     } else if c == b';' {
         (TokenKind::Comment, line_run(text))
     } else if c == b'-' && next == b'>' {
@@ -155,6 +208,30 @@ fn token_at(preamble: bool, at: usize, text: &[u8], c: u8, rest: &[u8]) -> Resul
     })
 }
 
+/// The token that stands at a place.
+#[inline]
+fn token_at(preamble: bool, text: &[u8], at: usize) -> Result<Token, LexErr>
+    requires below { at < length text.now }
+    requires short { length text.now < 2 ^ 32 }
+    ensures is { result ≡ spec.token_at preamble at (drop at text.now) }
+    ensures start { IfOk result (λ t. t.start ≡ at) }
+    ensures some { IfOk result (λ t. at < t.end) }
+    ensures within { IfOk result (λ t. t.end ≤ length text.now) }
+{
+    let c = text[at];
+    if is_letter(c) {
+        return Ok(word_at(preamble, text, at));
+    }
+    if is_mark(c) {
+        return Ok(Token {
+            kind: TokenKind::Mark(c),
+            start: at,
+            end: at + 1,
+        });
+    }
+    other_at(at, &text[at..], c, &text[at + 1..])
+}
+
 /// The tokens of the text, or its first fault.
 /// A text of 2^32 bytes or more is refused with NoMemory, since spans are kept in 32 bits.
 pub fn tokens(alloc: Global, text: &[u8]) -> Result<Tokens, LexErr>
@@ -166,19 +243,12 @@ pub fn tokens(alloc: Global, text: &[u8]) -> Result<Tokens, LexErr>
     }
     let mut spans = Vec::new(alloc);
     let mut preamble = true;
-    let mut at = 0;
-    let mut rest = text;
-    'bytes: while let Some((c, after)) = rest.split_first() {
-        if is_blank(*c) {
-            at += 1;
-            rest = after;
-        } else {
-            let token = token_at(preamble, at, rest, *c, after)?;
-            spans.push(Span::new(token))?;
-            preamble = stays_preamble(preamble, token.kind);
-            rest = rest.split_at(token.end - at).1;
-            at = token.end;
-        }
+    let mut at = blanks_end(text, 0);
+    'tokens: while at < text.len() {
+        let token = token_at(preamble, text, at)?;
+        spans.push(Span::new(token))?;
+        preamble = stays_preamble(preamble, token.kind);
+        at = blanks_end(text, token.end);
     }
     Ok(Tokens { spans })
 }

@@ -46,7 +46,7 @@ fn amount(radix: u64, digits: &[u8]) -> Option<u64>
 
 /// The text without the sign at its front.
 #[inline]
-fn unsigned(text: &[u8]) -> &[u8]
+pub(crate) fn unsigned(text: &[u8]) -> &[u8]
     ensures { result.now ≡ spec.unsigned text.now }
 {
     match text {

@@ -477,12 +477,12 @@ pub(crate) fn put_instruction<O: Output>(
         } => put_stack_store(out, numbers, suffix, *value, *slot, *offset),
         Inst::FuncAddr(callee) => put_func_addr(out, numbers, suffix, *callee),
         Inst::Jump(to) => put_jump(out, numbers, suffix, to),
-        Inst::Brif { cond, yes, no } => put_brif(out, numbers, suffix, *cond, yes, no),
+        Inst::Brif { cond, yes, no } => put_brif(out, numbers, suffix, *cond, yes.get(), no.get()),
         Inst::BrTable {
             index,
             default,
             entries,
-        } => put_br_table(out, numbers, suffix, *index, default, entries),
+        } => put_br_table(out, numbers, suffix, *index, default.get(), entries),
         Inst::Return(values) => put_return(out, numbers, suffix, values),
         Inst::Trap(code) => put_trap(out, numbers, suffix, *code),
         Inst::Trapz { cond, code } => put_trapz(out, numbers, suffix, *cond, *code),
@@ -495,7 +495,16 @@ pub(crate) fn put_instruction<O: Output>(
             args,
             normal,
             table,
-        } => put_try_call(out, numbers, suffix, *callee, *sig, args, normal, table),
+        } => put_try_call(
+            out,
+            numbers,
+            suffix,
+            *callee,
+            *sig,
+            args,
+            normal.get(),
+            table.get(),
+        ),
         Inst::CallIndirect { sig, address, args } => {
             put_call_indirect(out, numbers, suffix, *sig, *address, args)
         }
@@ -508,6 +517,15 @@ pub(crate) fn put_instruction<O: Output>(
             args,
             normal,
             table,
-        } => put_try_call_indirect(out, numbers, suffix, *sig, *address, args, normal, table),
+        } => put_try_call_indirect(
+            out,
+            numbers,
+            suffix,
+            *sig,
+            *address,
+            args,
+            normal.get(),
+            table.get(),
+        ),
     }
 }

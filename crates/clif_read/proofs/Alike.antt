@@ -2,6 +2,7 @@
 use Rattle.std.proofs.Common.{◌≡◌, ℕ, List, [], ◌∷◌, ◌++◌, map, Option, Some, None, refl, sym, ap, subst, ◌∙◌, inl, inr, append_assoc}
 use Rattle.std.specs.Prelude.{◌⊎◌}
 use Rattle.grammar.specs.Rules.{Lexeme, Rule, Empty, Tok, Seq, Alt, Opt, Many, Refuse, Chain, Kind, Value, Derives, Begins}
+use Rattle.grammar.proofs.Binds.{regroup}
 use Rattle.clif_insts.specs.Values.{either}
 use Rattle.clif_read.specs.Alike.{Means, Alike}
 
@@ -102,13 +103,10 @@ seq_second m f g y = record {
 further : (ts us ws u1 u2 : List Lexeme) → ts ≡ us ++ ws → us ≡ u1 ++ u2 → ts ≡ u1 ++ (u2 ++ ws)
 further ts us ws u1 u2 e f = e ∙ ap (λ (l : List Lexeme). l ++ ws) f ∙ append_assoc u1 u2 ws
 
-nearer : (ts us ws w1 w2 : List Lexeme) → ts ≡ us ++ ws → ws ≡ w1 ++ w2 → ts ≡ (us ++ w1) ++ w2
-nearer ts us ws w1 w2 e f = e ∙ ap (λ (l : List Lexeme). us ++ l) f ∙ sym (append_assoc us w1 w2)
-
 pub seq_group : {Y : Type 0} (a b c : Rule) (F : Value a → Value b → Value c → Y) → Alike (Seq (Seq a b) c) (Seq a (Seq b c)) (λ v. F v.0.0 v.0.1 v.1) (λ v. F v.0 v.1.0 v.1.1)
 seq_group a b c F = record {
   there = λ ts v h. ((v.0.0, (v.0.1, v.1)), (h.3.0.0, h.3.0.1 ++ h.1, further ts h.0 h.1 h.3.0.0 h.3.0.1 h.2 h.3.0.2, (h.3.0.3.0, (h.3.0.1, h.1, refl, (h.3.0.3.1, h.3.1)))), refl);
-  back = λ ts v h. (((v.0, v.1.0), v.1.1), (h.0 ++ h.3.1.0, h.3.1.1, nearer ts h.0 h.1 h.3.1.0 h.3.1.1 h.2 h.3.1.2, ((h.0, h.3.1.0, refl, (h.3.0, h.3.1.3.0)), h.3.1.3.1)), refl);
+  back = λ ts v h. (((v.0, v.1.0), v.1.1), (h.0 ++ h.3.1.0, h.3.1.1, regroup ts h.0 h.3.1.0 h.1 h.3.1.1 h.2 h.3.1.2, ((h.0, h.3.1.0, refl, (h.3.0, h.3.1.3.0)), h.3.1.3.1)), refl);
   begun = λ ts. elim [
     | inl h ↦ elim h [ inl k ↦ inl k | inr k ↦ inr (k.0, k.1, k.2, (k.3.0, inl k.3.1)) ]
     | inr h ↦ (let d = h.3.0.1 in inr (d.0, d.1 ++ h.1, further ts h.0 h.1 d.0 d.1 h.2 d.2, ((h.3.0.0.0, d.3.0), inr (d.1, h.1, refl, ((h.3.0.0.1, d.3.1), h.3.1)))))
@@ -117,7 +115,7 @@ seq_group a b c F = record {
     | inl h ↦ inl (inl h)
     | inr h ↦ elim h.3.1 [
       | inl k ↦ inl (inr (h.0, h.1, h.2, (h.3.0, k)))
-      | inr k ↦ inr (h.0 ++ k.0, k.1, nearer ts h.0 h.1 k.0 k.1 h.2 k.2, (((h.3.0.0, k.3.0.0), (h.0, k.0, refl, (h.3.0.1, k.3.0.1))), k.3.1))
+      | inr k ↦ inr (h.0 ++ k.0, k.1, regroup ts h.0 k.0 h.1 k.1 h.2 k.2, (((h.3.0.0, k.3.0.0), (h.0, k.0, refl, (h.3.0.1, k.3.0.1))), k.3.1))
     ]
   ];
 }

@@ -5,9 +5,10 @@ use Rattle.std.proofs.lemmas.List.{append-nil}
 use Rattle.std.proofs.lemmas.Bool.{eq-eqb}
 use Rattle.grammar.proofs.Chains.{ends-append}
 use Rattle.grammar.specs.Rules.{Lexeme, Rule, Tok, Seq, Alt, Opt, Many, Chain, Value, Cut, Each, Links, ByFlag, ends, nullable, good, Derives}
-use Rattle.grammar.proofs.Laws.{complete, ok_is}
+use Rattle.grammar.proofs.Binds.{ok_is}
+use Rattle.grammar.proofs.Laws.{complete}
 use Rattle.grammar.proofs.Same.{Splits, SplitsBegun, same_texts, same_beginnings}
-use Rattle.grammar.proofs.Tails.{may_end, Tail, tail_same, tail_end, tail_alt, tail_seq, Or, splits, splits_begun}
+use Rattle.grammar.proofs.Tails.{tok_ends, may_end, Tail, tail_same, tail_end, tail_alt, tail_seq, Or, splits, splits_begun}
 use Rattle.clif_insts.specs.Values.{either}
 use Rattle.clif_read.specs.Alike.{Means, Alike}
 
@@ -30,9 +31,6 @@ end_split c w fn fa fw give none some last ts x None d =
     let e : ts ≡ d.0 = d.2 ∙ ap (λ (l : List Lexeme). d.0 ++ l) d.3.1 ∙ append-nil d.0 in
     inl (x, (e ∙ d.3.0.0, d.3.0.1), none x)
 end_split c w fn fa fw give none some last ts x (Some z) d = inr (d.0, d.1, d.2, (x, d.3.0, last d.0 x d.3.0, z, d.3.1, some x z))
-
-tok_ends : (c : ℕ) (us : List Lexeme) (x : Lexeme) → Derives (Tok c) us x → (f : Bool) → ends c f us ≡ true
-tok_ends c us x h f = rw (h.0, h.1, eq-eqb c c refl) refl
 
 pub given_end : {Y W : Type 0} (c : ℕ) (w : Rule) (fn : Lexeme → Option (Value w) → Y) (fa : Lexeme → Y) (fw : Value w → W) (give : W → Y → Y) → ((x : Lexeme) → fa x ≡ fn x None) → ((x : Lexeme) (z : Value w) → give (fw z) (fa x) ≡ fn x (Some z))
     → Given c (Seq (Tok c) (Opt w)) (Tok c) w (λ v. fn v.0 v.1) fa fw give

@@ -1,4 +1,5 @@
-mod Buckets
 mod Decimals
 pub mod Tags
 mod Printed
+mod Places
+mod Values

@@ -1,10 +1,12 @@
 //! What tokens are to the grammar.
 
-ghost use Rattle.std.specs.Prelude.{◌≡◌, ◌==◌, ◌&&◌, ◌||◌, not, ◌<◌, ◌≤◌, ◌^◌, length, slice_get, IfSome, map};
+ghost use Rattle.std.specs.Prelude.{◌≡◌, ◌==◌, ◌&&◌, ◌||◌, not, ◌<◌, ◌≤◌, ◌^◌, List, [], ◌∷◌, length, take, drop, slice_get, IfSome, map};
+ghost use Rattle.std.specs.Str.{bytes_eq};
 ghost use Rattle.std.specs.Char.{digit_value, is_ascii_digit};
 ghost use Rattle.std.specs.List.{suffix_len, prefix_len};
 ghost use Rattle.clif_lex.specs.Bytes.{first, is_sign};
 ghost use Rattle.clif_lex.specs.Lexing.{tokens_of};
+ghost use Rattle.clif_words.specs.declared.class.Class.TheVariants.{Value};
 ghost use Rattle.clif_words.specs.Table as table;
 ghost use Rattle.clif_words.specs.Words as words;
 ghost use Rattle.clif_words.specs.Lexemes as spec;
@@ -38,45 +40,76 @@ fn front(text: &[u8]) -> u8
     }
 }
 
+/// Whether a word is spelled so.
+#[inline]
+fn spells(word: &[u8], spelling: &[u8]) -> bool
+    ensures { result ≡ bytes_eq word.now spelling.now }
+{
+    if word.len() != spelling.len() {
+        return false;
+    }
+    for (i, c) in word.iter().enumerate() {
+        if *c != spelling[i] {
+            return false;
+        }
+    }
+    true
+}
+
+/// The meaning of a word, if the row has it.
+#[inline]
+fn row_meaning(row: &Entry, word: &[u8]) -> Option<Meaning>
+    ensures { result ≡ words.look_up (words.row_of row.now ∷ []) word.now }
+{
+    if spells(row.0.as_bytes(), word) {
+        Some(means(row.1, row.2))
+    } else {
+        None
+    }
+}
+
 /// The first row of the table that has the word.
 #[inline]
 fn look_up(table: &[Entry], word: &[u8]) -> Option<Meaning>
     ensures { result ≡ words.look_up (map words.row_of table.now) word.now }
 {
-    for entry in table {
-        if entry.0.as_bytes() == word {
-            return Some(means(entry.1, entry.2));
+    for row in table {
+        if spells(row.0.as_bytes(), word) {
+            return Some(means(row.1, row.2));
         }
     }
     None
 }
 
+/// The meaning of a word, if the row with this number has it.
+#[inline]
+fn meaning_at(table: &[Entry], number: usize, word: &[u8]) -> Option<Meaning>
+    requires { number < length table.now }
+    ensures { result ≡ words.look_up (take 1 (drop number (map words.row_of table.now))) word.now }
+{
+    row_meaning(&table[number], word)
+}
+
+/// The number of the one row of `WORDS` that may have the word. `bench/word_places.py` makes the tables for it.
+#[inline]
+fn row_number(word: &[u8]) -> usize
+    ensures within { result < length table.all_words }
+    ensures only { words.look_up table.all_words word.now ≡ words.look_up (take 1 (drop result table.all_words)) word.now }
+{
+    let mut sum: u32 = 0;
+    for c in word {
+        sum = sum.wrapping_mul(5).wrapping_add(u32::from(*c));
+    }
+    let shift = SHIFTS[(sum % 64) as usize];
+    PLACES[((sum / 64 + u32::from(shift)) % 256) as usize] as usize
+}
+
 /// The meaning of a word that has one of its own.
+#[inline]
 fn own_meaning(word: &[u8]) -> Option<Meaning>
     ensures { result ≡ words.look_up table.all_words word.now }
 {
-    match front(word) {
-        b'a' => look_up(&WORDS_A, word),
-        b'b' => look_up(&WORDS_B, word),
-        b'c' => look_up(&WORDS_C, word),
-        b'd' => look_up(&WORDS_D, word),
-        b'e' => look_up(&WORDS_E, word),
-        b'f' => look_up(&WORDS_F, word),
-        b'g' => look_up(&WORDS_G, word),
-        b'h' => look_up(&WORDS_H, word),
-        b'i' => look_up(&WORDS_I, word),
-        b'j' => look_up(&WORDS_J, word),
-        b'l' => look_up(&WORDS_L, word),
-        b'n' => look_up(&WORDS_N, word),
-        b'p' => look_up(&WORDS_P, word),
-        b'r' => look_up(&WORDS_R, word),
-        b's' => look_up(&WORDS_S, word),
-        b't' => look_up(&WORDS_T, word),
-        b'u' => look_up(&WORDS_U, word),
-        b'v' => look_up(&WORDS_V, word),
-        b'w' => look_up(&WORDS_W, word),
-        _ => None,
-    }
+    meaning_at(&WORDS, row_number(word), word)
 }
 
 /// The value of a digit or a letter, or 36 for any other byte.
@@ -193,14 +226,46 @@ fn numbered_meaning(word: &[u8]) -> Meaning
     }
 }
 
-/// The meaning of a word.
+/// The number of the value whose name is `v` and these digits, if they are at most 19.
+#[inline]
+fn value_number(digits: &[u8]) -> Option<u64>
+    ensures { IfSome result (λ number. words.word_meaning (118 ∷ digits.now) ≡ words.means Value number) }
+{
+    if digits.is_empty() || digits.len() > 19 || !is_plain(digits) {
+        return None;
+    }
+    let mut number: u64 = 0;
+    for c in digits {
+        if !c.is_ascii_digit() {
+            return None;
+        }
+        number = number * 10 + u64::from(*c - b'0');
+    }
+    Some(number)
+}
+
+/// The meaning of a word, whatever it is.
 #[tactic(auto, unfolding(crate::specs::Words::word_meaning))]
-pub fn word_meaning(word: &[u8]) -> Meaning
+fn any_meaning(word: &[u8]) -> Meaning
     ensures { result ≡ words.word_meaning word.now }
 {
     match own_meaning(word) {
         Some(meaning) => meaning,
         None => numbered_meaning(word),
+    }
+}
+
+/// The meaning of a word.
+#[inline]
+pub fn word_meaning(word: &[u8]) -> Meaning
+    ensures { result ≡ words.word_meaning word.now }
+{
+    match word.split_first() {
+        Some((letter, digits)) if *letter == b'v' => match value_number(digits) {
+            Some(number) => means(Class::Value, number),
+            None => any_meaning(word),
+        },
+        _ => any_meaning(word),
     }
 }
 

@@ -1,4 +1,4 @@
-//! The words that have a meaning of their own, by first letter.
+//! The words that have a meaning of their own.
 
 use crate::class::Class;
 
@@ -7,73 +7,116 @@ use crate::class::Class;
 #[derive(Clone, Copy, Debug)]
 pub struct Entry(pub &'static str, pub Class, pub u64);
 
-/// The words that begin with `a`.
-pub const WORDS_A: [Entry; 7] = [
+/// The words in the order of the grammar: the opcodes, those that are refused, and the other words by class.
+pub const WORDS: [Entry; 203] = [
+    Entry("iconst", Class::Iconst, 0),
+    Entry("iadd", Class::Binary, 1),
+    Entry("isub", Class::Binary, 2),
+    Entry("imul", Class::Binary, 3),
+    Entry("band", Class::Binary, 4),
+    Entry("bor", Class::Binary, 5),
+    Entry("bxor", Class::Binary, 6),
+    Entry("smin", Class::Binary, 7),
+    Entry("smax", Class::Binary, 8),
+    Entry("umin", Class::Binary, 9),
+    Entry("umax", Class::Binary, 10),
+    Entry("umulhi", Class::Binary, 11),
+    Entry("smulhi", Class::Binary, 12),
+    Entry("udiv", Class::Binary, 13),
+    Entry("urem", Class::Binary, 14),
+    Entry("sdiv", Class::Binary, 15),
+    Entry("srem", Class::Binary, 16),
+    Entry("ishl", Class::Binary, 17),
+    Entry("ushr", Class::Binary, 18),
+    Entry("sshr", Class::Binary, 19),
+    Entry("rotl", Class::Binary, 20),
+    Entry("rotr", Class::Binary, 21),
+    Entry("uadd_overflow", Class::Binary, 22),
+    Entry("sadd_overflow", Class::Binary, 23),
+    Entry("usub_overflow", Class::Binary, 24),
+    Entry("ssub_overflow", Class::Binary, 25),
+    Entry("iconcat", Class::Binary, 26),
+    Entry("ineg", Class::Unary, 27),
+    Entry("bnot", Class::Unary, 28),
+    Entry("iabs", Class::Unary, 29),
+    Entry("clz", Class::Unary, 30),
+    Entry("ctz", Class::Unary, 31),
+    Entry("popcnt", Class::Unary, 32),
+    Entry("bitrev", Class::Unary, 33),
+    Entry("bswap", Class::Unary, 34),
+    Entry("isplit", Class::Unary, 35),
+    Entry("icmp", Class::Icmp, 36),
+    Entry("select", Class::Select, 37),
+    Entry("uextend", Class::Convert, 38),
+    Entry("sextend", Class::Convert, 39),
+    Entry("ireduce", Class::Convert, 40),
+    Entry("iadd_imm", Class::BinaryImm, 41),
+    Entry("imul_imm", Class::BinaryImm, 42),
+    Entry("band_imm", Class::BinaryImm, 43),
+    Entry("bor_imm", Class::BinaryImm, 44),
+    Entry("bxor_imm", Class::BinaryImm, 45),
+    Entry("ishl_imm", Class::BinaryImm, 46),
+    Entry("ushr_imm", Class::BinaryImm, 47),
+    Entry("sshr_imm", Class::BinaryImm, 48),
+    Entry("icmp_imm", Class::IcmpImm, 49),
+    Entry("load", Class::Load, 50),
+    Entry("uload8", Class::Load, 51),
+    Entry("sload8", Class::Load, 52),
+    Entry("uload16", Class::Load, 53),
+    Entry("sload16", Class::Load, 54),
+    Entry("uload32", Class::LoadWide, 55),
+    Entry("sload32", Class::LoadWide, 56),
+    Entry("store", Class::Store, 57),
+    Entry("istore8", Class::Store, 58),
+    Entry("istore16", Class::Store, 59),
+    Entry("istore32", Class::Store, 60),
+    Entry("stack_load", Class::StackLoad, 61),
+    Entry("stack_store", Class::StackStore, 62),
+    Entry("func_addr", Class::FuncAddr, 63),
+    Entry("nop", Class::Nullary, 64),
+    Entry("sequence_point", Class::Nullary, 65),
+    Entry("jump", Class::Jump, 66),
+    Entry("brif", Class::Brif, 67),
+    Entry("br_table", Class::BrTable, 68),
+    Entry("return", Class::Return, 69),
+    Entry("trap", Class::Trap, 70),
+    Entry("trapz", Class::TrapIf, 71),
+    Entry("trapnz", Class::TrapIf, 72),
+    Entry("call", Class::Call, 73),
+    Entry("return_call", Class::Call, 74),
+    Entry("try_call", Class::TryCall, 75),
+    Entry("call_indirect", Class::CallIndirect, 76),
+    Entry("return_call_indirect", Class::CallIndirect, 77),
+    Entry("try_call_indirect", Class::TryCallIndirect, 78),
+    Entry("stack_addr", Class::RefusedOpcode, 0),
+    Entry("dynamic_stack_addr", Class::RefusedOpcode, 1),
+    Entry("dynamic_stack_load", Class::RefusedOpcode, 2),
+    Entry("dynamic_stack_store", Class::RefusedOpcode, 3),
+    Entry("global_value", Class::RefusedOpcode, 4),
+    Entry("symbol_value", Class::RefusedOpcode, 5),
+    Entry("tls_value", Class::RefusedOpcode, 6),
+    Entry("bitcast", Class::RefusedOpcode, 7),
+    Entry("bmask", Class::RefusedOpcode, 8),
+    Entry("bitselect", Class::RefusedOpcode, 9),
+    Entry("cls", Class::RefusedOpcode, 10),
+    Entry("band_not", Class::RefusedOpcode, 11),
+    Entry("bor_not", Class::RefusedOpcode, 12),
+    Entry("bxor_not", Class::RefusedOpcode, 13),
+    Entry("irsub_imm", Class::RefusedOpcode, 14),
+    Entry("udiv_imm", Class::RefusedOpcode, 15),
+    Entry("sdiv_imm", Class::RefusedOpcode, 16),
+    Entry("urem_imm", Class::RefusedOpcode, 17),
+    Entry("srem_imm", Class::RefusedOpcode, 18),
+    Entry("rotl_imm", Class::RefusedOpcode, 19),
+    Entry("rotr_imm", Class::RefusedOpcode, 20),
+    Entry("umul_overflow", Class::RefusedOpcode, 21),
+    Entry("smul_overflow", Class::RefusedOpcode, 22),
+    Entry("uadd_overflow_trap", Class::RefusedOpcode, 23),
+    Entry("select_spectre_guard", Class::RefusedOpcode, 24),
     Entry("atomic_load", Class::RefusedOpcode, 25),
     Entry("atomic_store", Class::RefusedOpcode, 26),
     Entry("atomic_rmw", Class::RefusedOpcode, 27),
     Entry("atomic_cas", Class::RefusedOpcode, 28),
-    Entry("apple_aarch64", Class::Conv, 4),
-    Entry("align", Class::Align, 0),
-    Entry("aligned", Class::Flag, 1),
-];
-
-/// The words that begin with `b`.
-pub const WORDS_B: [Entry; 19] = [
-    Entry("band", Class::Binary, 4),
-    Entry("bor", Class::Binary, 5),
-    Entry("bxor", Class::Binary, 6),
-    Entry("bnot", Class::Unary, 28),
-    Entry("bitrev", Class::Unary, 33),
-    Entry("bswap", Class::Unary, 34),
-    Entry("band_imm", Class::BinaryImm, 43),
-    Entry("bor_imm", Class::BinaryImm, 44),
-    Entry("bxor_imm", Class::BinaryImm, 45),
-    Entry("brif", Class::Brif, 67),
-    Entry("br_table", Class::BrTable, 68),
-    Entry("bitcast", Class::RefusedOpcode, 7),
-    Entry("bmask", Class::RefusedOpcode, 8),
-    Entry("bitselect", Class::RefusedOpcode, 9),
-    Entry("band_not", Class::RefusedOpcode, 11),
-    Entry("bor_not", Class::RefusedOpcode, 12),
-    Entry("bxor_not", Class::RefusedOpcode, 13),
-    Entry("big", Class::Big, 0),
-    Entry("bad_toint", Class::TrapCode, 4),
-];
-
-/// The words that begin with `c`.
-pub const WORDS_C: [Entry; 10] = [
-    Entry("clz", Class::Unary, 30),
-    Entry("ctz", Class::Unary, 31),
-    Entry("call", Class::Call, 73),
-    Entry("call_indirect", Class::CallIndirect, 76),
-    Entry("cls", Class::RefusedOpcode, 10),
-    Entry("ceil", Class::RefusedOpcode, 43),
-    Entry("cold", Class::Cold, 0),
-    Entry("colocated", Class::Colocated, 0),
-    Entry("context", Class::Context, 0),
-    Entry("can_move", Class::Flag, 3),
-];
-
-/// The words that begin with `d`.
-pub const WORDS_D: [Entry; 5] = [
-    Entry("dynamic_stack_addr", Class::RefusedOpcode, 1),
-    Entry("dynamic_stack_load", Class::RefusedOpcode, 2),
-    Entry("dynamic_stack_store", Class::RefusedOpcode, 3),
-    Entry("debugtrap", Class::RefusedOpcode, 70),
-    Entry("default", Class::Default, 0),
-];
-
-/// The words that begin with `e`.
-pub const WORDS_E: [Entry; 3] = [
-    Entry("extractlane", Class::RefusedOpcode, 59),
-    Entry("explicit_slot", Class::ExplicitSlot, 0),
-    Entry("eq", Class::Condition, 0),
-];
-
-/// The words that begin with `f`.
-pub const WORDS_F: [Entry; 30] = [
-    Entry("func_addr", Class::FuncAddr, 63),
     Entry("fence", Class::RefusedOpcode, 29),
     Entry("f32const", Class::RefusedOpcode, 30),
     Entry("f64const", Class::RefusedOpcode, 31),
@@ -84,10 +127,14 @@ pub const WORDS_F: [Entry; 30] = [
     Entry("fneg", Class::RefusedOpcode, 36),
     Entry("fabs", Class::RefusedOpcode, 37),
     Entry("fcmp", Class::RefusedOpcode, 38),
+    Entry("sqrt", Class::RefusedOpcode, 39),
     Entry("fma", Class::RefusedOpcode, 40),
     Entry("fmin", Class::RefusedOpcode, 41),
     Entry("fmax", Class::RefusedOpcode, 42),
+    Entry("ceil", Class::RefusedOpcode, 43),
     Entry("floor", Class::RefusedOpcode, 44),
+    Entry("trunc", Class::RefusedOpcode, 45),
+    Entry("nearest", Class::RefusedOpcode, 46),
     Entry("fcopysign", Class::RefusedOpcode, 47),
     Entry("fpromote", Class::RefusedOpcode, 48),
     Entry("fdemote", Class::RefusedOpcode, 49),
@@ -97,191 +144,97 @@ pub const WORDS_F: [Entry; 30] = [
     Entry("fcvt_to_sint_sat", Class::RefusedOpcode, 53),
     Entry("fcvt_from_uint", Class::RefusedOpcode, 54),
     Entry("fcvt_from_sint", Class::RefusedOpcode, 55),
-    Entry("function", Class::Function, 0),
-    Entry("fast", Class::Conv, 0),
-    Entry("f16", Class::RefusedType, 0),
-    Entry("f32", Class::RefusedType, 1),
-    Entry("f64", Class::RefusedType, 2),
-    Entry("f128", Class::RefusedType, 3),
-];
-
-/// The words that begin with `g`.
-pub const WORDS_G: [Entry; 5] = [
-    Entry("global_value", Class::RefusedOpcode, 4),
+    Entry("vconst", Class::RefusedOpcode, 56),
+    Entry("splat", Class::RefusedOpcode, 57),
+    Entry("insertlane", Class::RefusedOpcode, 58),
+    Entry("extractlane", Class::RefusedOpcode, 59),
+    Entry("shuffle", Class::RefusedOpcode, 60),
+    Entry("swizzle", Class::RefusedOpcode, 61),
+    Entry("vany_true", Class::RefusedOpcode, 62),
+    Entry("vall_true", Class::RefusedOpcode, 63),
+    Entry("vhigh_bits", Class::RefusedOpcode, 64),
     Entry("get_pinned_reg", Class::RefusedOpcode, 65),
+    Entry("set_pinned_reg", Class::RefusedOpcode, 66),
     Entry("get_frame_pointer", Class::RefusedOpcode, 67),
     Entry("get_stack_pointer", Class::RefusedOpcode, 68),
     Entry("get_return_address", Class::RefusedOpcode, 69),
-];
-
-/// The words that begin with `h`.
-pub const WORDS_H: [Entry; 2] = [
-    Entry("heap", Class::Flag, 4),
-    Entry("heap_oob", Class::TrapCode, 2),
-];
-
-/// The words that begin with `i`.
-pub const WORDS_I: [Entry; 27] = [
-    Entry("iconst", Class::Iconst, 0),
-    Entry("iadd", Class::Binary, 1),
-    Entry("isub", Class::Binary, 2),
-    Entry("imul", Class::Binary, 3),
-    Entry("ishl", Class::Binary, 17),
-    Entry("iconcat", Class::Binary, 26),
-    Entry("ineg", Class::Unary, 27),
-    Entry("iabs", Class::Unary, 29),
-    Entry("isplit", Class::Unary, 35),
-    Entry("icmp", Class::Icmp, 36),
-    Entry("ireduce", Class::Convert, 40),
-    Entry("iadd_imm", Class::BinaryImm, 41),
-    Entry("imul_imm", Class::BinaryImm, 42),
-    Entry("ishl_imm", Class::BinaryImm, 46),
-    Entry("icmp_imm", Class::IcmpImm, 49),
-    Entry("istore8", Class::Store, 58),
-    Entry("istore16", Class::Store, 59),
-    Entry("istore32", Class::Store, 60),
-    Entry("irsub_imm", Class::RefusedOpcode, 14),
-    Entry("insertlane", Class::RefusedOpcode, 58),
+    Entry("debugtrap", Class::RefusedOpcode, 70),
+    Entry("function", Class::Function, 0),
+    Entry("fast", Class::Conv, 0),
+    Entry("tail", Class::Conv, 1),
+    Entry("system_v", Class::Conv, 2),
+    Entry("windows_fastcall", Class::Conv, 3),
+    Entry("apple_aarch64", Class::Conv, 4),
+    Entry("probestack", Class::Conv, 5),
+    Entry("winch", Class::Conv, 6),
+    Entry("cold", Class::Cold, 0),
     Entry("i8", Class::Ty, 0),
     Entry("i16", Class::Ty, 1),
     Entry("i32", Class::Ty, 2),
     Entry("i128", Class::Ty, 3),
     Entry("i64", Class::TyI64, 0),
-    Entry("int_ovf", Class::TrapCode, 1),
-    Entry("int_divz", Class::TrapCode, 3),
-];
-
-/// The words that begin with `j`.
-pub const WORDS_J: [Entry; 1] = [Entry("jump", Class::Jump, 66)];
-
-/// The words that begin with `l`.
-pub const WORDS_L: [Entry; 2] = [
-    Entry("load", Class::Load, 50),
-    Entry("little", Class::Little, 0),
-];
-
-/// The words that begin with `n`.
-pub const WORDS_N: [Entry; 4] = [
-    Entry("nop", Class::Nullary, 64),
-    Entry("nearest", Class::RefusedOpcode, 46),
-    Entry("notrap", Class::Flag, 0),
-    Entry("ne", Class::Condition, 1),
-];
-
-/// The words that begin with `p`.
-pub const WORDS_P: [Entry; 2] = [
-    Entry("popcnt", Class::Unary, 32),
-    Entry("probestack", Class::Conv, 5),
-];
-
-/// The words that begin with `r`.
-pub const WORDS_R: [Entry; 10] = [
-    Entry("rotl", Class::Binary, 20),
-    Entry("rotr", Class::Binary, 21),
-    Entry("return", Class::Return, 69),
-    Entry("return_call", Class::Call, 74),
-    Entry("return_call_indirect", Class::CallIndirect, 77),
-    Entry("rotl_imm", Class::RefusedOpcode, 19),
-    Entry("rotr_imm", Class::RefusedOpcode, 20),
+    Entry("f16", Class::RefusedType, 0),
+    Entry("f32", Class::RefusedType, 1),
+    Entry("f64", Class::RefusedType, 2),
+    Entry("f128", Class::RefusedType, 3),
     Entry("r32", Class::RefusedType, 4),
     Entry("r64", Class::RefusedType, 5),
-    Entry("readonly", Class::Flag, 2),
-];
-
-/// The words that begin with `s`.
-pub const WORDS_S: [Entry; 38] = [
-    Entry("smin", Class::Binary, 7),
-    Entry("smax", Class::Binary, 8),
-    Entry("smulhi", Class::Binary, 12),
-    Entry("sdiv", Class::Binary, 15),
-    Entry("srem", Class::Binary, 16),
-    Entry("sshr", Class::Binary, 19),
-    Entry("sadd_overflow", Class::Binary, 23),
-    Entry("ssub_overflow", Class::Binary, 25),
-    Entry("select", Class::Select, 37),
-    Entry("sextend", Class::Convert, 39),
-    Entry("sshr_imm", Class::BinaryImm, 48),
-    Entry("sload8", Class::Load, 52),
-    Entry("sload16", Class::Load, 54),
-    Entry("sload32", Class::LoadWide, 56),
-    Entry("store", Class::Store, 57),
-    Entry("stack_load", Class::StackLoad, 61),
-    Entry("stack_store", Class::StackStore, 62),
-    Entry("sequence_point", Class::Nullary, 65),
-    Entry("stack_addr", Class::RefusedOpcode, 0),
-    Entry("symbol_value", Class::RefusedOpcode, 5),
-    Entry("sdiv_imm", Class::RefusedOpcode, 16),
-    Entry("srem_imm", Class::RefusedOpcode, 18),
-    Entry("smul_overflow", Class::RefusedOpcode, 22),
-    Entry("select_spectre_guard", Class::RefusedOpcode, 24),
-    Entry("sqrt", Class::RefusedOpcode, 39),
-    Entry("splat", Class::RefusedOpcode, 57),
-    Entry("shuffle", Class::RefusedOpcode, 60),
-    Entry("swizzle", Class::RefusedOpcode, 61),
-    Entry("set_pinned_reg", Class::RefusedOpcode, 66),
-    Entry("system_v", Class::Conv, 2),
+    Entry("uext", Class::Ext, 0),
     Entry("sext", Class::Ext, 1),
+    Entry("vmctx", Class::Vmctx, 0),
     Entry("sret", Class::Sret, 0),
+    Entry("explicit_slot", Class::ExplicitSlot, 0),
+    Entry("align", Class::Align, 0),
+    Entry("colocated", Class::Colocated, 0),
     Entry("stack_limit", Class::RefusedDecl, 0),
+    Entry("default", Class::Default, 0),
+    Entry("context", Class::Context, 0),
+    Entry("notrap", Class::Flag, 0),
+    Entry("aligned", Class::Flag, 1),
+    Entry("readonly", Class::Flag, 2),
+    Entry("can_move", Class::Flag, 3),
+    Entry("heap", Class::Flag, 4),
+    Entry("table", Class::Flag, 5),
+    Entry("little", Class::Little, 0),
+    Entry("big", Class::Big, 0),
     Entry("stk_ovf", Class::TrapCode, 0),
+    Entry("int_ovf", Class::TrapCode, 1),
+    Entry("heap_oob", Class::TrapCode, 2),
+    Entry("int_divz", Class::TrapCode, 3),
+    Entry("bad_toint", Class::TrapCode, 4),
+    Entry("eq", Class::Condition, 0),
+    Entry("ne", Class::Condition, 1),
     Entry("slt", Class::Condition, 2),
     Entry("sge", Class::Condition, 3),
     Entry("sgt", Class::Condition, 4),
     Entry("sle", Class::Condition, 5),
-];
-
-/// The words that begin with `t`.
-pub const WORDS_T: [Entry; 9] = [
-    Entry("trap", Class::Trap, 70),
-    Entry("trapz", Class::TrapIf, 71),
-    Entry("trapnz", Class::TrapIf, 72),
-    Entry("try_call", Class::TryCall, 75),
-    Entry("try_call_indirect", Class::TryCallIndirect, 78),
-    Entry("tls_value", Class::RefusedOpcode, 6),
-    Entry("trunc", Class::RefusedOpcode, 45),
-    Entry("tail", Class::Conv, 1),
-    Entry("table", Class::Flag, 5),
-];
-
-/// The words that begin with `u`.
-pub const WORDS_U: [Entry; 22] = [
-    Entry("umin", Class::Binary, 9),
-    Entry("umax", Class::Binary, 10),
-    Entry("umulhi", Class::Binary, 11),
-    Entry("udiv", Class::Binary, 13),
-    Entry("urem", Class::Binary, 14),
-    Entry("ushr", Class::Binary, 18),
-    Entry("uadd_overflow", Class::Binary, 22),
-    Entry("usub_overflow", Class::Binary, 24),
-    Entry("uextend", Class::Convert, 38),
-    Entry("ushr_imm", Class::BinaryImm, 47),
-    Entry("uload8", Class::Load, 51),
-    Entry("uload16", Class::Load, 53),
-    Entry("uload32", Class::LoadWide, 55),
-    Entry("udiv_imm", Class::RefusedOpcode, 15),
-    Entry("urem_imm", Class::RefusedOpcode, 17),
-    Entry("umul_overflow", Class::RefusedOpcode, 21),
-    Entry("uadd_overflow_trap", Class::RefusedOpcode, 23),
-    Entry("uext", Class::Ext, 0),
     Entry("ult", Class::Condition, 6),
     Entry("uge", Class::Condition, 7),
     Entry("ugt", Class::Condition, 8),
     Entry("ule", Class::Condition, 9),
 ];
 
-/// The words that begin with `v`.
-pub const WORDS_V: [Entry; 5] = [
-    Entry("vconst", Class::RefusedOpcode, 56),
-    Entry("vany_true", Class::RefusedOpcode, 62),
-    Entry("vall_true", Class::RefusedOpcode, 63),
-    Entry("vhigh_bits", Class::RefusedOpcode, 64),
-    Entry("vmctx", Class::Vmctx, 0),
+/// How far the places of the words are shifted whose sums leave this rest. Made from `WORDS` by `bench/word_places.py`.
+pub const SHIFTS: [u8; 64] = [
+    40, 4, 3, 0, 7, 7, 41, 72, 31, 4, 2, 0, 23, 0, 5, 30, 16, 10, 83, 3, 9, 23, 18, 0, 0, 20, 4, 4,
+    69, 4, 132, 94, 21, 0, 42, 3, 16, 0, 5, 64, 0, 11, 8, 5, 79, 7, 17, 0, 47, 20, 32, 0, 40, 0,
+    10, 0, 12, 1, 10, 2, 47, 13, 0, 0,
 ];
 
-/// The words that begin with `w`.
-pub const WORDS_W: [Entry; 2] = [
-    Entry("windows_fastcall", Class::Conv, 3),
-    Entry("winch", Class::Conv, 6),
+/// The number in `WORDS` of the word that belongs at a place, by `bench/word_places.py` too.
+pub const PLACES: [u8; 256] = [
+    29, 151, 36, 131, 27, 184, 116, 158, 23, 2, 194, 121, 120, 162, 1, 114, 159, 193, 24, 192, 21,
+    13, 16, 49, 52, 170, 153, 10, 70, 9, 63, 8, 173, 181, 15, 171, 152, 14, 112, 130, 20, 107, 48,
+    17, 164, 18, 163, 66, 5, 92, 12, 154, 168, 30, 142, 195, 166, 196, 89, 148, 31, 119, 128, 144,
+    46, 169, 125, 45, 199, 129, 87, 201, 202, 64, 115, 82, 50, 161, 200, 191, 101, 62, 26, 102,
+    111, 55, 197, 95, 183, 187, 53, 182, 19, 7, 135, 74, 3, 65, 174, 127, 180, 198, 0, 0, 0, 109,
+    185, 146, 165, 72, 0, 22, 0, 136, 0, 0, 106, 0, 56, 0, 137, 0, 132, 178, 160, 0, 68, 57, 71,
+    97, 84, 51, 38, 35, 43, 0, 75, 90, 54, 157, 124, 176, 189, 140, 172, 78, 0, 80, 143, 81, 58,
+    39, 0, 0, 105, 118, 88, 145, 141, 110, 100, 0, 98, 77, 93, 0, 0, 134, 0, 0, 0, 0, 0, 79, 47, 0,
+    0, 0, 0, 69, 32, 40, 0, 104, 175, 11, 177, 61, 94, 0, 25, 133, 59, 149, 60, 103, 0, 186, 147,
+    0, 0, 0, 0, 33, 0, 155, 0, 150, 0, 0, 76, 0, 0, 0, 0, 0, 0, 34, 99, 83, 188, 0, 126, 0, 86,
+    138, 37, 167, 85, 0, 0, 179, 108, 91, 0, 156, 0, 0, 0, 0, 190, 73, 0, 4, 28, 67, 123, 96, 6,
+    122, 117, 44, 113, 42, 139, 41,
 ];
 
 /// The words that are followed by a number, as `v7`.

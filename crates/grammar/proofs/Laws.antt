@@ -1,31 +1,12 @@
 -- A rule in which the next token says the way is read exactly: by the text that it derives, and up to the first token that begins no text.
-use Rattle.std.proofs.Common.{◌≡◌, ℕ, zero, suc, ◌≤◌, ◌==◌, Bool, true, false, not, ◌&&◌, ◌||◌, cond, List, [], ◌∷◌, ◌++◌, length, Some, None, Result, Ok, Err, refl, sym, ap, subst, ◌∙◌, arith, inl, inr, append_assoc, length-append}
+use Rattle.std.proofs.Common.{◌≡◌, ℕ, zero, suc, ◌≤◌, ◌==◌, Bool, true, false, not, ◌&&◌, ◌||◌, cond, List, [], ◌∷◌, ◌++◌, length, Some, None, Ok, Err, refl, ap, subst, ◌∙◌, arith, inl, inr, append_assoc, length-append}
 use Rattle.std.specs.Prelude.{◌⊎◌}
 use Rattle.std.proofs.lemmas.Bool.{eqb-true, eq-eqb}
 use Rattle.std.proofs.Math.Bool.{or-true}
 use Rattle.grammar.specs.Rules.{Lexeme, Kind, Syntax, Rule, Empty, Tok, Seq, Alt, Opt, Many, Refuse, Chain, Value, Each, ByFlag, ends, Derives, Begins, heads, nullable, firsts, exts, disjoint, good, Out, ◌>>=◌, token, repeat, by_flag, read}
+use Rattle.grammar.proofs.Binds.{bind_ok, ok_is, regroup}
 use Rattle.grammar.proofs.Chains.{sound_chain, front_chain, complete_chain}
 use Rattle.grammar.proofs.Sets.{both, not_true, heads_split, heads_left, heads_right, heads_append, heads_some, disjoint_heads}
-
-abbrev Stop : Type 0
-Stop = Kind × List Lexeme
-
-pub bind_ok : {A B : Type 0} (r : Result A Stop) (f : A → Result B Stop) (y : B) → (r >>= f) ≡ Ok y → (x : A) × (r ≡ Ok x) × (f x ≡ Ok y)
-bind_ok (Ok x) f y e = (x, refl, e)
-bind_ok (Err d) f y e = absurd cc
-
-pub bind_err : {A B : Type 0} (r : Result A Stop) (f : A → Result B Stop) (d : Stop) → (r >>= f) ≡ Err d → (r ≡ Err d) ⊎ ((x : A) × (r ≡ Ok x) × (f x ≡ Err d))
-bind_err (Ok x) f d e = inr (x, refl, e)
-bind_err (Err c) f d e = inl (same c d e)
-  where
-    same : {A B : Type 0} (c d : Stop) → (let x : Result B Stop = Err c in x) ≡ Err d → (let x : Result A Stop = Err c in x) ≡ Err d
-    same c d e = ap (λ (k : Stop). Err k) cc
-
-abbrev done : {A : Type 0} → A → Result A Stop
-done x = Ok x
-
-pub ok_is : {A : Type 0} (x y : A) → done x ≡ done y → x ≡ y
-ok_is x y e = cc
 
 -- ---- what is read is derived
 
@@ -34,9 +15,6 @@ Took r ts x = (us : List Lexeme) × (ts ≡ us ++ x.1) × Derives r us x.0
 
 abbrev TookEach : {A : Type 0} → (List Lexeme → A → Type 0) → List Lexeme → List A × List Lexeme → Type 0
 TookEach D ts x = (us : List Lexeme) × (ts ≡ us ++ x.1) × Each D us x.0
-
-regroup : (ts us ws rest more : List Lexeme) → ts ≡ us ++ rest → rest ≡ ws ++ more → ts ≡ (us ++ ws) ++ more
-regroup ts us ws rest more e f = e ∙ ap (λ (l : List Lexeme). us ++ l) f ∙ sym (append_assoc us ws more)
 
 sound_each : {A : Type 0} (p : List Lexeme → Out A) (D : List Lexeme → A → Type 0) (cs : List ℕ)
     → ((ts : List Lexeme) (x : A × List Lexeme) → p ts ≡ Ok x → (us : List Lexeme) × (ts ≡ us ++ x.1) × D us x.0)

@@ -2,11 +2,9 @@
 use Rattle.std.proofs.Common.{◌≡◌, ℕ, zero, suc, ◌==◌, Bool, true, false, cond, List, [], ◌∷◌, ◌++◌, length, Some, None, Result, Ok, Err, refl, sym, ap, subst, ◌∙◌, inl, inr, append_assoc}
 use Rattle.std.specs.Prelude.{◌⊎◌}
 use Rattle.grammar.specs.Rules.{Lexeme, Kind, Syntax, Rule, Empty, Tok, Seq, Alt, Opt, Many, Refuse, Chain, Value, ByFlag, OnFlag, Derives, Begins, Refuses, member, heads, firsts, Out, ◌>>=◌, token, refusal, repeat, by_flag, read}
+use Rattle.grammar.proofs.Binds.{Stop, bind_err, ok_err, regroup}
 use Rattle.grammar.proofs.Chains.{stopped_chain}
-use Rattle.grammar.proofs.Laws.{sound_flag, flag_firsts, bind_err, sound, Took}
-
-abbrev Stop : Type 0
-Stop = Kind × List Lexeme
+use Rattle.grammar.proofs.Laws.{sound_flag, flag_firsts, sound, Took}
 
 abbrev failed : {A : Type 0} → Stop → Result A Stop
 failed e = Err e
@@ -25,12 +23,6 @@ Stopped r ts e = (us : List Lexeme) × (ts ≡ us ++ e.1) × Begins r us × Why 
 why_more : (r q : Rule) (us ws : List Lexeme) (e : Stop) → ((x : Lexeme) (k : Kind) → Refuses r us x k → Refuses q ws x k) → Why r us e → Why q ws e
 why_more r q us ws e f (inl h) = inl h
 why_more r q us ws e f (inr h) = inr (h.0, h.1, h.2, f h.0 e.0 h.3)
-
-regroup : (ts us ws rest more : List Lexeme) → ts ≡ us ++ rest → rest ≡ ws ++ more → ts ≡ (us ++ ws) ++ more
-regroup ts us ws rest more e f = e ∙ ap (λ (l : List Lexeme). us ++ l) f ∙ sym (append_assoc us ws more)
-
-ok_err : {A : Type 0} (x : A) (e : Stop) {B : Type 0} → (let y : Result A Stop = Ok x in y) ≡ Err e → B
-ok_err x e h = absurd cc
 
 abbrev ManySoFar : Rule → List Lexeme → Stop → Type 0
 ManySoFar a ts e = (us : List Lexeme) × (ts ≡ us ++ e.1) × Begins (Many a) us × Why (Many a) us e

@@ -4,6 +4,7 @@ use Rattle.std.specs.Prelude.{◌⊎◌}
 use Rattle.std.proofs.lemmas.Bool.{eq-eqb}
 use Rattle.std.proofs.lemmas.List.{append-nil}
 use Rattle.grammar.specs.Rules.{Lexeme, Rule, Empty, Tok, Seq, Alt, Opt, Many, Refuse, Chain, Value, Cut, Each, ends, nullable, heads, firsts, Derives, Begins}
+use Rattle.grammar.proofs.Binds.{regroup}
 use Rattle.grammar.proofs.Laws.{front}
 use Rattle.grammar.proofs.Past.{derives_begins}
 use Rattle.grammar.proofs.Chains.{ends-append}
@@ -100,8 +101,8 @@ tail_same c a w m n = record {
   joined_b = λ us vs h e k. never c a m n us h e;
 }
 
-tok_ends : (c : ℕ) (us : List Lexeme) → Whole (Tok c) us → (f : Bool) → ends c f us ≡ true
-tok_ends c us h f = rw (h.1.0, h.1.1, eq-eqb c c refl) refl
+pub tok_ends : (c : ℕ) (us : List Lexeme) (x : Lexeme) → Derives (Tok c) us x → (f : Bool) → ends c f us ≡ true
+tok_ends c us x h f = rw (h.0, h.1, eq-eqb c c refl) refl
 
 -- the token itself
 pub tail_end : (c : ℕ) (w : Rule) → Tail c (Seq (Tok c) (Opt w)) (Tok c) w
@@ -119,13 +120,13 @@ tail_end c w = record {
 
     whole : (ts : List Lexeme) (x : Lexeme) (o : Option (Value w)) → Derives (Seq (Tok c) (Opt w)) ts (x, o) → Whole (Tok c) ts ⊎ Cut ts (λ us vs. Whole (Tok c) us × ((f : Bool) → ends c f us ≡ true) × Whole w vs)
     whole ts x None d = inl (x, (let e : ts ≡ d.0 = d.2 ∙ ap (λ (l : List Lexeme). d.0 ++ l) d.3.1 ∙ append-nil d.0 in (e ∙ d.3.0.0, d.3.0.1)))
-    whole ts x (Some v) d = inr (d.0, d.1, d.2, ((x, d.3.0), tok_ends c d.0 (x, d.3.0), (v, d.3.1)))
+    whole ts x (Some v) d = inr (d.0, d.1, d.2, ((x, d.3.0), tok_ends c d.0 x d.3.0, (v, d.3.1)))
 
     begun : (ts : List Lexeme) → Cut ts (λ us ws. ((v : Lexeme) × Derives (Tok c) us v) × ((ws ≡ []) ⊎ Begins w ws)) → Begins (Tok c) ts ⊎ Cut ts (λ us vs. Whole (Tok c) us × ((f : Bool) → ends c f us ≡ true) × Begins w vs)
     begun ts h =
         elim h.3.1 [
           | inl z ↦ (let e : ts ≡ h.0 = h.2 ∙ ap (λ (l : List Lexeme). h.0 ++ l) z ∙ append-nil h.0 in inl (subst (Begins (Tok c)) (sym e) (derives_begins (Tok c) h.0 h.3.0.0 h.3.0.1)))
-          | inr z ↦ inr (h.0, h.1, h.2, (h.3.0, tok_ends c h.0 h.3.0, z))
+          | inr z ↦ inr (h.0, h.1, h.2, (h.3.0, tok_ends c h.0 h.3.0.0 h.3.0.1, z))
         ]
 
 pub tail_alt : (c : ℕ) (n1 a1 n2 a2 w : Rule) → Tail c n1 a1 w → Tail c n2 a2 w → Tail c (Alt n1 n2) (Alt a1 a2) w
@@ -162,7 +163,7 @@ pub tail_seq : (c : ℕ) (p n a w : Rule) → nullable a ≡ false → Tail c n 
 tail_seq c p n a w some t = record {
   split = λ ts h. (elim (t.split h.1.1 (h.0.1, h.1.3.1)) [
     | inl k ↦ inl ((h.0.0, k.0), (h.1.0, h.1.1, h.1.2, (h.1.3.0, k.1)))
-    | inr k ↦ inr (h.1.0 ++ k.0, k.1, further ts h.1.0 h.1.1 k.0 k.1 h.1.2 k.2, (((h.0.0, k.3.0.0), (h.1.0, k.0, refl, (h.1.3.0, k.3.0.1))), λ f. ends-append c f h.1.0 k.0 ∙ k.3.1 (ends c f h.1.0), k.3.2))
+    | inr k ↦ inr (h.1.0 ++ k.0, k.1, regroup ts h.1.0 k.0 h.1.1 k.1 h.1.2 k.2, (((h.0.0, k.3.0.0), (h.1.0, k.0, refl, (h.1.3.0, k.3.0.1))), λ f. ends-append c f h.1.0 k.0 ∙ k.3.1 (ends c f h.1.0), k.3.2))
   ]);
   alone = λ ts h. (let k = t.alone h.1.1 (h.0.1, h.1.3.1) in ((h.0.0, k.0), (h.1.0, h.1.1, h.1.2, (h.1.3.0, k.1))));
   joined = λ us vs h e k. (let j = t.joined h.1.1 vs (h.0.1, h.1.3.1) (last us h e) k in ((h.0.0, j.0), (h.1.0, h.1.1 ++ vs, nearer us h.1.0 h.1.1 vs h.1.2, (h.1.3.0, j.1))));
@@ -170,16 +171,13 @@ tail_seq c p n a w some t = record {
     | inl h ↦ inl (inl h)
     | inr h ↦ elim (t.split_b h.1 h.3.1) [
       | inl k ↦ inl (inr (h.0, h.1, h.2, (h.3.0, k)))
-      | inr k ↦ inr (h.0 ++ k.0, k.1, further ts h.0 h.1 k.0 k.1 h.2 k.2, (((h.3.0.0, k.3.0.0), (h.0, k.0, refl, (h.3.0.1, k.3.0.1))), λ f. ends-append c f h.0 k.0 ∙ k.3.1 (ends c f h.0), k.3.2))
+      | inr k ↦ inr (h.0 ++ k.0, k.1, regroup ts h.0 k.0 h.1 k.1 h.2 k.2, (((h.3.0.0, k.3.0.0), (h.0, k.0, refl, (h.3.0.1, k.3.0.1))), λ f. ends-append c f h.0 k.0 ∙ k.3.1 (ends c f h.0), k.3.2))
     ]
   ];
   alone_b = λ ts. elim [ inl h ↦ inl h | inr h ↦ inr (h.0, h.1, h.2, (h.3.0, t.alone_b h.1 h.3.1)) ];
   joined_b = λ us vs h e k. inr (h.1.0, h.1.1 ++ vs, nearer us h.1.0 h.1.1 vs h.1.2, ((h.0.0, h.1.3.0), t.joined_b h.1.1 vs (h.0.1, h.1.3.1) (last us h e) k));
 }
   where
-    further : (ts us ws u1 u2 : List Lexeme) → ts ≡ us ++ ws → ws ≡ u1 ++ u2 → ts ≡ (us ++ u1) ++ u2
-    further ts us ws u1 u2 e f = e ∙ ap (λ (l : List Lexeme). us ++ l) f ∙ sym (append_assoc us u1 u2)
-
     nearer : (us u1 u2 vs : List Lexeme) → us ≡ u1 ++ u2 → us ++ vs ≡ u1 ++ (u2 ++ vs)
     nearer us u1 u2 vs e = ap (λ (l : List Lexeme). l ++ vs) e ∙ append_assoc u1 u2 vs
 

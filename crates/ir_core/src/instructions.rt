@@ -1,4 +1,5 @@
 //! Instructions.
+use crate::boxed::Boxed;
 use crate::lists::List;
 use crate::numbers::{Block, FuncRef, SigRef, Slot, Value};
 use crate::signatures::Ty;
@@ -6,6 +7,7 @@ use crate::values::Values;
 use clk_num::{Bits, Op, TrapCode};
 use debug_tags::Tags;
 use exn_tables::Table;
+use std::mem::size_of;
 
 /// An argument of a target: a value, a result of the call, or a payload of the exception.
 #[derive(Clone, Copy, Debug, PartialEq, Eq)]
@@ -44,7 +46,8 @@ pub enum Access {
     Sload(Ty, u8),
 }
 
-/// An instruction by its format.
+/// An instruction by its format. A function keeps its instructions in one vector, where each takes the room of the largest.
+/// So the parts that would make an instruction larger than a constant is stand behind pointers.
 #[derive(Drop)]
 pub enum Inst {
     Nop,
@@ -87,12 +90,12 @@ pub enum Inst {
     Jump(BlockCall),
     Brif {
         cond: Value,
-        yes: BlockCall,
-        no: BlockCall,
+        yes: Boxed<BlockCall>,
+        no: Boxed<BlockCall>,
     },
     BrTable {
         index: Value,
-        default: BlockCall,
+        default: Boxed<BlockCall>,
         entries: List<BlockCall>,
     },
     Return(Values),
@@ -117,8 +120,8 @@ pub enum Inst {
         callee: FuncRef,
         sig: SigRef,
         args: Values,
-        normal: BlockCall,
-        table: Table<BlockCall>,
+        normal: Boxed<BlockCall>,
+        table: Boxed<Table<BlockCall>>,
     },
     CallIndirect {
         sig: SigRef,
@@ -134,8 +137,8 @@ pub enum Inst {
         sig: SigRef,
         address: Value,
         args: Values,
-        normal: BlockCall,
-        table: Table<BlockCall>,
+        normal: Boxed<BlockCall>,
+        table: Boxed<Table<BlockCall>>,
     },
 }
 
@@ -148,3 +151,6 @@ pub struct InstData {
     pub results: Values,
     pub tags: Tags,
 }
+
+/// A module has millions of instructions: how large one is decides how much memory the module takes.
+const _: () = prove!(size_of::<InstData>() <= 96);

@@ -3,6 +3,7 @@
 //! Contracts see a function as lists over natural numbers (`specs/Module.antt`).
 #![tactic(auto)]
 
+mod boxed;
 mod copies;
 mod declarations;
 mod func;
@@ -20,6 +21,7 @@ mod size;
 mod tests;
 mod values;
 
+pub use boxed::Boxed;
 pub use declarations::{Callee, SlotDecl};
 pub use func::{Blocks, Func, Insts};
 pub use instructions::{Access, Arg, BlockCall, Flags, Inst, InstData};

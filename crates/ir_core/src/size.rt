@@ -60,17 +60,17 @@ impl Inst {
             }
             Inst::Jump(target) => target.args.as_slice().len(),
             Inst::Brif { yes, no, .. } => {
-                let yes = yes.args.as_slice().len();
+                let yes = yes.get().args.as_slice().len();
                 1usize
                     .saturating_add(yes)
-                    .saturating_add(no.args.as_slice().len())
+                    .saturating_add(no.get().args.as_slice().len())
             }
             Inst::BrTable {
                 default,
                 entries,
                 ..
             } => {
-                let default = default.args.as_slice().len();
+                let default = default.get().args.as_slice().len();
                 1usize
                     .saturating_add(default)
                     .saturating_add(entries_size(entries.as_slice()))
@@ -82,9 +82,9 @@ impl Inst {
                 ..
             } => {
                 let args = args.as_slice().len();
-                let normal = normal.args.as_slice().len();
+                let normal = normal.get().args.as_slice().len();
                 args.saturating_add(normal)
-                    .saturating_add(table_size(table.entries()))
+                    .saturating_add(table_size(table.get().entries()))
             }
             Inst::TryCallIndirect {
                 args,
@@ -93,11 +93,11 @@ impl Inst {
                 ..
             } => {
                 let args = args.as_slice().len();
-                let normal = normal.args.as_slice().len();
+                let normal = normal.get().args.as_slice().len();
                 1usize
                     .saturating_add(args)
                     .saturating_add(normal)
-                    .saturating_add(table_size(table.entries()))
+                    .saturating_add(table_size(table.get().entries()))
             }
         }
     }

@@ -102,8 +102,8 @@ fn tried(
             callee,
             sig: SigRef::new(0),
             args: Values::one(arg),
-            normal: to(alloc, normal, Arg::Ret(0))?,
-            table: Table::new(vec![in alloc; entry]?),
+            normal: Boxed::new(alloc, to(alloc, normal, Arg::Ret(0))?)?,
+            table: Boxed::new(alloc, Table::new(vec![in alloc; entry]?))?,
         },
     ))
 }
@@ -297,7 +297,7 @@ fn told(func: &Func, block: Block) -> Told
             (number, params, "jump", first_argument(target), Some(next))
         }
         Inst::TryCall { args, normal, .. } => {
-            let next = normal.block.number();
+            let next = normal.get().block.number();
             (number, params, "try_call", first_value(args), Some(next))
         }
         Inst::Return(values) => (number, params, "return", first_value(values), None),

@@ -1,0 +1,75 @@
+#!/usr/bin/env python3
+"""The two tables by which `clif_words` finds a word's row at once, made from the rows themselves.
+
+    python3 bench/word_places.py [--write]
+
+`crates/clif_words/src/words.rt` has the words in one table, `WORDS`. This prints `SHIFTS` and `PLACES` for it, or with
+`--write` puts them into that file. A word's sum takes each of its bytes to five times the sum of those before it. The sum
+modulo 64 chooses a shift, and the rest of the sum and the shift modulo 256 the word's place in `WORDS`. The words that
+share a shift get the first one that brings them to places of their own, those with the most words first.
+
+The prover checks that each row is found where these tables say, so a change of `WORDS` needs this script again."""
+import os
+import re
+import sys
+
+FACTOR = 5
+SHIFTS = 64
+PLACES = 256
+
+WORDS_FILE = os.path.join(os.path.dirname(__file__), '..', 'crates', 'clif_words', 'src', 'words.rt')
+
+
+def words_of(source):
+    """The words of `WORDS`, in their order."""
+    table = re.search(r'pub const WORDS: .*?\n\];', source, re.S).group(0)
+    return re.findall(r'Entry\(\s*"(\w+)"', table)
+
+
+def sum_of(word):
+    total = 0
+    for byte in word.encode():
+        total = (total * FACTOR + byte) % 2 ** 32
+    return total
+
+
+def tables(words):
+    """The shifts, and the words' numbers by place; a free place has 0."""
+    groups = [[] for _ in range(SHIFTS)]
+    for number, word in enumerate(words):
+        total = sum_of(word)
+        groups[total % SHIFTS].append((total // SHIFTS, number))
+    shifts, taken = [0] * SHIFTS, {}
+    for group in sorted(range(SHIFTS), key=lambda g: -len(groups[g])):
+        for shift in range(PLACES):
+            places = [(rest + shift) % PLACES for rest, _ in groups[group]]
+            if len(set(places)) == len(places) and not taken.keys() & set(places):
+                break
+        else:
+            sys.exit('no shift is left for a group of %d words' % len(groups[group]))
+        shifts[group] = shift
+        taken.update(zip(places, (number for _, number in groups[group])))
+    return shifts, [taken.get(place, 0) for place in range(PLACES)]
+
+
+def constant(name, numbers):
+    rows = [numbers[i:i + 16] for i in range(0, len(numbers), 16)]
+    lines = ['    %s,\n' % ', '.join(map(str, row)) for row in rows]
+    return 'pub const %s: [u8; %d] = [\n%s];\n' % (name, len(numbers), ''.join(lines))
+
+
+def main():
+    with open(WORDS_FILE) as file:
+        source = file.read()
+    shifts, places = tables(words_of(source))
+    if '--write' not in sys.argv:
+        print(constant('SHIFTS', shifts) + constant('PLACES', places), end='')
+        return
+    for name, numbers in ('SHIFTS', shifts), ('PLACES', places):
+        source = re.sub(r'pub const %s: .*?\n\];\n' % name, constant(name, numbers), source, flags=re.S)
+    with open(WORDS_FILE, 'w') as file:
+        file.write(source)
+
+
+if __name__ == '__main__':
+    main()

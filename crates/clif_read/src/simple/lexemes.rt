@@ -75,7 +75,7 @@ pub(crate) fn word(spelling: &[u8]) -> (Class, u64)
     if spelling[0] == b'v' {
         return entity(Class::Value, spelling, 1);
     }
-    if spelling.len() > 5 && spelling.split_at(5).0 == b"block".as_slice() {
+    if spelling.len() > 5 && spells(spelling.split_at(5).0, b"block") {
         return entity(Class::Block, spelling, 5);
     }
     (plain_word(spelling), 0)
@@ -86,14 +86,15 @@ pub(crate) fn word(spelling: &[u8]) -> (Class, u64)
 fn spells(spelling: &[u8], word: &[u8]) -> bool
     ensures { result ≡ bytes_eq spelling.now word.now }
 {
-    let mut rest = spelling;
-    'bytes: for c in word {
-        match rest.split_first() {
-            Some((d, after)) if *d == *c => rest = after,
-            _ => return false,
+    if spelling.len() != word.len() {
+        return false;
+    }
+    'bytes: for (i, c) in spelling.iter().enumerate() {
+        if *c != word[i] {
+            return false;
         }
     }
-    rest.is_empty()
+    true
 }
 
 /// The class of a word that is no entity.

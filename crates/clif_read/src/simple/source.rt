@@ -75,6 +75,20 @@ impl<'a> Source<'a> {
         ensures within { IfSome result (λ place. place < length self.now.tokens.now) }
         ensures small { IfSome result (λ place. place + 1 < 2 ^ 64) }
     {
+        if at < self.tokens.len() && !self.is_comment(at) {
+            Some(at)
+        } else {
+            self.past_comments(at)
+        }
+    }
+
+    /// The place of the next token that is no comment, where one may come first.
+    fn past_comments(&self, at: usize) -> Option<usize>
+        ensures next { MatchOption result (spec.rest self.now.text.now self.now.tokens.now at ≡ []) (λ place. spec.rest self.now.text.now self.now.tokens.now at ≡ spec.lexeme_at self.now.text.now self.now.tokens.now place ∷ spec.rest self.now.text.now self.now.tokens.now (place + 1)) }
+        ensures further { IfSome result (λ place. at ≤ place) }
+        ensures within { IfSome result (λ place. place < length self.now.tokens.now) }
+        ensures small { IfSome result (λ place. place + 1 < 2 ^ 64) }
+    {
         let mut place = at;
         'comments: while place < self.tokens.len() {
             if !self.is_comment(place) {

@@ -4,16 +4,19 @@
     python3 bench/word_places.py [--write]
 
 `crates/clif_words/src/words.rt` has the words in one table, `WORDS`. This prints `SHIFTS` and `PLACES` for it, or with
-`--write` puts them into that file. A word's sum takes each of its bytes to five times the sum of those before it. The sum
-modulo 64 chooses a shift, and the rest of the sum and the shift modulo 256 the word's place in `WORDS`. The words that
-share a shift get the first one that brings them to places of their own, those with the most words first.
+`--write` puts them into that file. A word's sum takes its first, second and last byte and its length, each times a factor
+of `FACTORS`. The sum modulo 64 chooses a shift, and the rest of the sum and the shift modulo 256 the word's place, where
+`PLACES` has its number in `WORDS`. Two words that follow each other there may have one sum: the place has the number of
+the first of them. The last but one is the highest number, so that there is a next row to it. The words that share a shift
+get the first one that brings them to places of their own, those with the most words first.
 
-The prover checks that each row is found where these tables say, so a change of `WORDS` needs this script again."""
+The prover checks that each row is found where these tables say, so a change of `WORDS` needs this script again. Where it
+finds no shift, other factors are needed, here and in `row_number` and `sum_of`, its definition for the proof."""
 import os
 import re
 import sys
 
-FACTOR = 5
+FACTORS = 32, 127, 1, 3
 SHIFTS = 64
 PLACES = 256
 
@@ -27,17 +30,20 @@ def words_of(source):
 
 
 def sum_of(word):
-    total = 0
-    for byte in word.encode():
-        total = (total * FACTOR + byte) % 2 ** 32
-    return total
+    letters = word.encode()
+    parts = letters[0], letters[1], letters[-1], len(letters) % 32
+    return sum(factor * part for factor, part in zip(FACTORS, parts))
 
 
 def tables(words):
     """The shifts, and the words' numbers by place; a free place has 0."""
-    groups = [[] for _ in range(SHIFTS)]
+    numbers = {}
     for number, word in enumerate(words):
-        total = sum_of(word)
+        first = numbers.setdefault(sum_of(word), min(number, len(words) - 2))
+        if number > first + 1:
+            sys.exit('%s and %s have one sum' % (words[first], word))
+    groups = [[] for _ in range(SHIFTS)]
+    for total, number in numbers.items():
         groups[total % SHIFTS].append((total // SHIFTS, number))
     shifts, taken = [0] * SHIFTS, {}
     for group in sorted(range(SHIFTS), key=lambda g: -len(groups[g])):

@@ -1,72 +1,99 @@
--- A row that stands where its word's number says is found there, and no other row need be looked at.
-use Rattle.std.proofs.Common.{◌≡◌, ℕ, zero, suc, ◌+◌, ◌*◌, ◌/◌, ◌%◌, ◌^◌, ◌<◌, Bool, true, false, ◌==◌, ◌&&◌, List, [], ◌∷◌, nat_lt, map, length, take, drop, get_or, None, refl, sym, ap, ◌∙◌, arith}
+-- A row that stands at its word's number, or just behind it, is found there, and no other row need be looked at.
+use Rattle.std.proofs.Common.{◌≡◌, ℕ, zero, suc, ◌+◌, ◌*◌, ◌-◌, ◌/◌, ◌%◌, ◌<◌, ◌≤◌, Bool, true, false, ◌&&◌, not, List, [], ◌∷◌, nat_lt, map, length, take, drop, get_or, None, Some, refl, ap, ◌∙◌, arith}
+use Rattle.std.proofs.Math.Numerals.{add-one}
 use Rattle.std.specs.List.{list_all}
 use Rattle.std.specs.Str.{bytes_eq}
-use Rattle.std.proofs.lemmas.Bool.{eqb-true, ltb-true}
+use Rattle.std.proofs.lemmas.Bool.{lt-ltb, ltb-true}
 use Rattle.std.proofs.lemmas.Slice.Eq.{bytes_eq-Decides}
+use Rattle.clif_words.specs.declared.items.Meaning.{Meaning}
 use Rattle.clif_words.specs.declared.words.TheConstants.{PLACES, SHIFTS}
 use Rattle.clif_words.specs.declared.words.Entry.{Entry}
 use Rattle.clif_words.specs.Table.{Row, all_words}
-use Rattle.clif_words.specs.Words.{look_up, row_of}
-
--- each row stands at the number of its word, where the first row stands at n
-abbrev pub placed : (List ℕ → ℕ) → ℕ → List Row → Bool
-placed number n [] = true
-placed number n (row ∷ rest) = (number row.word == n) && placed number (n + 1) rest
+use Rattle.clif_words.specs.Words.{look_up, means, row_of}
 
 pub both : (a b : Bool) → (a && b) ≡ true → (a ≡ true) × (b ≡ true)
 both true true e = (refl, refl)
 both true false e = absurd cc
 both false b e = absurd cc
 
-module _ (number : List ℕ → ℕ) (word : List ℕ) where
-  same_number : (other : List ℕ) (n : ℕ) → bytes_eq other word ≡ true → (number other == n) ≡ true → number word ≡ n
-  same_number other n same at = let e : other ≡ word = (bytes_eq-Decides other word).0 same in sym (ap number e) ∙ eqb-true (number other) n at
+-- no row has a word that passes a test which the table's words fail
+pub look_up-none : (test : List ℕ → Bool) (table : List Row) (word : List ℕ) → list_all (λ (row : Row). not (test row.word)) table ≡ true → test word ≡ true → look_up table word ≡ None
+look_up-none test [] word fail pass = refl
+look_up-none test (row ∷ rest) word fail pass =
+    let two = both (not (test row.word)) (list_all (λ (row : Row). not (test row.word)) rest) fail in
+    go (bytes_eq row.word word) refl two.0 (look_up-none test rest word two.1 pass)
+  where
+    go : (b : Bool) → bytes_eq row.word word ≡ b → not (test row.word) ≡ true → look_up rest word ≡ None → look_up (row ∷ rest) word ≡ None
+    go true same differs ih = absurd (let e : row.word ≡ word = (bytes_eq-Decides row.word word).0 same in let yes : test row.word ≡ true = ap test e ∙ pass in let bad : not true ≡ true = rw yes at differs in cc)
+    go false other differs ih = rw other ih
 
-  pub look_up-before : (n : ℕ) (table : List Row) → placed number n table ≡ true → number word < n → look_up table word ≡ None
-  look_up-before n [] all below = refl
-  look_up-before n (row ∷ rest) all below =
-      let two = both (number row.word == n) (placed number (n + 1) rest) all in
-      go (bytes_eq row.word word) refl two.0 (look_up-before (n + 1) rest two.1 (omega arith))
+-- each row stands at the number of its word or just behind it, where the first row stands at n
+abbrev pub placed : (List ℕ → ℕ) → ℕ → List Row → Bool
+placed number n [] = true
+placed number n (row ∷ rest) = (nat_lt (number row.word) (n + 1) && nat_lt n (number row.word + 2)) && placed number (n + 1) rest
+
+module _ (number : List ℕ → ℕ) (word : List ℕ) where
+  near : (other : List ℕ) (n : ℕ) → bytes_eq other word ≡ true → (nat_lt (number other) (n + 1) && nat_lt n (number other + 2)) ≡ true → (number word < n + 1) × (n < number word + 2)
+  near other n same at =
+      let e : number other ≡ number word = ap number ((bytes_eq-Decides other word).0 same) in
+      let two = both (nat_lt (number other) (n + 1)) (nat_lt n (number other + 2)) at in
+      let low = ltb-true (number other) (n + 1) two.0 in
+      let high = ltb-true n (number other + 2) two.1 in
+      (omega arith, omega arith)
+
+  look_up-past : (n : ℕ) (table : List Row) → placed number n table ≡ true → number word + 2 ≤ n → look_up table word ≡ None
+  look_up-past n [] all past = refl
+  look_up-past n (row ∷ rest) all past =
+      let two = both (nat_lt (number row.word) (n + 1) && nat_lt n (number row.word + 2)) (placed number (n + 1) rest) all in
+      go (bytes_eq row.word word) refl two.0 (look_up-past (n + 1) rest two.1 (omega arith))
     where
-      go : (b : Bool) → bytes_eq row.word word ≡ b → (number row.word == n) ≡ true → look_up rest word ≡ None → look_up (row ∷ rest) word ≡ None
-      go true same at ih = absurd (let e = same_number row.word n same at in omega arith)
+      go : (b : Bool) → bytes_eq row.word word ≡ b → (nat_lt (number row.word) (n + 1) && nat_lt n (number row.word + 2)) ≡ true → look_up rest word ≡ None → look_up (row ∷ rest) word ≡ None
+      go true same at ih = absurd (let e = near row.word n same at in omega arith)
       go false other at ih = rw other ih
 
-  pub look_up-there : (n k : ℕ) (table : List Row) → placed number n table ≡ true → number word ≡ n + k → look_up table word ≡ look_up (take 1 (drop k table)) word
-  look_up-there n zero [] all at = refl
-  look_up-there n (suc k) [] all at = refl
-  look_up-there n zero (row ∷ rest) all at =
-      let two = both (number row.word == n) (placed number (n + 1) rest) all in
-      go (bytes_eq row.word word) refl (look_up-before (n + 1) rest two.1 (omega arith))
+  look_up-behind : (n : ℕ) (table : List Row) → placed number n table ≡ true → n ≡ number word + 1 → look_up table word ≡ look_up (take 1 table) word
+  look_up-behind n [] all at = refl
+  look_up-behind n (row ∷ rest) all at =
+      let two = both (nat_lt (number row.word) (n + 1) && nat_lt n (number row.word + 2)) (placed number (n + 1) rest) all in
+      go (bytes_eq row.word word) refl (look_up-past (n + 1) rest two.1 (omega arith))
     where
       go : (b : Bool) → bytes_eq row.word word ≡ b → look_up rest word ≡ None → look_up (row ∷ rest) word ≡ look_up (row ∷ []) word
       go true same ih = rw same refl
       go false other ih = rw other ih
+
+  look_up-there : (n k : ℕ) (table : List Row) → placed number n table ≡ true → number word ≡ n + k → look_up table word ≡ look_up (take 2 (drop k table)) word
+  look_up-there n zero [] all at = refl
+  look_up-there n (suc k) [] all at = refl
+  look_up-there n zero (row ∷ rest) all at =
+      let two = both (nat_lt (number row.word) (n + 1) && nat_lt n (number row.word + 2)) (placed number (n + 1) rest) all in
+      go (bytes_eq row.word word) refl (look_up-behind (n + 1) rest two.1 (omega arith))
+    where
+      go : (b : Bool) → bytes_eq row.word word ≡ b → look_up rest word ≡ look_up (take 1 rest) word → look_up (row ∷ rest) word ≡ look_up (row ∷ take 1 rest) word
+      go true same ih = rw same refl
+      go false other ih = rw other ih
   look_up-there n (suc k) (row ∷ rest) all at =
-      let two = both (number row.word == n) (placed number (n + 1) rest) all in
+      let two = both (nat_lt (number row.word) (n + 1) && nat_lt n (number row.word + 2)) (placed number (n + 1) rest) all in
       go (bytes_eq row.word word) refl two.0 (look_up-there (n + 1) k rest two.1 (omega arith))
     where
-      go : (b : Bool) → bytes_eq row.word word ≡ b → (number row.word == n) ≡ true → look_up rest word ≡ look_up (take 1 (drop k rest)) word
-          → look_up (row ∷ rest) word ≡ look_up (take 1 (drop k rest)) word
-      go true same here ih = absurd (let e = same_number row.word n same here in omega arith)
+      go : (b : Bool) → bytes_eq row.word word ≡ b → (nat_lt (number row.word) (n + 1) && nat_lt n (number row.word + 2)) ≡ true → look_up rest word ≡ look_up (take 2 (drop k rest)) word
+          → look_up (row ∷ rest) word ≡ look_up (take 2 (drop k rest)) word
+      go true same here ih = absurd (let e = near row.word n same here in omega arith)
       go false other here ih = rw other ih
 
--- the sum of a word's bytes after those whose sum is given, each taken to five times the sum before it
-abbrev pub sum_after : ℕ → List ℕ → ℕ
-sum_after sum [] = sum
-sum_after sum (c ∷ cs) = sum_after ((sum * 5 % 2 ^ 32 + c) % 2 ^ 32) cs
+-- the sum of a word's first, second and last byte and its length
+abbrev pub sum_of : List ℕ → ℕ
+sum_of word = get_or word 0 0 * 32 + get_or word 1 0 * 127 + get_or word (length word - 1) 0 + length word % 32 * 3
 
 -- the number in the table of words to which a sum leads
 abbrev pub number_at : ℕ → ℕ
 number_at sum = get_or PLACES ((sum / 64 + get_or SHIFTS (sum % 64) 0) % 256) 0
 
-all_placed : placed (λ word. number_at (sum_after 0 word)) 0 all_words ≡ true
+all_placed : placed (λ word. number_at (sum_of word)) 0 all_words ≡ true
 unfolding all_words
 all_placed = refl
 
-pub look_up-placed : (word : List ℕ) → look_up all_words word ≡ look_up (take 1 (drop (number_at (sum_after 0 word)) all_words)) word
-look_up-placed word = look_up-there (λ word. number_at (sum_after 0 word)) word 0 (number_at (sum_after 0 word)) all_words all_placed (omega arith)
+pub look_up-placed : (word : List ℕ) → look_up all_words word ≡ look_up (take 2 (drop (number_at (sum_of word)) all_words)) word
+look_up-placed word = look_up-there (λ word. number_at (sum_of word)) word 0 (number_at (sum_of word)) all_words all_placed (omega arith)
 
 -- a test that each element passes, and what stands in for one past the end
 test_at : (test : ℕ → Bool) (xs : List ℕ) (i d : ℕ) → list_all test xs ≡ true → test d ≡ true → test (get_or xs i d) ≡ true
@@ -74,15 +101,17 @@ test_at test [] i d all past = past
 test_at test (x ∷ xs) zero d all past = (both (test x) (list_all test xs) all).0
 test_at test (x ∷ xs) (suc i) d all past = test_at test xs i d (both (test x) (list_all test xs) all).1 past
 
-pub number_at-by : (sum shift : ℕ) → shift ≡ get_or SHIFTS (sum % 64) 0 → get_or PLACES ((sum / 64 + shift) % 256) 0 ≡ number_at sum
-number_at-by sum shift is = ap (λ (shift : ℕ). get_or PLACES ((sum / 64 + shift) % 256) 0) is
-
-pub number_at-below : (sum : ℕ) → number_at sum < 203
-number_at-below sum = ltb-true (number_at sum) 203 (test_at (λ number. nat_lt number 203) PLACES ((sum / 64 + get_or SHIFTS (sum % 64) 0) % 256) 0 refl refl)
+pub number_at-below : (sum : ℕ) → number_at sum < 202
+number_at-below sum = ltb-true (number_at sum) 202 (test_at (λ number. nat_lt number 202) PLACES ((sum / 64 + get_or SHIFTS (sum % 64) 0) % 256) 0 refl refl)
 
 pub words_count : length all_words ≡ 203
 unfolding all_words
 words_count = refl
+
+-- each word has two letters or more
+pub short_word : (word : List ℕ) → length word < 2 → look_up all_words word ≡ None
+unfolding all_words
+short_word word short = look_up-none (λ word. nat_lt (length word) 2) all_words word refl (lt-ltb (length word) 2 short)
 
 -- a word looked for in the row at a number
 one_row : (entries : List Entry) (n : ℕ) (d : Entry) → n < length entries → take 1 (drop n (map row_of entries)) ≡ row_of (get_or entries n d) ∷ []
@@ -92,3 +121,27 @@ one_row (e ∷ es) (suc n) d below = one_row es n d (omega arith)
 
 pub look_up-row : (entries : List Entry) (n : ℕ) (d : Entry) (word : List ℕ) → n < length entries → look_up (row_of (get_or entries n d) ∷ []) word ≡ look_up (take 1 (drop n (map row_of entries))) word
 look_up-row entries n d word below = rw (one_row entries n d below) refl
+
+-- two rows, one after the other
+pub two_rows : (table : List Row) (n : ℕ) (word : List ℕ) (m : Meaning) → look_up (take 1 (drop n table)) word ≡ Some m → look_up (take 2 (drop n table)) word ≡ Some m
+two_rows [] zero word m is = absurd cc
+two_rows [] (suc n) word m is = absurd cc
+two_rows (row ∷ rest) (suc n) word m is = two_rows rest n word m is
+two_rows (row ∷ rest) zero word m is = go (bytes_eq row.word word) refl is
+  where
+    go : (b : Bool) → bytes_eq row.word word ≡ b → look_up (row ∷ []) word ≡ Some m → look_up (row ∷ take 1 rest) word ≡ Some m
+    go true same is = rw same (rw same at is)
+    go false other is = absurd (let bad : None ≡ Some m = rw other at is in cc)
+
+next_step : (table : List Row) (n : ℕ) (word : List ℕ) → look_up (take 1 (drop n table)) word ≡ None → look_up (take 2 (drop n table)) word ≡ look_up (take 1 (drop (suc n) table)) word
+next_step [] zero word is = refl
+next_step [] (suc n) word is = refl
+next_step (row ∷ rest) (suc n) word is = next_step rest n word is
+next_step (row ∷ rest) zero word is = go (bytes_eq row.word word) refl is
+  where
+    go : (b : Bool) → bytes_eq row.word word ≡ b → look_up (row ∷ []) word ≡ None → look_up (row ∷ take 1 rest) word ≡ look_up (take 1 rest) word
+    go true same is = absurd (let bad : Some (means row.class row.number) ≡ None = rw same at is in cc)
+    go false other is = rw other refl
+
+pub next_row : (table : List Row) (n : ℕ) (word : List ℕ) → look_up (take 1 (drop n table)) word ≡ None → look_up (take 2 (drop n table)) word ≡ look_up (take 1 (drop (n + 1) table)) word
+next_row table n word is = rw add-one (next_step table n word is)

@@ -1,18 +1,15 @@
 -- `v` and digits are no word of the table, but the name of a value.
-use Rattle.std.proofs.Common.{◌≡◌, ℕ, zero, suc, ◌+◌, ◌*◌, ◌-◌, ◌<◌, ◌≤◌, ◌^◌, Bool, true, false, ◌==◌, ◌&&◌, not, nat_lt, List, [], ◌∷◌, length, get_or, take, drop, None, refl, ap, ◌∙◌, arith}
+use Rattle.std.proofs.Common.{◌≡◌, ℕ, zero, suc, ◌+◌, ◌-◌, ◌<◌, ◌≤◌, ◌^◌, Bool, true, false, ◌==◌, ◌&&◌, nat_lt, List, [], ◌∷◌, length, get_or, take, drop, None, refl, ap, arith}
 use Rattle.std.proofs.Math.Nat.{pow-suc}
-use Rattle.std.proofs.Math.Numerals.{add-one}
 use Rattle.std.specs.Char.{is_ascii_digit}
 use Rattle.std.specs.List.{list_all, AllPass}
-use Rattle.std.specs.Str.{bytes_eq}
 use Rattle.std.proofs.lemmas.List.Sums.{suffix_len_is, AllPass-from_list_all}
 use Rattle.std.proofs.lemmas.List.Elements.{All-get_or}
 use Rattle.std.proofs.lemmas.Grind.{common_steps}
 use Rattle.std.proofs.lemmas.Bool.{lt-ltb}
-use Rattle.std.proofs.lemmas.Slice.Eq.{bytes_eq-Decides}
 use Rattle.clif_words.specs.declared.class.Class.TheVariants.{Value}
-use Rattle.clif_words.specs.Table.{Row, all_words}
-use Rattle.clif_words.proofs.Places.{both}
+use Rattle.clif_words.specs.Table.{all_words}
+use Rattle.clif_words.proofs.Places.{look_up-none}
 use Rattle.clif_words.specs.Words.{look_up, means, is_plain, digits_len, stem, digits, decimal_after, entity_number, stems, numbered_meaning, word_meaning}
 
 -- whether a word is `v` and digits
@@ -20,19 +17,9 @@ abbrev pub is_value : List ℕ → Bool
 is_value [] = false
 is_value (c ∷ cs) = (c == 118) && list_all is_ascii_digit cs
 
-none_is_value : (table : List Row) (word : List ℕ) → list_all (λ (row : Row). not (is_value row.word)) table ≡ true → is_value word ≡ true → look_up table word ≡ None
-none_is_value [] word none value = refl
-none_is_value (row ∷ rest) word none value =
-    let two = both (not (is_value row.word)) (list_all (λ (row : Row). not (is_value row.word)) rest) none in
-    go (bytes_eq row.word word) refl two.0 (none_is_value rest word two.1 value)
-  where
-    go : (b : Bool) → bytes_eq row.word word ≡ b → not (is_value row.word) ≡ true → look_up rest word ≡ None → look_up (row ∷ rest) word ≡ None
-    go true same differs ih = absurd (let e : row.word ≡ word = (bytes_eq-Decides row.word word).0 same in let yes : is_value row.word ≡ true = ap is_value e ∙ value in let bad : not true ≡ true = rw yes at differs in cc)
-    go false other differs ih = rw other ih
-
 no_word : (ds : List ℕ) → list_all is_ascii_digit ds ≡ true → look_up all_words (118 ∷ ds) ≡ None
 unfolding all_words
-no_word ds all = none_is_value all_words (118 ∷ ds) refl all
+no_word ds all = look_up-none is_value all_words (118 ∷ ds) refl all
 
 behind_letter : (ds : List ℕ) → list_all is_ascii_digit ds ≡ true → length (118 ∷ ds) - digits_len (118 ∷ ds) ≡ 1
 behind_letter ds all =

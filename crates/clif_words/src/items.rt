@@ -1,6 +1,6 @@
 //! What tokens are to the grammar.
 
-ghost use Rattle.std.specs.Prelude.{◌≡◌, ◌==◌, ◌&&◌, ◌||◌, not, ◌<◌, ◌≤◌, ◌^◌, List, [], ◌∷◌, length, take, drop, slice_get, IfSome, map};
+ghost use Rattle.std.specs.Prelude.{◌≡◌, ◌+◌, ◌==◌, ◌&&◌, ◌||◌, not, ◌<◌, ◌≤◌, ◌^◌, List, [], ◌∷◌, length, take, drop, slice_get, IfSome, map};
 ghost use Rattle.std.specs.Str.{bytes_eq};
 ghost use Rattle.std.specs.Char.{digit_value, is_ascii_digit};
 ghost use Rattle.std.specs.List.{suffix_len, prefix_len};
@@ -90,18 +90,18 @@ fn meaning_at(table: &[Entry], number: usize, word: &[u8]) -> Option<Meaning>
     row_meaning(&table[number], word)
 }
 
-/// The number of the one row of `WORDS` that may have the word. `bench/word_places.py` makes the tables for it.
+/// The number of a row of `WORDS`, where no row but this and the next one may have the word.
+/// `bench/word_places.py` makes the tables for it.
 #[inline]
 fn row_number(word: &[u8]) -> usize
-    ensures within { result < length table.all_words }
-    ensures only { words.look_up table.all_words word.now ≡ words.look_up (take 1 (drop result table.all_words)) word.now }
+    requires { 2 ≤ length word.now }
+    ensures within { result + 1 < length table.all_words }
+    ensures only { words.look_up table.all_words word.now ≡ words.look_up (take 2 (drop result table.all_words)) word.now }
 {
-    let mut sum: u32 = 0;
-    for c in word {
-        sum = sum.wrapping_mul(5).wrapping_add(u32::from(*c));
-    }
-    let shift = SHIFTS[(sum % 64) as usize];
-    PLACES[((sum / 64 + u32::from(shift)) % 256) as usize] as usize
+    let begin = word[0] as usize * 32 + word[1] as usize * 127;
+    let sum = begin + word[word.len() - 1] as usize + word.len() % 32 * 3;
+    let shift = SHIFTS[sum % 64] as usize;
+    PLACES[(sum / 64 + shift) % 256] as usize
 }
 
 /// The meaning of a word that has one of its own.
@@ -109,7 +109,14 @@ fn row_number(word: &[u8]) -> usize
 fn own_meaning(word: &[u8]) -> Option<Meaning>
     ensures { result ≡ words.look_up table.all_words word.now }
 {
-    meaning_at(&WORDS, row_number(word), word)
+    if word.len() < 2 {
+        return None;
+    }
+    let number = row_number(word);
+    match meaning_at(&WORDS, number, word) {
+        Some(meaning) => Some(meaning),
+        None => meaning_at(&WORDS, number + 1, word),
+    }
 }
 
 /// The value of a digit or a letter, or 36 for any other byte.

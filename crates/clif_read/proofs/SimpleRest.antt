@@ -1,10 +1,10 @@
 -- The tokens from a place on, one after the other.
 use Rattle.std.proofs.Common.{◌≡◌, ℕ, zero, suc, ◌+◌, ◌<◌, ◌≤◌, Bool, true, false, List, [], ◌∷◌, length, drop, refl, sym, ap, ◌∙◌, add-one, arith}
-use Rattle.std.specs.Prelude.{IfSome, slice_get}
+use Rattle.std.specs.Prelude.{IfSome, slice_get, Option, Some, None}
 use Rattle.std.proofs.lemmas.List.{length-drop, nil_from_length}
 use Rattle.clif_lex.specs.declared.spans.Token.{Token}
 use Rattle.grammar.specs.Rules.{Lexeme}
-use Rattle.clif_read.specs.SimpleWords.{rest, lexemes, lexeme_in, is_comment}
+use Rattle.clif_read.specs.SimpleWords.{rest, lexemes, lexeme_in, lexeme_or, lexeme_at, is_comment}
 
 pub at_end : (text : List ℕ) (ts : List Token) (at : ℕ) → length ts ≤ at → rest text ts at ≡ []
 unfolding rest
@@ -29,3 +29,11 @@ pub next_is : (text : List ℕ) (ts : List Token) (at : ℕ) (b : Bool) (x : Lex
     → IfSome (slice_get ts at) (λ t. x ≡ lexeme_in text t) → rest text ts at ≡ x ∷ rest text ts (at + 1)
 unfolding rest
 next_is text ts at b x h i e j = rw add-one (gives text ts at b x h i e j)
+
+or_is : (text : List ℕ) (o : Option Token) → IfSome o (λ t. lexeme_or text o ≡ lexeme_in text t)
+or_is text (Some t) = refl
+or_is text None = tt
+
+pub at_is : (text : List ℕ) (ts : List Token) (at : ℕ) → IfSome (slice_get ts at) (λ t. lexeme_at text ts at ≡ lexeme_in text t)
+unfolding lexeme_at
+at_is text ts at = or_is text (slice_get ts at)

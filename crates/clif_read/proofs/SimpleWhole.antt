@@ -10,11 +10,10 @@ use Rattle.ir_core.specs.Module.{Module}
 use Rattle.clif_read.specs.declared.simple.errors.SimpleErr.{SimpleErr}
 use Rattle.clif_read.specs.declared.simple.errors.SimpleErr.TheVariants.{NotSimple, NoMemory}
 use Rattle.clif_read.specs.declared.simple.lexemes.Class.TheVariants as class
-use Rattle.clif_read.specs.declared.simple.lexemes.Item.{Item}
 use Rattle.clif_read.specs.SimpleGrammar.{OneBlock, module_rule}
 use Rattle.clif_read.specs.SimpleModule.{Means, functions, functions_fit, may_follow, meaning}
 use Rattle.clif_read.specs.SimpleReading.{Out, Gives, Fails, each, only, with_front, finish, function_at, module_at}
-use Rattle.clif_read.specs.SimpleWords.{lexemes, lexeme_of}
+use Rattle.clif_read.specs.SimpleWords.{lexemes}
 use Rattle.clif_read.proofs.SimpleLoops.{Keeps, goes_on, no_front}
 use Rattle.clif_read.proofs.SimpleNames.{fit_fails}
 use Rattle.clif_read.proofs.SimpleRules.{functions_is}
@@ -48,13 +47,13 @@ refused NotSimple front f ts after total bad h e less k =
     let next = goes_on function_at (only class.Function) front ts after f total h e less k in
     ap finish (sym next.2) ∙ unfit (front ++ f ∷ []) (each function_at (only class.Function) next.0 after) (λ more. fit_fails front more f (bad refl))
 
-pub some_is_left : (o : Option (Item × ℕ)) (ts : List Lexeme) (r : ℕ → List Lexeme) → MatchOption o (ts ≡ []) (λ x. ts ≡ lexeme_of x.0 ∷ r x.1) → is_some o ≡ true → heads_any ts ≡ true
-some_is_left (Some x) ts r m h = rw m refl
-some_is_left None ts r m h = absurd cc
+pub some_is_left : (o : Option ℕ) (ts : List Lexeme) (t : ℕ → Lexeme) (r : ℕ → List Lexeme) → MatchOption o (ts ≡ []) (λ x. ts ≡ t x ∷ r x) → is_some o ≡ true → heads_any ts ≡ true
+some_is_left (Some x) ts t r m h = rw m refl
+some_is_left None ts t r m h = absurd cc
 
-pub none_is_left : (o : Option (Item × ℕ)) (ts : List Lexeme) (r : ℕ → List Lexeme) → MatchOption o (ts ≡ []) (λ x. ts ≡ lexeme_of x.0 ∷ r x.1) → is_some o ≡ false → heads_any ts ≡ false
-none_is_left (Some x) ts r m h = absurd cc
-none_is_left None ts r m h = rw m refl
+pub none_is_left : (o : Option ℕ) (ts : List Lexeme) (t : ℕ → Lexeme) (r : ℕ → List Lexeme) → MatchOption o (ts ≡ []) (λ x. ts ≡ t x ∷ r x) → is_some o ≡ false → heads_any ts ≡ false
+none_is_left (Some x) ts t r m h = absurd cc
+none_is_left None ts t r m h = rw m refl
 
 pub more_is_none : (front : List OneBlock) (ts : List Lexeme) (total : Out (List OneBlock)) → total ≡ Some (front, ts) → heads_any ts ≡ true → finish total ≡ None
 more_is_none front ts total e h = rw (e, h) refl

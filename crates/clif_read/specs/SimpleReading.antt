@@ -14,11 +14,15 @@ use Rattle.clif_read.specs.SimpleClasses.{code}
 use Rattle.clif_read.specs.SimpleGrammar.{OneBlock}
 use Rattle.ir_core.specs.Module.{Module}
 use Rattle.clif_read.specs.SimpleModule.{functions_fit, meaning}
-use Rattle.clif_read.specs.SimpleWords.{rest}
+use Rattle.clif_read.specs.SimpleWords.{rest, lexeme_at}
 
 -- the tokens from a place on
 abbrev pub after : Source → ℕ → List Lexeme
 after source at = rest source.text.now source.tokens.now at
+
+-- the token at a place
+abbrev pub token_at : Source → ℕ → Lexeme
+token_at source at = lexeme_at source.text.now source.tokens.now at
 
 abbrev pub one_block : Written → OneBlock
 one_block w = record { name = w.name.now; params = w.params; results = w.results; block_params = w.block_params.items; lines = w.lines.items; returned = w.returned.items }

@@ -1,5 +1,5 @@
 -- The tokens of simple texts: what each is, and which number it has. A comment is none of them.
-use Rattle.std.specs.Prelude.{ℕ, Bool, false, true, not, ◌&&◌, ◌==◌, nat_le, if◌then◌else◌, List, [], ◌∷◌, length, take, drop, slice_index, nat_lt, codes, Option, Some, None, pos}
+use Rattle.std.specs.Prelude.{ℕ, Bool, false, true, not, ◌&&◌, ◌==◌, nat_le, if◌then◌else◌, List, [], ◌∷◌, length, take, drop, slice_index, slice_get, nat_lt, codes, Option, Some, None, pos}
 use Rattle.std.specs.List.{list_all}
 use Rattle.std.specs.Str.{bytes_eq}
 use Rattle.std.specs.Char.{is_ascii_digit}
@@ -10,7 +10,6 @@ use Rattle.clif_lex.specs.declared.spans.Token.{Token}
 use Rattle.clif_lex.specs.Numbers.{spelled_number}
 use Rattle.clif_lex.specs.Spans.{spelling}
 use Rattle.grammar.specs.Rules.{Lexeme}
-use Rattle.clif_read.specs.declared.simple.lexemes.Item.{Item}
 use Rattle.clif_read.specs.declared.simple.lexemes.Class.{Class}
 use Rattle.clif_read.specs.declared.simple.lexemes.Class.TheVariants.{Function, Name, LeftParen, RightParen, LeftBrace, RightBrace, Comma, Colon, Equals, Dot, Arrow, I64, Fast, Block, Value, Number, Iconst, Iadd, Return, Other}
 use Rattle.clif_read.specs.SimpleClasses.{code}
@@ -85,8 +84,13 @@ lexeme_as kind.Srcloc w at = plain Other 0 at
 unfoldable pub lexeme_in : List ℕ → Token → Lexeme
 lexeme_in text t = lexeme_as t.kind (spelling text t) t.start
 
-abbrev pub lexeme_of : Item → Lexeme
-lexeme_of i = record { class = code i.class; number = i.number; amount = i.amount; name = i.name.now; place = i.spot; spot = i.spot }
+-- the token at a place, and past the end one that no rule takes
+abbrev pub lexeme_or : List ℕ → Option Token → Lexeme
+lexeme_or text (Some t) = lexeme_in text t
+lexeme_or text None = plain Other 0 0
+
+unfoldable pub lexeme_at : List ℕ → List Token → ℕ → Lexeme
+lexeme_at text ts at = lexeme_or text (slice_get ts at)
 
 abbrev pub is_comment : TokenKind → Bool
 is_comment kind.Comment = true

@@ -28,21 +28,21 @@ use written::Written;
 /// How many functions a module may have.
 const MOST_FUNCTIONS: usize = 65536;
 
-/// Adds the function that is written, if it may follow those of the module.
-fn add_function(alloc: Global, module: &mut Module, written: &Written) -> Result<(), SimpleErr>
-    ensures fits { OnOk result (adding.may_add module.old (one_block written.now) ≡ true) }
-    ensures added { OnOk result (module.new ≡ module.old ++ spec.meaning (one_block written.now) ∷ []) }
-    ensures not_simple { IfErr result (λ e. e ≡ NotSimple → adding.may_add module.old (one_block written.now) ≡ false) }
+/// Adds to a module the function that is written, if it may follow those that are there.
+fn add_function(alloc: Global, to: &mut Module, written: &Written) -> Result<(), SimpleErr>
+    ensures fits { OnOk result (adding.may_add to.old (one_block written.now) ≡ true) }
+    ensures added { OnOk result (to.new ≡ to.old ++ spec.meaning (one_block written.now) ∷ []) }
+    ensures not_simple { IfErr result (λ e. e ≡ NotSimple → adding.may_add to.old (one_block written.now) ≡ false) }
 {
-    if module.len() == MOST_FUNCTIONS {
+    if to.len() == MOST_FUNCTIONS {
         return Err(SimpleErr::NotSimple);
     }
     let name = FuncName::Text(List::from_vec(Vec::from_slice(alloc, written.name)?));
-    if module.find(&name).is_some() {
+    if to.find(&name).is_some() {
         return Err(SimpleErr::NotSimple);
     }
     let func = build(alloc, name, written)?;
-    module.push(func)?;
+    to.push(func)?;
     Ok(())
 }
 

@@ -28,20 +28,6 @@ pub enum Class {
     Other,
 }
 
-/// A token that is no comment.
-#[derive(Clone, Copy, Debug)]
-pub struct Item<'a> {
-    pub class: Class,
-    /// The number of a value or a block.
-    pub number: u64,
-    /// What a number spells.
-    pub amount: i128,
-    /// The bytes of a name, without its `%`.
-    pub name: &'a [u8],
-    /// The first byte.
-    pub spot: usize,
-}
-
 /// The number that the digits of an entity write.
 #[inline]
 #[tactic(auto, unfolding(crate::specs::SimpleWords::entity_number))]
@@ -89,7 +75,7 @@ pub(crate) fn word(spelling: &[u8]) -> (Class, u64)
     if spelling[0] == b'v' {
         return entity(Class::Value, spelling, 1);
     }
-    if spelling.len() > 5 && spelling.split_at(5).0 == b"block".as_slice() {
+    if spelling.len() > 5 && spells(spelling.split_at(5).0, b"block") {
         return entity(Class::Block, spelling, 5);
     }
     (plain_word(spelling), 0)
@@ -100,14 +86,15 @@ pub(crate) fn word(spelling: &[u8]) -> (Class, u64)
 fn spells(spelling: &[u8], word: &[u8]) -> bool
     ensures { result ≡ bytes_eq spelling.now word.now }
 {
-    let mut rest = spelling;
-    'bytes: for c in word {
-        match rest.split_first() {
-            Some((d, after)) if *d == *c => rest = after,
-            _ => return false,
+    if spelling.len() != word.len() {
+        return false;
+    }
+    'bytes: for (i, c) in spelling.iter().enumerate() {
+        if *c != word[i] {
+            return false;
         }
     }
-    rest.is_empty()
+    true
 }
 
 /// The class of a word that is no entity.
@@ -147,20 +134,6 @@ pub(crate) fn mark(byte: u8) -> Class
         b'=' => Class::Equals,
         b'.' => Class::Dot,
         _ => Class::Other,
-    }
-}
-
-/// A token that has no amount and no name.
-#[inline]
-pub(crate) fn plain<'a>(class: Class, number: u64, spot: usize) -> Item<'a>
-    ensures { spec.lexeme_of result ≡ spec.plain class number spot }
-{
-    Item {
-        class,
-        number,
-        amount: 0,
-        name: &[],
-        spot,
     }
 }
 

@@ -2,15 +2,21 @@
 ghost use Rattle.std.specs.Prelude.{◌≡◌, ◌∷◌, [], ◌+◌, ◌<◌, ◌≤◌, ◌^◌, length, IfOk};
 ghost use Rattle.grammar.specs.Rules.{heads};
 ghost use Rattle.clif_read.specs.SimpleClasses.{code};
-ghost use Rattle.clif_read.specs.SimpleWords.{lexeme_of};
-ghost use Rattle.clif_read.specs.SimpleReading.{Gives, after, one_block};
+ghost use Rattle.clif_read.specs.SimpleReading.{Gives, after, token_at, one_block};
 ghost use Rattle.clif_read.specs.SimpleReading as spec;
 
 use crate::simple::errors::SimpleErr;
-use crate::simple::lexemes::{Class, Item};
+use crate::simple::lexemes::Class;
 use crate::simple::source::Source;
 use crate::simple::written::{Assignment, Computation, Written};
 use std::alloc::Global;
+
+/// A token: its place, and of a value or a block the number.
+#[derive(Clone, Copy, Debug)]
+pub(crate) struct Found {
+    pub place: usize,
+    pub number: u64,
+}
 
 /// Whether the next token is of this class.
 #[inline(always)]
@@ -19,27 +25,26 @@ pub(crate) fn next_is(source: &Source, at: usize, class: Class) -> bool
 {
     match source.next(at) {
         None => false,
-        Some((item, _)) => item.class as u8 == class as u8,
+        Some(place) => source.meaning(place).0 as u8 == class as u8,
     }
 }
 
 /// A token of this class.
 #[inline(always)]
 #[tactic(auto, unfolding(crate::specs::SimpleReading::token))]
-pub(crate) fn token<'a>(
-    source: &Source<'a>,
-    at: usize,
-    class: Class,
-) -> Result<(Item<'a>, usize), SimpleErr>
-    ensures is { Gives (λ x. (lexeme_of x.0, after source.now x.1)) result (spec.token (code class) (after source.now at)) }
+pub(crate) fn token(source: &Source, at: usize, class: Class) -> Result<(Found, usize), SimpleErr>
+    ensures is { Gives (λ x. (token_at source.now x.0.place, after source.now x.1)) result (spec.token (code class) (after source.now at)) }
     ensures shorter { IfOk result (λ x. length (after source.now x.1) < length (after source.now at)) }
     ensures further { IfOk result (λ x. (at < x.1) × (x.1 < 2 ^ 64)) }
+    ensures within { IfOk result (λ x. x.0.place < length source.now.tokens.now) }
+    ensures number { IfOk result (λ x. x.0.number ≡ (token_at source.now x.0.place).number) }
 {
     match source.next(at) {
         None => Err(SimpleErr::NotSimple),
-        Some((item, rest)) => {
-            if item.class as u8 == class as u8 {
-                Ok((item, rest))
+        Some(place) => {
+            let (own, number) = source.meaning(place);
+            if own as u8 == class as u8 {
+                Ok((Found { place, number }, place + 1))
             } else {
                 Err(SimpleErr::NotSimple)
             }
@@ -48,8 +53,8 @@ pub(crate) fn token<'a>(
 }
 
 #[tactic(auto, unfolding(crate::specs::SimpleReading::comma_type_at))]
-fn comma_type<'a>(source: &Source<'a>, at: usize) -> Result<(Item<'a>, usize), SimpleErr>
-    ensures is { Gives (λ x. (lexeme_of x.0, after source.now x.1)) result (spec.comma_type_at (after source.now at)) }
+fn comma_type(source: &Source, at: usize) -> Result<(Found, usize), SimpleErr>
+    ensures is { Gives (λ x. (token_at source.now x.0.place, after source.now x.1)) result (spec.comma_type_at (after source.now at)) }
     ensures shorter { IfOk result (λ x. length (after source.now x.1) < length (after source.now at)) }
     ensures further { IfOk result (λ x. (at < x.1) × (x.1 < 2 ^ 64)) }
 {
@@ -79,8 +84,8 @@ fn value(source: &Source, at: usize) -> Result<(u64, usize), SimpleErr>
     ensures is { Gives (λ x. (x.0, after source.now x.1)) result (spec.value_at (after source.now at)) }
     ensures shorter { IfOk result (λ x. length (after source.now x.1) < length (after source.now at)) }
 {
-    let (item, rest) = token(source, at, Class::Value)?;
-    Ok((item.number, rest))
+    let (found, rest) = token(source, at, Class::Value)?;
+    Ok((found.number, rest))
 }
 
 #[tactic(auto, unfolding(crate::specs::SimpleReading::comma_value_at))]
@@ -245,7 +250,7 @@ fn iconst(source: &Source, at: usize) -> Result<(Computation, usize), SimpleErr>
     let (_, rest) = token(source, rest, Class::Dot)?;
     let (_, rest) = token(source, rest, Class::I64)?;
     let (number, rest) = token(source, rest, Class::Number)?;
-    Ok((Computation::Iconst(number.amount), rest))
+    Ok((Computation::Iconst(source.amount(number.place)), rest))
 }
 
 #[inline]
@@ -406,7 +411,7 @@ pub(crate) fn function<'a>(
     let (returned, rest) = returned(alloc, source, rest)?;
     let (_, rest) = token(source, rest, Class::RightBrace)?;
     let written = Written {
-        name: name.name,
+        name: source.name(name.place),
         params,
         results,
         block_params,

@@ -2,7 +2,7 @@
 ghost use Rattle.std.specs.Prelude.{◌≡◌, Ok};
 ghost use Rattle.clif_lex.specs.Lexing.{tokens_of};
 
-use crate::simple::lexemes::{Class, Item, behind_first, mark, plain, word};
+use crate::simple::lexemes::{Class, behind_first, mark, word};
 use clif_lex::{TokenKind, Tokens};
 
 /// A text with its tokens.
@@ -14,44 +14,48 @@ pub struct Source<'a> {
 }
 
 impl<'a> Source<'a> {
-    ghost use Rattle.std.specs.Prelude.{◌∷◌, [], ◌<◌, ◌≤◌, length, slice_get, IfSome, MatchOption};
+    ghost use Rattle.std.specs.Prelude.{◌∷◌, [], ◌+◌, ◌<◌, ◌≤◌, ◌^◌, length, slice_get, IfSome, MatchOption};
+    ghost use Rattle.clif_read.specs.SimpleClasses.{code};
     ghost use Rattle.clif_read.specs.SimpleWords as spec;
 
-    /// A token.
-    #[inline(always)]
-    #[tactic(auto, unfolding(crate::specs::SimpleWords::lexeme_in))]
-    fn item(&self, at: usize) -> Item<'a>
+    /// What a token is, and of a value or a block the number.
+    #[tactic(auto, unfolding(crate::specs::SimpleWords::lexeme_at, crate::specs::SimpleWords::lexeme_in))]
+    pub(crate) fn meaning(&self, at: usize) -> (Class, u64)
         requires { at < length self.now.tokens.now }
-        ensures { IfSome (slice_get self.now.tokens.now at) (λ token. spec.lexeme_of result ≡ spec.lexeme_in self.now.text.now token) }
+        ensures class { code result.0 ≡ (spec.lexeme_at self.now.text.now self.now.tokens.now at).class }
+        ensures number { result.1 ≡ (spec.lexeme_at self.now.text.now self.now.tokens.now at).number }
     {
-        let token = self.tokens.get(at);
-        let spelling = self.tokens.spelling(self.text, at);
-        match token.kind {
-            TokenKind::Word => {
-                let (class, number) = word(spelling);
-                plain(class, number, token.start)
-            }
-            TokenKind::Mark(byte) => plain(mark(byte), 0, token.start),
-            TokenKind::Number => Item {
-                class: Class::Number,
-                number: 0,
-                amount: self.tokens.number(self.text, at),
-                name: &[],
-                spot: token.start,
-            },
-            TokenKind::Name => Item {
-                class: Class::Name,
-                number: 0,
-                amount: 0,
-                name: behind_first(spelling),
-                spot: token.start,
-            },
-            TokenKind::Arrow => plain(Class::Arrow, 0, token.start),
-            TokenKind::Header | TokenKind::Comment | TokenKind::Srcloc => plain(
-                Class::Other,
-                0,
-                token.start,
-            ),
+        match self.tokens.get(at).kind {
+            TokenKind::Word => word(self.tokens.spelling(self.text, at)),
+            TokenKind::Mark(byte) => (mark(byte), 0),
+            TokenKind::Number => (Class::Number, 0),
+            TokenKind::Name => (Class::Name, 0),
+            TokenKind::Arrow => (Class::Arrow, 0),
+            TokenKind::Header | TokenKind::Comment | TokenKind::Srcloc => (Class::Other, 0),
+        }
+    }
+
+    /// What a number spells.
+    #[tactic(auto, unfolding(crate::specs::SimpleWords::lexeme_at, crate::specs::SimpleWords::lexeme_in))]
+    pub(crate) fn amount(&self, at: usize) -> i128
+        requires { at < length self.now.tokens.now }
+        ensures { result ≡ (spec.lexeme_at self.now.text.now self.now.tokens.now at).amount }
+    {
+        match self.tokens.get(at).kind {
+            TokenKind::Number => self.tokens.number(self.text, at),
+            _ => 0,
+        }
+    }
+
+    /// The bytes of a name, without its `%`.
+    #[tactic(auto, unfolding(crate::specs::SimpleWords::lexeme_at, crate::specs::SimpleWords::lexeme_in))]
+    pub(crate) fn name(&self, at: usize) -> &'a [u8]
+        requires { at < length self.now.tokens.now }
+        ensures { result.now ≡ (spec.lexeme_at self.now.text.now self.now.tokens.now at).name }
+    {
+        match self.tokens.get(at).kind {
+            TokenKind::Name => behind_first(self.tokens.spelling(self.text, at)),
+            _ => &[],
         }
     }
 
@@ -63,17 +67,32 @@ impl<'a> Source<'a> {
         matches!(self.tokens.get(at).kind, TokenKind::Comment)
     }
 
-    /// The next token that is no comment, and the place behind it.
+    /// The place of the next token that is no comment.
     #[inline(always)]
-    pub(crate) fn next(&self, at: usize) -> Option<(Item<'a>, usize)>
-        ensures next { MatchOption result (spec.rest self.now.text.now self.now.tokens.now at ≡ []) (λ x. spec.rest self.now.text.now self.now.tokens.now at ≡ spec.lexeme_of x.0 ∷ spec.rest self.now.text.now self.now.tokens.now x.1) }
-        ensures further { IfSome result (λ x. at < x.1) }
-        ensures within { IfSome result (λ x. x.1 ≤ length self.now.tokens.now) }
+    pub(crate) fn next(&self, at: usize) -> Option<usize>
+        ensures next { MatchOption result (spec.rest self.now.text.now self.now.tokens.now at ≡ []) (λ place. spec.rest self.now.text.now self.now.tokens.now at ≡ spec.lexeme_at self.now.text.now self.now.tokens.now place ∷ spec.rest self.now.text.now self.now.tokens.now (place + 1)) }
+        ensures further { IfSome result (λ place. at ≤ place) }
+        ensures within { IfSome result (λ place. place < length self.now.tokens.now) }
+        ensures small { IfSome result (λ place. place + 1 < 2 ^ 64) }
+    {
+        if at < self.tokens.len() && !self.is_comment(at) {
+            Some(at)
+        } else {
+            self.past_comments(at)
+        }
+    }
+
+    /// The place of the next token that is no comment, where one may come first.
+    fn past_comments(&self, at: usize) -> Option<usize>
+        ensures next { MatchOption result (spec.rest self.now.text.now self.now.tokens.now at ≡ []) (λ place. spec.rest self.now.text.now self.now.tokens.now at ≡ spec.lexeme_at self.now.text.now self.now.tokens.now place ∷ spec.rest self.now.text.now self.now.tokens.now (place + 1)) }
+        ensures further { IfSome result (λ place. at ≤ place) }
+        ensures within { IfSome result (λ place. place < length self.now.tokens.now) }
+        ensures small { IfSome result (λ place. place + 1 < 2 ^ 64) }
     {
         let mut place = at;
         'comments: while place < self.tokens.len() {
             if !self.is_comment(place) {
-                return Some((self.item(place), place + 1));
+                return Some(place);
             }
             place += 1;
         }

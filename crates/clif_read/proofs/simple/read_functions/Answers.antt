@@ -1,11 +1,11 @@
-use Rattle.std.proofs.Common.{◌∷◌, [], ◌++◌, sym, ap, ◌∙◌}
+use Rattle.std.proofs.Common.{◌+◌, ◌∷◌, [], ◌++◌, sym, ap, ◌∙◌}
 use Rattle.std.proofs.lemmas.Result.{err_from_is_err_and}
 use Rattle.std.proofs.lemmas.List.{map-append}
 use Rattle.ir_core.specs.Module.{Module}
 use Rattle.clif_read.specs.declared.simple.lexemes.Class.TheVariants as class
 use Rattle.clif_read.specs.SimpleModule.{meaning}
 use Rattle.clif_read.specs.SimpleAdding.{may_add}
-use Rattle.clif_read.specs.SimpleReading.{after, only, with_front, function_at, one_block}
+use Rattle.clif_read.specs.SimpleReading.{after, token_at, only, with_front, function_at, one_block}
 use Rattle.clif_read.proofs.SimpleLoops.{goes_on, fails, is_done}
 use Rattle.clif_read.proofs.SimpleNames.{may_add_is, fit_push}
 use Rattle.clif_read.proofs.SimpleWhole.{read_all, module_is, fails_finish, refused, some_is_left, none_is_left, more_is_none, all_is_some}
@@ -55,7 +55,7 @@ returns-then-is_some c =
     let ts = after source l.at in
     let total = with_front [] (read_all (after source 0)) in
     let done = is_done function_at (only class.Function) l.invariant.0 ts total (sym c.next_is.ensures ∙ c.functions-test.false) l.invariant.3 in
-    module_is (after source 0) ∙ more_is_none l.invariant.0 ts total done (some_is_left c.next.result ts (after source) c.next.ensures.next (sym c.is_some.ensures ∙ c.if-is_some.true))
+    module_is (after source 0) ∙ more_is_none l.invariant.0 ts total done (some_is_left c.next.result ts (token_at source) (λ place. after source (place + 1)) c.next.ensures.next (sym c.is_some.ensures ∙ c.if-is_some.true))
 
 pub returns : goal.returns
 returns c =
@@ -64,4 +64,4 @@ returns c =
     let ts = after source l.at in
     let total = with_front [] (read_all (after source 0)) in
     let done = is_done function_at (only class.Function) l.invariant.0 ts total (sym c.next_is.ensures ∙ c.functions-test.false) l.invariant.3 in
-    module_is (after source 0) ∙ all_is_some l.invariant.0 ts total l.module done (none_is_left c.next.result ts (after source) c.next.ensures.next (sym c.is_some.ensures ∙ c.if-is_some.false)) l.invariant.2 l.invariant.1
+    module_is (after source 0) ∙ all_is_some l.invariant.0 ts total l.module done (none_is_left c.next.result ts (token_at source) (λ place. after source (place + 1)) c.next.ensures.next (sym c.is_some.ensures ∙ c.if-is_some.false)) l.invariant.2 l.invariant.1

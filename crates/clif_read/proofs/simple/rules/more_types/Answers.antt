@@ -2,8 +2,7 @@ use Rattle.std.proofs.Common.{◌∷◌, ◌++◌, [], List, length, length-appe
 use Rattle.std.proofs.lemmas.Result.{err_from_is_err_and}
 use Rattle.grammar.specs.Rules.{Lexeme}
 use Rattle.clif_read.specs.declared.simple.lexemes.Class.TheVariants as class
-use Rattle.clif_read.specs.SimpleWords.{lexeme_of}
-use Rattle.clif_read.specs.SimpleReading.{Out, after, each, only, with_front, comma_type_at, more_types_at}
+use Rattle.clif_read.specs.SimpleReading.{Out, after, token_at, each, only, with_front, comma_type_at, more_types_at}
 use Rattle.clif_read.proofs.SimpleLoops.{goes_on, fails, is_done, counted, fails_count}
 use Rattle.clif_read.proofs.simple.rules.more_types.Goals as goal
 
@@ -17,7 +16,7 @@ pub types-preserved : goal.types-preserved
 types-preserved c =
     let l = c.types in
     let ts = after c.args.source.now l.rest in
-    let item = lexeme_of c.in_ok-behind.field-0-0 in
+    let item = token_at c.args.source.now c.in_ok-behind.field-0-0.place in
     let front = l.invariant.reads.0 in
     record {
       reads = (front ++ item ∷ [], omega (arith, length-append front (item ∷ []), l.invariant.reads.1), goes_on comma_type_at (only class.Comma) front ts (after c.args.source.now c.in_ok-behind.behind) item (total (after c.args.source.now c.args.at)) (sym c.next_is.ensures ∙ c.types-test.true) c.in_ok-behind.ensures.is c.in_ok-behind.ensures.shorter l.invariant.reads.2);

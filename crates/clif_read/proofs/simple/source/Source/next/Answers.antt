@@ -1,18 +1,10 @@
-use Rattle.std.proofs.Common.{sym, ◌∙◌, arith}
-use Rattle.clif_read.specs.SimpleWords.{lexeme_of}
-use Rattle.clif_read.proofs.SimpleRest.{at_end, past_comment, next_is}
+use Rattle.std.proofs.Common.{arith}
+use Rattle.clif_read.specs.SimpleWords.{lexeme_at}
+use Rattle.clif_read.proofs.SimpleRest.{next_is, at_is}
 use Rattle.clif_read.proofs.simple.source.Source.next.Goals as goal
 
 pub returns-then-not-is_comment-clause-next : goal.returns-then-not-is_comment-clause-next
 returns-then-not-is_comment-clause-next c =
-    sym c.comments.invariant.same
-    ∙ next_is c.args.self.now.text.now c.args.self.now.tokens.now c.comments.place c.is_comment.result (lexeme_of c.item.result) (omega arith) c.is_comment.ensures c.if-not-is_comment.true c.item.ensures
-
-pub comments-preserved : goal.comments-preserved
-comments-preserved c = record {
-  same = past_comment c.args.self.now.text.now c.args.self.now.tokens.now c.comments.place c.is_comment.result (omega arith) c.is_comment.ensures c.if-not-is_comment.false ∙ c.comments.invariant.same;
-  further = omega arith;
-}
-
-pub returns-clause-next : goal.returns-clause-next
-returns-clause-next c = sym c.comments.invariant.same ∙ at_end c.args.self.now.text.now c.args.self.now.tokens.now c.comments.place (omega arith)
+    let text = c.args.self.now.text.now in
+    let ts = c.args.self.now.tokens.now in
+    next_is text ts c.args.at c.is_comment.result (lexeme_at text ts c.args.at) (omega arith) c.is_comment.ensures c.if-not-is_comment.true (at_is text ts c.args.at)

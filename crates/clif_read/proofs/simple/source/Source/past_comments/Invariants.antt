@@ -1,6 +1,6 @@
 use Rattle.std.proofs.Common.{◌≡◌, ◌≤◌, ◌-◌, length}
 use Rattle.clif_read.specs.SimpleWords.{rest}
-use Rattle.clif_read.proofs.simple.source.Source.next.Given as goal
+use Rattle.clif_read.proofs.simple.source.Source.past_comments.Given as goal
 
 abbrev pub invariant-comments : goal.invariant-comments
 invariant-comments l = record {

@@ -12,13 +12,11 @@ pub use acceptance::{
 
 /// A direct call of any kind, replaced by the body of its callee, keeps every outcome of a run that lacks nothing and reads
 /// no unwritten byte of a slot, with at most twice as many steps.
-
 pub fn splice_keeps_runs()
     ensures { SpliceKeepsRuns }
 {}
 
 /// The outcomes of a module do not depend on the numbers of its values and blocks.
-
 pub fn numbering_keeps_runs()
     ensures { NumberingKeepsRuns }
 {}

@@ -50,34 +50,37 @@ def run(words, path):
     return seconds, usage.ru_utime + usage.ru_stime, usage.ru_maxrss * 1024
 
 
-def measure(program, path):
-    """The least times of each program in turn, by the clock and of the processor, and the memory of the first."""
-    own = []
-    words = []
+def measure(program, paths):
+    """For each file the least times of each program, by the clock and of the processor, and the memory of the first.
+    The files and the programs take turns, so that what disturbs the machine for a while disturbs them alike."""
+    own = {path: [] for path in paths}
+    words = {path: [] for path in paths}
     for _ in range(TURNS):
-        own.append(run([program, 'inline'], path))
-        words.append(run(['wc', '-w'], path))
+        for path in paths:
+            own[path].append(run([program, 'inline'], path))
+            words[path].append(run(['wc', '-w'], path))
     least = lambda runs: [min(it[clock] for it in runs) for clock in (0, 1)]
-    return least(own), least(words), max(it[2] for it in own)
+    return [(least(own[path]), least(words[path]), max(it[2] for it in own[path])) for path in paths]
 
 
 def main():
     program = sys.argv[1]
     size = int(float(sys.argv[2]) * 1e6) if len(sys.argv) > 2 else 60_000_000
-    times = {}
-    for share in (2, 1):
-        with tempfile.NamedTemporaryFile(suffix='.clif') as file:
-            file.write(text_of(size // share).encode())
-            file.flush()
-            length = os.path.getsize(file.name)
-            own, words, memory = measure(program, file.name)
-            times[share] = (length, *own)
+    times = []
+    with tempfile.TemporaryDirectory() as folder:
+        paths = [os.path.join(folder, name) for name in ('half', 'whole')]
+        for path, share in zip(paths, (2, 1)):
+            with open(path, 'w') as file:
+                file.write(text_of(size // share))
+        for path, (own, words, memory) in zip(paths, measure(program, paths)):
+            length = os.path.getsize(path)
+            times.append((length, *own))
             print('%.1f MB, peak %.1f bytes a byte of text' % (length / 1e6, memory / length))
             for name, mine, counting in zip(('clock', 'processor'), own, words):
                 print('  by the %s: inline %.3f s (%.0f MB/s), wc -w %.3f s (%.0f MB/s), ratio %.2f'
                       % (name, mine, length / 1e6 / mine, counting, length / 1e6 / counting, mine / counting))
     print('%.2f times the text in %.2f times the time by the clock, %.2f times that of the processor'
-          % tuple(whole / half for whole, half in zip(times[1], times[2])))
+          % tuple(whole / half for half, whole in zip(*times)))
 
 
 if __name__ == '__main__':

@@ -121,17 +121,21 @@ def run(words, path):
     return usage.ru_utime + usage.ru_stime, usage.ru_maxrss * 1024
 
 
-def least(program, text):
-    """The least time and the memory of each step over a text, and of `wc -w`."""
+def least(program, texts):
+    """For each text the least time and the memory of each step, and of `wc -w`. The texts take turns, so that what
+    disturbs the machine for a while disturbs them alike."""
     steps = {'bytes': [program, 'bytes'], 'tokens': [program, 'tokens'], 'raw': [program, 'raw'], 'wc': ['wc', '-w']}
-    found = {step: [] for step in steps}
-    with tempfile.NamedTemporaryFile(suffix='.clif') as file:
-        file.write(text.encode())
-        file.flush()
+    found = [{step: [] for step in steps} for _ in texts]
+    with tempfile.TemporaryDirectory() as folder:
+        paths = [os.path.join(folder, str(number)) for number in range(len(texts))]
+        for path, text in zip(paths, texts):
+            with open(path, 'w') as file:
+                file.write(text)
         for _ in range(TURNS):
-            for step, words in steps.items():
-                found[step].append(run(words, file.name))
-    return {step: (min(seconds for seconds, _ in runs), max(memory for _, memory in runs)) for step, runs in found.items()}
+            for path, runs in zip(paths, found):
+                for step, words in steps.items():
+                    runs[step].append(run(words, path))
+    return [{step: (min(seconds for seconds, _ in it), max(memory for _, memory in it)) for step, it in runs.items()} for runs in found]
 
 
 def net(found, step):
@@ -143,7 +147,7 @@ def main():
     program = sys.argv[1]
     size = int(float(sys.argv[2]) * 1e6) if len(sys.argv) > 2 else 60_000_000
     text = mixed(size)
-    found = least(program, text)
+    [found] = least(program, [text])
     length = len(text)
     print('%.1f MB with all forms' % (length / 1e6))
     for step in ('tokens', 'raw'):
@@ -153,7 +157,7 @@ def main():
     for name, (count, make) in SHAPES.items():
         half = make(count // 2)
         full = make(count)
-        first, second = least(program, half), least(program, full)
+        first, second = least(program, [half, full])
         print('%d %s (%.1f MB):' % (count, name, len(full) / 1e6), end=' ')
         print(', '.join('%s %.3f s, %.2f times the half' % (step, net(second, step), net(second, step) / net(first, step)) for step in ('tokens', 'raw')))
 

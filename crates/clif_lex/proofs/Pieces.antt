@@ -1,10 +1,12 @@
 -- The tokens of a text are those of its pieces, one after the other.
-use Rattle.std.proofs.Common.{◌≡◌, ℕ, ◌+◌, ◌-◌, ◌≤◌, ◌<◌, ◌⊎◌, Bool, true, false, leb, List, [], ◌∷◌, ◌++◌, length, take, drop, get_or, slice_index, Result, Ok, Err, refl, sym, ◌∙◌, ap, arith, inl, inr}
+use Rattle.std.proofs.Common.{◌≡◌, ℕ, zero, suc, ◌+◌, ◌-◌, ◌≤◌, ◌<◌, ◌⊎◌, Bool, true, false, ◌&&◌, leb, List, [], ◌∷◌, ◌++◌, length, take, drop, get_or, slice_get, slice_index, Some, Result, Ok, Err, refl, sym, ◌∙◌, ap, arith, inl, inr}
 use Rattle.std.proofs.lemmas.Bool.{cases_Bool, leb-true, leb-false}
 use Rattle.std.proofs.lemmas.List.{get_or-take, length-drop, length-take, take_all, nil_from_length, append-nil, take-append-drop, drop-take, drop-drop, drop_more}
+use Rattle.std.proofs.lemmas.List.Folds.{list_all-append}
+use Rattle.std.specs.List.{list_all}
 use Rattle.clif_lex.specs.declared.spans.Token.{Token}
 use Rattle.clif_lex.specs.declared.faults.LexErr.{LexErr}
-use Rattle.clif_lex.specs.Lexing.{◌>>=◌, tokens_from, tokens_of}
+use Rattle.clif_lex.specs.Lexing.{◌>>=◌, is_preamble, tokens_from, tokens_of}
 use Rattle.clif_lex.specs.Spelling.{AreIn}
 use Rattle.clif_lex.specs.Pieces.{piece_tokens, preamble_after, IsPiece, IsLineStart, IsCut}
 use Rattle.clif_lex.proofs.Spelled.{take_of_take}
@@ -64,6 +66,19 @@ piece_by_piece text preamble a b c ordered further within (inside, inr start) = 
         let alone : piece_tokens text preamble a b ≡ r = one ∙ rw (nothing_between text b) (sym (nothing_more preamble b r)) in
         both ∙ ap (λ (x : Result (List Token) LexErr). x >>= then_tokens preamble b (drop b (take c text))) (sym alone)
 
+-- a fault before the cut is the first one
+pub fault_before : (text : List ℕ) (preamble : Bool) (a b c : ℕ) (e : LexErr) → a ≤ b → b ≤ c → c ≤ length text → IsCut text b → piece_tokens text preamble a b ≡ Err e → piece_tokens text preamble a c ≡ Err e
+fault_before text preamble a b c e ordered further within cut fault =
+    piece_by_piece text preamble a b c ordered further within cut ∙ ap (λ (x : Result (List Token) LexErr). x >>= then_tokens preamble b (drop b (take c text))) fault
+
+-- a fault behind it is the first one where there is none before
+pub fault_behind : (text : List ℕ) (preamble : Bool) (a b c : ℕ) (ts : List Token) (e : LexErr) → IsPiece text preamble a b ts → b ≤ c → c ≤ length text → IsCut text b
+    → piece_tokens text (preamble_after preamble ts) b c ≡ Err e → piece_tokens text preamble a c ≡ Err e
+fault_behind text preamble a b c ts e front further within cut fault =
+    piece_by_piece text preamble a b c front.ordered further within cut
+    ∙ ap (λ (x : Result (List Token) LexErr). x >>= then_tokens preamble b (drop b (take c text))) front.lexed
+    ∙ ap (λ (x : Result (List Token) LexErr). x >>= λ vs. Ok (ts ++ vs)) fault
+
 -- the tokens of two pieces are those of the piece that they make
 pub pieces_join : (text : List ℕ) (preamble : Bool) (a b c : ℕ) (ts us : List Token) → IsPiece text preamble a b ts → IsCut text b → IsPiece text (preamble_after preamble ts) b c us → IsPiece text preamble a c (ts ++ us)
 pieces_join text preamble a b c ts us front cut rest = record {
@@ -81,8 +96,11 @@ unfolding tokens_from
 empty_piece text preamble at inside = record { ordered = omega arith; within = inside; lexed = ap (tokens_from preamble 0 at) (nothing_between text at) }
 
 -- the whole text is a piece
+pub whole_tokens : (text : List ℕ) → piece_tokens text true 0 (length text) ≡ tokens_of text
+whole_tokens text = ap (tokens_from true 0 0) (take_all (length text) text (omega arith))
+
 pub whole_piece : (text : List ℕ) (ts : List Token) → IsPiece text true 0 (length text) ts → tokens_of text ≡ Ok ts
-whole_piece text ts piece = rw (take_all (length text) text (omega arith)) at piece.lexed
+whole_piece text ts piece = sym (whole_tokens text) ∙ piece.lexed
 
 pub piece_of_whole : (text : List ℕ) (ts : List Token) → tokens_of text ≡ Ok ts → IsPiece text true 0 (length text) ts
 piece_of_whole text ts lexed = record { ordered = omega arith; within = omega arith; lexed = rw (take_all (length text) text (omega arith)) lexed }
@@ -93,3 +111,22 @@ tokens_are_in text ts lexed = record { each = token_inside_text text ts lexed }
 
 pub pieces_are_in : (text : List ℕ) (preamble : Bool) (from until : ℕ) (ts : List Token) → IsPiece text preamble from until ts → AreIn text ts
 pieces_are_in text preamble from until ts piece = piece_inside text preamble from until ts piece.ordered piece.within piece.lexed
+
+-- whether a Header may stand behind two pieces: behind the second one, which stands behind the first
+pub preamble_further : (preamble : Bool) (ts us : List Token) → preamble_after preamble (ts ++ us) ≡ preamble_after (preamble_after preamble ts) us
+preamble_further false ts us = refl
+preamble_further true ts us = list_all-append (λ t. is_preamble t.kind) ts us
+
+some_other : (ts : List Token) (i : ℕ) (t : Token) → slice_get ts i ≡ Some t → is_preamble t.kind ≡ false → list_all (λ t. is_preamble t.kind) ts ≡ false
+some_other [] i t found other = absurd cc
+some_other (x ∷ xs) zero t found other = let same : x ≡ t = cc in rw (same, other) refl
+some_other (x ∷ xs) (suc i) t found other = go (is_preamble x.kind) (some_other xs i t found other)
+  where
+    go : (b : Bool) → list_all (λ t. is_preamble t.kind) xs ≡ false → (b && list_all (λ t. is_preamble t.kind) xs) ≡ false
+    go true e = e
+    go false e = refl
+
+-- behind a token that is no Header and no Comment no Header may stand
+pub preamble_ends : (preamble : Bool) (ts : List Token) (i : ℕ) (t : Token) → slice_get ts i ≡ Some t → is_preamble t.kind ≡ false → preamble_after preamble ts ≡ false
+preamble_ends false ts i t found other = refl
+preamble_ends true ts i t found other = some_other ts i t found other

@@ -1,10 +1,10 @@
 -- A text is read in pieces: the tokens of a piece, where a text may be cut into pieces, and where the next piece may begin.
-use Rattle.std.specs.Prelude.{◌≡◌, ℕ, ◌-◌, ◌<◌, ◌≤◌, ◌⊎◌, Bool, true, ◌&&◌, nat_eq, List, length, take, drop, slice_index, Result, Ok}
+use Rattle.std.specs.Prelude.{◌≡◌, ℕ, ◌-◌, ◌<◌, ◌≤◌, ◌⊎◌, Bool, true, ◌&&◌, nat_eq, List, ◌++◌, length, take, drop, slice_index, Result, Ok}
 use Rattle.std.specs.List.{list_all, starts_with}
 use Rattle.clif_lex.specs.declared.spans.Token.{Token}
 use Rattle.clif_lex.specs.declared.faults.LexErr.{LexErr}
 use Rattle.clif_lex.specs.Bytes.{line_feed}
-use Rattle.clif_lex.specs.Lexing.{is_preamble, tokens_from}
+use Rattle.clif_lex.specs.Lexing.{◌>>=◌, is_preamble, tokens_from}
 
 -- whether a Header may still stand behind these tokens
 abbrev pub preamble_after : Bool → List Token → Bool
@@ -14,6 +14,10 @@ preamble_after preamble ts = preamble && list_all (λ t. is_preamble t.kind) ts
 -- Their spans are places in the whole text.
 abbrev pub piece_tokens : List ℕ → Bool → ℕ → ℕ → Result (List Token) LexErr
 piece_tokens text preamble from until = tokens_from preamble 0 from (drop from (take until text))
+
+-- the tokens of a piece, and behind them those of the next one; or the first fault of either
+abbrev pub two_pieces : List ℕ → Bool → ℕ → ℕ → ℕ → Result (List Token) LexErr
+two_pieces text preamble from between until = piece_tokens text preamble from between >>= λ ts. piece_tokens text (preamble_after preamble ts) between until >>= λ us. Ok (ts ++ us)
 
 -- these are the tokens of a piece
 pub record IsPiece (text : List ℕ) (preamble : Bool) (from until : ℕ) (ts : List Token) : Type 0 where

@@ -254,12 +254,12 @@ pub fn tokens_between(
     }
     let piece = &text[..end];
     let mut spans = Vec::new(alloc);
-    let mut stays = preamble;
+    let mut in_preamble = preamble;
     let mut at = blanks_end(piece, from);
     'tokens: while at < piece.len() {
-        let token = token_at(stays, piece, at)?;
+        let token = token_at(in_preamble, piece, at)?;
         spans.push(Span::new(token))?;
-        stays = stays_preamble(stays, token.kind);
+        in_preamble = stays_preamble(in_preamble, token.kind);
         at = blanks_end(piece, token.end);
     }
     Ok(Tokens { spans })

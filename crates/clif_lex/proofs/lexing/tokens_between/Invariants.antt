@@ -7,7 +7,7 @@ use Rattle.clif_lex.proofs.lexing.tokens_between.Given as goal
 
 abbrev pub invariant-tokens : goal.invariant-tokens
 invariant-tokens l =
-    (with_front (map token_of l.spans.items) (tokens_from l.stays 0 l.at (drop l.at l.piece)) ≡ tokens_from l.preamble 0 l.from (drop l.from l.piece))
+    (with_front (map token_of l.spans.items) (tokens_from l.in_preamble 0 l.at (drop l.at l.piece)) ≡ tokens_from l.preamble 0 l.from (drop l.from l.piece))
     × (is_blank (first (drop l.at l.piece)) ≡ false)
     × (l.at ≤ length l.piece)
 

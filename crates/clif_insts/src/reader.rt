@@ -8,7 +8,6 @@ ghost use Rattle.clif_words.specs.Lexemes.{lexemes};
 ghost use Rattle.clif_words.specs.Lexemes as lexeme_specs;
 ghost use Rattle.clif_insts.specs.declared.stop.Stop.TheVariants.{NoMemory};
 ghost use Rattle.clif_insts.specs.Grammar.{excepted, words_but};
-ghost use Rattle.clif_insts.specs.Insts.{place_or};
 ghost use Rattle.clif_insts.specs.Names as names;
 ghost use Rattle.clif_insts.specs.Next.{is_among};
 ghost use Rattle.clif_insts.specs.Next as next;
@@ -44,7 +43,7 @@ impl<'a> Model for Reader<'a> {
 
     ghost Value = { List Lexeme };
 
-    ghost view = { λ r. lexemes r.text.now r.at (drop r.at r.tokens.now) };
+    ghost view = { λ r. lexemes r.text.now (drop r.at r.tokens.now) };
 
     ghost invariant = { λ r. (tokens_of r.text.now ≡ Ok r.tokens.now) × (r.at ≤ length r.tokens.now) × Upcoming r.text.now (drop r.at r.tokens.now) r.next };
 }
@@ -93,7 +92,7 @@ fn settle(text: &[u8], tokens: &Tokens, from: usize, end: usize) -> usize
     requires within { from ≤ end }
     requires whole { end ≡ length tokens.now }
     ensures within { result ≤ length tokens.now }
-    ensures same { lexemes text.now result (drop result tokens.now) ≡ lexemes text.now from (drop from tokens.now) }
+    ensures same { lexemes text.now (drop result tokens.now) ≡ lexemes text.now (drop from tokens.now) }
     ensures no_comment { IfSome (slice_get tokens.now result) (λ token. lexeme_specs.is_comment token.kind ≡ false) }
 {
     let mut at = from;
@@ -125,7 +124,7 @@ impl<'a> Reader<'a> {
     pub fn new(text: &'a [u8], tokens: &'a Tokens, from: usize) -> Self
         requires whole { tokens_of text.now ≡ Ok tokens.now }
         requires within { from ≤ length tokens.now }
-        ensures { result ≡ lexemes text.now from (drop from tokens.now) }
+        ensures { result ≡ lexemes text.now (drop from tokens.now) }
     {
         let at = settle(text, tokens, from, tokens.len());
         let next = upcoming(text, tokens, at);
@@ -147,17 +146,6 @@ impl<'a> Reader<'a> {
             tokens: self.tokens,
             at: self.at,
             next: self.next,
-        }
-    }
-
-    /// The next token's place in the list of tokens, or this end where there is none.
-    #[inline]
-    pub fn place_or(&self, end: usize) -> usize
-        ensures { result ≡ place_or end self.now }
-    {
-        match self.next {
-            Some(_) => self.at,
-            None => end,
         }
     }
 

@@ -290,6 +290,7 @@ impl<'a> Reader<'a> {
     #[inline]
     pub fn take(&mut self, class: Class) -> Result<RawName, Stop>
         ensures is { Gives same self.new result (spec.name_at class self.old) }
+        ensures no_memory { IfErr result (λ e. e ≢ NoMemory) }
         ensures shorter { IfOk result (λ _. length self.new < length self.old) }
     {
         if self.next_is(class) {
@@ -305,6 +306,7 @@ impl<'a> Reader<'a> {
     #[inline]
     pub fn take_number(&mut self, class: Class) -> Result<RawNumber, Stop>
         ensures is { Gives same self.new result (spec.amount_at class self.old) }
+        ensures no_memory { IfErr result (λ e. e ≢ NoMemory) }
         ensures shorter { IfOk result (λ _. length self.new < length self.old) }
     {
         if self.next_is(class) {

@@ -16,3 +16,4 @@ pub mod Singles
 pub mod FlagLetter
 pub mod Next
 pub mod Choice
+pub mod Counted

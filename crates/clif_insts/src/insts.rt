@@ -101,7 +101,7 @@ fn place_of(tokens: &Tokens, i: usize, spot: usize) -> usize
 {
     let end = tokens.len();
     let mut place = i;
-    'before: while place < end && tokens.get(place).start < spot {
+    'counted: while place < end && tokens.get(place).start < spot {
         place += 1;
     }
     place

@@ -1,12 +1,12 @@
 -- What the byte at a place of a text begins.
-use Rattle.std.proofs.Common.{◌≡◌, ℕ, ◌+◌, ◌<◌, Bool, true, false, ◌||◌, ◌&&◌, cond, List, [], ◌∷◌, length, take, drop, get_or, Result, Ok, refl, sym, ◌∙◌, ap, arith}
+use Rattle.std.proofs.Common.{◌≡◌, ℕ, ◌+◌, ◌<◌, Bool, true, false, ◌&&◌, List, length, take, drop, get_or, Ok, refl, ap, arith}
 use Rattle.std.proofs.lemmas.List.{drop_more}
 use Rattle.std.proofs.lemmas.Bool.Decides.{nat_tests}
 use Rattle.std.specs.Char.{is_ascii_digit}
 use Rattle.std.specs.List.{prefix_len}
 use Rattle.clif_lex.specs.declared.spans.TokenKind.TheVariants.{Header, Word, Mark}
 use Rattle.clif_lex.specs.Bytes.{first, is_letter, is_mark, is_sign, is_word_byte, is_no_line_feed}
-use Rattle.clif_lex.specs.Lexing.{begins_number, is_header_word, token, token_at, word_at}
+use Rattle.clif_lex.specs.Lexing.{is_header_word, token, token_at, word_at}
 
 pub first_at : (at : ℕ) (text : List ℕ) → at < length text → first (drop at text) ≡ get_or text at 0
 first_at at text below = ap first (drop_more text at 0 below)

@@ -8,4 +8,8 @@ pub mod Spelled
 pub mod Longest
 pub mod Readings
 pub mod OneReading
+pub mod Insides
+pub mod LineStarts
+pub mod Joins
+pub mod Pieces
 pub mod Examples

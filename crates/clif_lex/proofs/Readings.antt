@@ -46,7 +46,7 @@ read_none : (preamble : Bool) (at : ℕ) → IsReadFrom preamble at [] (tokens_f
 unfolding tokens_from
 read_none preamble at = here (IsAtEnd preamble) at [] refl
 
-reads : (n : ℕ) (preamble : Bool) (at : ℕ) (text : List ℕ) → length text ≤ n → IsReadFrom preamble at text (tokens_from preamble 0 at text)
+pub reads : (n : ℕ) (preamble : Bool) (at : ℕ) (text : List ℕ) → length text ≤ n → IsReadFrom preamble at text (tokens_from preamble 0 at text)
 reads n preamble at [] h = read_none preamble at
 reads zero preamble at (c ∷ cs) h = absurd (omega arith)
 reads (suc n) preamble at (c ∷ cs) h =
@@ -116,7 +116,7 @@ fault_inside (BadChar spot) preamble at rest whole e (some, blank, s) = let k = 
 fault_inside (BadNumber spot) preamble at rest whole e (some, blank, s) = let k = s.0 in omega arith
 fault_inside NoMemory preamble at rest whole e f = tt
 
-faults_inside : (fault : LexErr) (whole : List ℕ) (preamble : Bool) (at : ℕ) (text : List ℕ) (ts : List Token) → at + length text ≡ length whole → IsDivided (IsAtFault fault) preamble at text ts → IsFaultIn whole fault
+pub faults_inside : (fault : LexErr) (whole : List ℕ) (preamble : Bool) (at : ℕ) (text : List ℕ) (ts : List Token) → at + length text ≡ length whole → IsDivided (IsAtFault fault) preamble at text ts → IsFaultIn whole fault
 faults_inside fault whole preamble at text [] e (n, within, all, last) =
     fault_inside fault preamble (at + n) (drop n text) whole (omega (arith, length-drop n text)) last
 faults_inside fault whole preamble at text (t ∷ ts) e (n, within, all, stand) =

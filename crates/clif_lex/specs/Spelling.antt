@@ -1,6 +1,6 @@
 -- What may stand as a token, kind by kind, apart from the way in which tokens are found;
 -- and the law that the tokens of a text are the longest that stand there, with only blanks between them.
-use Rattle.std.specs.Prelude.{◌≡◌, ℕ, ◌+◌, ◌-◌, ◌<◌, ◌≤◌, Bool, true, false, not, ◌&&◌, ◌||◌, ◌==◌, ◌⊎◌, ◌≢◌, List, [], ◌∷◌, length, take, drop, codes, Result, Ok, Err}
+use Rattle.std.specs.Prelude.{◌≡◌, ℕ, ◌+◌, ◌-◌, ◌<◌, ◌≤◌, Bool, true, false, not, ◌&&◌, ◌||◌, ◌==◌, ◌⊎◌, ◌≢◌, List, [], ◌∷◌, length, take, drop, slice_get, codes, Some, Result, Ok, Err}
 use Rattle.std.specs.List.{prefix_len, list_all}
 use Rattle.std.specs.Str.{bytes_eq}
 use Rattle.std.specs.Char.{is_ascii_digit, is_ascii_hexdigit}
@@ -95,3 +95,7 @@ pub record IsTokenIn (text : List ℕ) (t : Token) : Type 0 where
   pub some : t.start < t.end
   pub within : t.end ≤ length text
   pub in_range : t.kind ≡ Number → is_in_range (spelling text t) ≡ true
+
+-- each token of a list is one in the text
+pub record AreIn (text : List ℕ) (ts : List Token) : Type 0 where
+  pub each : (i : ℕ) (t : Token) → slice_get ts i ≡ Some t → IsTokenIn text t

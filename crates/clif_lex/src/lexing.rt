@@ -9,7 +9,8 @@ ghost use Rattle.clif_lex.specs.Numbers as numbers;
 ghost use Rattle.clif_lex.specs.Spans.{spelling};
 ghost use Rattle.clif_lex.specs.Lexing as spec;
 ghost use Rattle.clif_lex.specs.Lexing.{Gives};
-ghost use Rattle.clif_lex.specs.Spelling.{IsFaultIn};
+ghost use Rattle.clif_lex.specs.Spelling.{IsFaultIn, AreIn};
+ghost use Rattle.clif_lex.specs.Pieces.{piece_tokens};
 
 use crate::bytes::{first, is_blank, is_letter, is_mark, is_sign, is_word_byte, second};
 use crate::faults::LexErr;
@@ -232,32 +233,53 @@ fn token_at(preamble: bool, text: &[u8], at: usize) -> Result<Token, LexErr>
     other_at(at, &text[at..], c, &text[at + 1..])
 }
 
+/// The tokens that stand from one byte up to another, as if the text ended there, or the first fault between them.
+/// Spans and faults are places in the whole text. `preamble` says whether a Header may stand at the front.
+/// A text of 2^32 bytes or more is refused with NoMemory, since spans are kept in 32 bits.
+pub fn tokens_between(
+    alloc: Global,
+    text: &[u8],
+    from: usize,
+    end: usize,
+    preamble: bool,
+) -> Result<Tokens, LexErr>
+    requires ordered { from ≤ «end» }
+    requires within { «end» ≤ length text.now }
+    ensures tokens { Gives result (piece_tokens text.now preamble from «end») }
+    ensures spot { IfErr result (IsFaultIn text.now) }
+    ensures in_text { IfOk result (AreIn text.now) }
+{
+    if text.len() > u32::MAX as usize {
+        return Err(LexErr::NoMemory);
+    }
+    let piece = &text[..end];
+    let mut spans = Vec::new(alloc);
+    let mut in_preamble = preamble;
+    let mut at = blanks_end(piece, from);
+    'tokens: while at < piece.len() {
+        let token = token_at(in_preamble, piece, at)?;
+        spans.push(Span::new(token))?;
+        in_preamble = stays_preamble(in_preamble, token.kind);
+        at = blanks_end(piece, token.end);
+    }
+    Ok(Tokens { spans })
+}
+
 /// The tokens of the text, or its first fault.
 /// A text of 2^32 bytes or more is refused with NoMemory, since spans are kept in 32 bits.
 pub fn tokens(alloc: Global, text: &[u8]) -> Result<Tokens, LexErr>
     ensures tokens { Gives result (spec.tokens_of text.now) }
     ensures spot { IfErr result (IsFaultIn text.now) }
+    ensures in_text { IfOk result (AreIn text.now) }
 {
-    if text.len() > u32::MAX as usize {
-        return Err(LexErr::NoMemory);
-    }
-    let mut spans = Vec::new(alloc);
-    let mut preamble = true;
-    let mut at = blanks_end(text, 0);
-    'tokens: while at < text.len() {
-        let token = token_at(preamble, text, at)?;
-        spans.push(Span::new(token))?;
-        preamble = stays_preamble(preamble, token.kind);
-        at = blanks_end(text, token.end);
-    }
-    Ok(Tokens { spans })
+    tokens_between(alloc, text, 0, text.len(), true)
 }
 
 impl Tokens {
     /// The bytes that a token of the text takes.
     #[inline]
     pub fn spelling<'a>(&self, text: &'a [u8], i: usize) -> &'a [u8]
-        requires whole { spec.tokens_of text.now ≡ Ok self.now }
+        requires inside { AreIn text.now self.now }
         requires below { i < length self.now }
         ensures { IfSome (slice_get self.now i) (λ token. result.now ≡ spelling text.now token) }
     {
@@ -267,7 +289,7 @@ impl Tokens {
     /// The number that a Number token of the text spells.
     #[inline]
     pub fn number(&self, text: &[u8], i: usize) -> i128
-        requires whole { spec.tokens_of text.now ≡ Ok self.now }
+        requires inside { AreIn text.now self.now }
         requires below { i < length self.now }
         requires kind { IfSome (slice_get self.now i) (λ token. token.kind ≡ Number) }
         ensures { IfSome (slice_get self.now i) (λ token. result ≡ numbers.spelled_number (spelling text.now token)) }

@@ -5,6 +5,7 @@ mod bytes;
 mod faults;
 pub mod laws;
 mod lexing;
+mod lines;
 mod numbers;
 mod places;
 mod spans;
@@ -12,7 +13,8 @@ mod spans;
 mod tests;
 
 pub use faults::{LexErr, Place, TextErr, TextKind};
-pub use lexing::tokens;
+pub use lexing::{tokens, tokens_between};
+pub use lines::next_line_with;
 pub use numbers::number;
 pub use places::place;
 pub use spans::{Token, TokenIter, TokenKind, Tokens, spelling};

@@ -1,6 +1,6 @@
 //! What no clause says: that the definitions are what the text form of CLIF asks for, and that tokens are given.
 
-use crate::{TextErr, TextKind, TokenKind, place, tokens};
+use crate::{TextErr, TextKind, TokenKind, next_line_with, place, tokens, tokens_between};
 use std::alloc::AllocError;
 
 const HEADER: TokenKind = TokenKind::Header;
@@ -73,6 +73,44 @@ fn reads_numbers(rt: HostRuntime) {
                 assert!(rt; found.get(0).kind == NUMBER, "at {text}");
                 assert!(rt; found.number(text.as_bytes(), 0) == want, "at {text}");
             }
+        }
+    }
+}
+
+#[test]
+fn reads_pieces(rt: HostRuntime) {
+    for (text, count) in [
+        ("test a\n; c\n\n%f -> 0x1_0\n test b\n", 7),
+        ("; set c\n set c\n", 2),
+        ("@1\r\n\n1 2", 3),
+    ] {
+        let text = text.as_bytes();
+        let found = tokens(rt.alloc(), text);
+        assert!(rt; found.is_ok(), "no tokens");
+        if let Ok(found) = found {
+            let mut seen = 0;
+            let mut from = 0;
+            let mut preamble = true;
+            for _ in 0..text.len() {
+                if from < text.len() {
+                    let end = next_line_with(text, from, b"");
+                    let piece = tokens_between(rt.alloc(), text, from, end, preamble);
+                    assert!(rt; piece.is_ok(), "no tokens from {from}");
+                    if let Ok(piece) = piece {
+                        for token in piece.iter() {
+                            assert!(rt; seen < found.len(), "too many at {from}");
+                            if seen < found.len() {
+                                assert!(rt; token == found.get(seen), "another at {from}");
+                                seen += 1;
+                            }
+                            preamble = preamble && matches!(token.kind, HEADER | COMMENT);
+                        }
+                    }
+                    from = end;
+                }
+            }
+            assert_eq!(rt; found.len(), count);
+            assert_eq!(rt; seen, count);
         }
     }
 }

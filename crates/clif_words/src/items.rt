@@ -5,7 +5,7 @@ ghost use Rattle.std.specs.Str.{bytes_eq};
 ghost use Rattle.std.specs.Char.{digit_value, is_ascii_digit};
 ghost use Rattle.std.specs.List.{suffix_len, prefix_len};
 ghost use Rattle.clif_lex.specs.Bytes.{first, is_sign};
-ghost use Rattle.clif_lex.specs.Lexing.{tokens_of};
+ghost use Rattle.clif_lex.specs.Spelling.{AreIn};
 ghost use Rattle.clif_words.specs.declared.class.Class.TheVariants.{Value};
 ghost use Rattle.clif_words.specs.Table as table;
 ghost use Rattle.clif_words.specs.Words as words;
@@ -308,7 +308,7 @@ fn number_class(number: &[u8]) -> Class
 /// The meaning of a token of the text.
 #[inline]
 pub fn token_meaning(text: &[u8], tokens: &Tokens, i: usize) -> Meaning
-    requires whole { tokens_of text.now ≡ Ok tokens.now }
+    requires inside { AreIn text.now tokens.now }
     requires below { i < length tokens.now }
     ensures { IfSome (slice_get tokens.now i) (λ token. result ≡ spec.meaning text.now token) }
 {

@@ -1,4 +1,4 @@
-use Rattle.std.proofs.Common.{◌≡◌, ◌+◌, ◌-◌, true, false, ◌&&◌, arith, refl, sym, length, take, drop}
+use Rattle.std.proofs.Common.{◌≡◌, ◌-◌, true, false, ◌&&◌, arith, refl, sym, length, take, drop}
 use Rattle.std.proofs.lemmas.List.{take_all, length-drop}
 use Rattle.std.specs.List.{prefix_len}
 use Rattle.clif_lex.specs.Bytes.{is_word_byte}

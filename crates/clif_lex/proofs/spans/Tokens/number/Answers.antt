@@ -1,16 +1,15 @@
 use Rattle.std.proofs.Common.{arith}
-use Rattle.clif_lex.proofs.Readings.{token_inside_text}
 use Rattle.clif_lex.proofs.spans.Tokens.number.Goals as goal
 
 pub number-requires-clause-ordered : goal.number-requires-clause-ordered
 number-requires-clause-ordered c =
-    let token = token_inside_text c.args.text.now c.args.self.now c.requires.whole c.args.i c.get.result c.get.ensures in
+    let token = c.requires.inside.each c.args.i c.get.result c.get.ensures in
     omega (arith, token.some)
 
 pub number-requires-clause-within : goal.number-requires-clause-within
-number-requires-clause-within c = (token_inside_text c.args.text.now c.args.self.now c.requires.whole c.args.i c.get.result c.get.ensures).within
+number-requires-clause-within c = (c.requires.inside.each c.args.i c.get.result c.get.ensures).within
 
 pub number-requires-clause-in_range : goal.number-requires-clause-in_range
 number-requires-clause-in_range c =
-    let token = token_inside_text c.args.text.now c.args.self.now c.requires.whole c.args.i c.get.result c.get.ensures in
+    let token = c.requires.inside.each c.args.i c.get.result c.get.ensures in
     token.in_range (rw c.get.ensures at c.requires.kind)

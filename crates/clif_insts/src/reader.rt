@@ -2,7 +2,7 @@
 
 ghost use Rattle.std.specs.Prelude.{◌≡◌, ◌≢◌, ℕ, not, List, ◌∷◌, [], ◌<◌, ◌≤◌, length, drop, slice_get, false, IfOk, IfErr, IfSome};
 ghost use Rattle.grammar.specs.Rules.{Lexeme, heads, heads_any};
-ghost use Rattle.clif_lex.specs.Lexing.{tokens_of};
+ghost use Rattle.clif_lex.specs.Spelling.{AreIn};
 ghost use Rattle.clif_words.specs.Classes.{code};
 ghost use Rattle.clif_words.specs.Lexemes.{lexemes};
 ghost use Rattle.clif_words.specs.Lexemes as lexeme_specs;
@@ -36,16 +36,16 @@ pub struct Reader<'a> {
 }
 
 impl<'a> Model for Reader<'a> {
-    ghost use Rattle.std.specs.Prelude.{List, drop, ◌≡◌, ◌≤◌, length, Ok};
+    ghost use Rattle.std.specs.Prelude.{List, drop, ◌≤◌, length};
     ghost use Rattle.grammar.specs.Rules.{Lexeme};
-    ghost use Rattle.clif_lex.specs.Lexing.{tokens_of};
+    ghost use Rattle.clif_lex.specs.Spelling.{AreIn};
     ghost use Rattle.clif_words.specs.Lexemes.{lexemes, Upcoming};
 
     ghost Value = { List Lexeme };
 
     ghost view = { λ r. lexemes r.text.now (drop r.at r.tokens.now) };
 
-    ghost invariant = { λ r. (tokens_of r.text.now ≡ Ok r.tokens.now) × (r.at ≤ length r.tokens.now) × Upcoming r.text.now (drop r.at r.tokens.now) r.next };
+    ghost invariant = { λ r. AreIn r.text.now r.tokens.now × (r.at ≤ length r.tokens.now) × Upcoming r.text.now (drop r.at r.tokens.now) r.next };
 }
 
 /// Whether a token is a comment.
@@ -108,7 +108,7 @@ fn settle(text: &[u8], tokens: &Tokens, from: usize, end: usize) -> usize
 /// What the next token is.
 #[inline]
 fn upcoming(text: &[u8], tokens: &Tokens, at: usize) -> Option<Meaning>
-    requires whole { tokens_of text.now ≡ Ok tokens.now }
+    requires inside { AreIn text.now tokens.now }
     requires no_comment { IfSome (slice_get tokens.now at) (λ token. lexeme_specs.is_comment token.kind ≡ false) }
     ensures { lexeme_specs.Upcoming text.now (drop at tokens.now) result }
 {
@@ -122,7 +122,7 @@ fn upcoming(text: &[u8], tokens: &Tokens, at: usize) -> Option<Meaning>
 impl<'a> Reader<'a> {
     /// The tokens of a text from a place of their list on.
     pub fn new(text: &'a [u8], tokens: &'a Tokens, from: usize) -> Self
-        requires whole { tokens_of text.now ≡ Ok tokens.now }
+        requires inside { AreIn text.now tokens.now }
         requires within { from ≤ length tokens.now }
         ensures { result ≡ lexemes text.now (drop from tokens.now) }
     {

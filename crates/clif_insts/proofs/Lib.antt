@@ -5,7 +5,6 @@ pub mod FlagLaws
 pub mod FormLaws
 pub mod CallLaws
 pub mod InstLaws
-pub mod Places
 pub mod Alone
 pub mod Firm
 pub mod One
@@ -17,3 +16,4 @@ pub mod Singles
 pub mod FlagLetter
 pub mod Next
 pub mod Choice
+pub mod Counted

@@ -17,11 +17,11 @@ use Rattle.clif_insts.proofs.Takes.{same_class}
 use Rattle.clif_insts.proofs.Views.{takes, upcoming_not}
 
 -- what the next token spells as a name
-pub spells_name : (text : List ℕ) (ts : List Token) (i : ℕ) (t : Token) (next : Option Meaning) (x : Lexeme) (xs : List Lexeme) → slice_get ts i ≡ Some t → Upcoming text (drop i ts) next → lexemes text i (drop i ts) ≡ x ∷ xs
+pub spells_name : (text : List ℕ) (ts : List Token) (i : ℕ) (t : Token) (next : Option Meaning) (x : Lexeme) (xs : List Lexeme) → slice_get ts i ≡ Some t → Upcoming text (drop i ts) next → lexemes text (drop i ts) ≡ x ∷ xs
     → (name_of t.kind (spelling text t) ≡ x.name) × (t.start ≡ x.spot)
 spells_name text ts i t next x xs e up whole =
     let front = sym (takes text ts i t e (upcoming_not text ts i t next e up)) ∙ whole in
-    let head : lexeme text i t ≡ x = cc in
+    let head : lexeme text t ≡ x = cc in
     (ap (λ (z : Lexeme). z.name) head, ap (λ (z : Lexeme). z.spot) head)
 
 pub takes_text : (class : Class) (ts : List Lexeme) → next_is class ts ≡ true → (r : RawText) (after : List Lexeme) → ((x : Lexeme) (xs : List Lexeme) → ts ≡ x ∷ xs → r ≡ text x) → after ≡ drop 1 ts

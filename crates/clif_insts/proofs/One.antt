@@ -18,7 +18,7 @@ use Rattle.clif_insts.specs.Reading.{name, name_at, Stops}
 use Rattle.clif_insts.specs.Values.{seen}
 use Rattle.clif_insts.specs.InstValues.{raw, whole_value}
 use Rattle.clif_insts.specs.Forms.{opt_values_at, return_values_at, whole_at, one_at}
-use Rattle.clif_insts.specs.Insts.{Own, NoMore, place_or, place_behind, Found, Missing, Stopped, error_at}
+use Rattle.clif_insts.specs.Insts.{Own, NoMore, place_behind, Found, Missing, Stopped, error_at}
 use Rattle.clif_insts.proofs.Firm.{no_text}
 use Rattle.clif_insts.proofs.InstLaws.{whole_is}
 use Rattle.clif_insts.proofs.Alone.{Alone, alone_or_whole}
@@ -61,67 +61,67 @@ behind : (us rest : List Lexeme) → drop (length us) (us ++ rest) ≡ rest
 behind [] rest = refl
 behind (u ∷ us) rest = behind us rest
 
-abbrev Says : List Lexeme → ℕ → Out RawInst → Type 0
-Says ts end (Ok x) = Found ts end x.0 (place_or end x.1)
-Says ts end (Err e) = Missing ts end e.0 (place_or end e.1)
+abbrev Says : List Lexeme → (List Lexeme → ℕ) → Out RawInst → Type 0
+Says ts place (Ok x) = Found ts place x.0 (place x.1)
+Says ts place (Err e) = Missing ts place e.0 (place e.1)
 
-place_same : (ts us rest : List Lexeme) (end : ℕ) → ts ≡ us ++ rest → place_or end rest ≡ place_behind us ts end
-place_same ts us rest end e = ap (place_or end) (sym (ap (drop (length us)) e ∙ behind us rest))
+place_same : (ts us rest : List Lexeme) (place : List Lexeme → ℕ) → ts ≡ us ++ rest → place rest ≡ place_behind place us ts
+place_same ts us rest place e = ap place (sym (ap (drop (length us)) e ∙ behind us rest))
 
-says_whole : (ts : List Lexeme) (end : ℕ) → Own ts ts → (o : Out (Value whole_inst)) → read whole_inst ts ≡ o → Says ts end (seen whole_value o)
-says_whole ts end own (Ok (v, rest)) h =
+says_whole : (ts : List Lexeme) (place : List Lexeme → ℕ) → Own ts ts → (o : Out (Value whole_inst)) → read whole_inst ts ≡ o → Says ts place (seen whole_value o)
+says_whole ts place own (Ok (v, rest)) h =
     let f = found ts v rest h in
-    (ts, own, (f.0, f.1, f.2, ((v, f.3.1, refl, f.3.2), f.3.3, place_same ts f.0 rest end (f.2 ∙ ap (λ (l : List Lexeme). f.0 ++ l) f.3.0))))
-says_whole ts end own (Err e) h =
+    (ts, own, (f.0, f.1, f.2, ((v, f.3.1, refl, f.3.2), f.3.3, place_same ts f.0 rest place (f.2 ∙ ap (λ (l : List Lexeme). f.0 ++ l) f.3.0))))
+says_whole ts place own (Err e) h =
     let m = missed ts e h in
     let cut : ts ≡ m.0 ++ e.1 = m.2 ∙ ap (λ (l : List Lexeme). m.0 ++ l) m.3.0 in
-    (ts, own, (m.0, m.1, m.2, (m.3.1, no_text whole_inst refl refl ts m.0 e.1 e.0 cut h, m.3.2, place_same ts m.0 e.1 end (m.2 ∙ ap (λ (l : List Lexeme). m.0 ++ l) m.3.0))))
+    (ts, own, (m.0, m.1, m.2, (m.3.1, no_text whole_inst refl refl ts m.0 e.1 e.0 cut h, m.3.2, place_same ts m.0 e.1 place (m.2 ∙ ap (λ (l : List Lexeme). m.0 ++ l) m.3.0))))
 
 -- a `return` and nothing else
 return_only : (x : Lexeme) → x.class ≡ code classes.Return → whole_at (x ∷ []) ≡ Ok (raw (name x) None (operands.Return []), [])
 unfolding whole_at return_values_at opt_values_at name_at
 return_only x h = rw h refl
 
-says_alone : (ts : List Lexeme) (end : ℕ) → Alone ts → (o : Out (Value whole_inst)) (x : Lexeme) (rest : List Lexeme) → ts ≡ x ∷ rest → Own ts (x ∷ [])
-    → read whole_inst (x ∷ []) ≡ o → seen whole_value o ≡ Ok (raw (name x) None (operands.Return []), []) → Found ts end (raw (name x) None (operands.Return [])) (place_or end rest)
-says_alone ts end a (Err e) x rest all own h s = absurd cc
-says_alone ts end a (Ok (v, left)) x rest all own h s =
+says_alone : (ts : List Lexeme) (place : List Lexeme → ℕ) → Alone ts → (o : Out (Value whole_inst)) (x : Lexeme) (rest : List Lexeme) → ts ≡ x ∷ rest → Own ts (x ∷ [])
+    → read whole_inst (x ∷ []) ≡ o → seen whole_value o ≡ Ok (raw (name x) None (operands.Return []), []) → Found ts place (raw (name x) None (operands.Return [])) (place rest)
+says_alone ts place a (Err e) x rest all own h s = absurd cc
+says_alone ts place a (Ok (v, left)) x rest all own h s =
     let none_left : left ≡ [] = (let p = same_pair (whole_value v, left) (raw (name x) None (operands.Return []), []) s in ap (λ (p : RawInst × List Lexeme). p.1) p) in
     let value : raw (name x) None (operands.Return []) ≡ whole_value v = (let p = same_pair (whole_value v, left) (raw (name x) None (operands.Return []), []) s in sym (ap (λ (p : RawInst × List Lexeme). p.0) p)) in
     let f = found (x ∷ []) v left h in
     let us : x ∷ [] ≡ f.0 = f.2 ∙ ap (λ (l : List Lexeme). f.0 ++ l) (f.3.0 ∙ none_left) ∙ append-nil f.0 in
-    let place : place_or end rest ≡ place_behind f.0 ts end = ap (λ (l : List Lexeme). place_or end (drop (length l) (x ∷ rest))) us ∙ ap (λ (l : List Lexeme). place_behind f.0 l end) (sym all) in
-    (x ∷ [], own, (f.0, f.1, f.2, ((v, f.3.1, value, f.3.2), f.3.3, place)))
+    let same : place rest ≡ place_behind place f.0 ts = ap (λ (l : List Lexeme). place (drop (length l) (x ∷ rest))) us ∙ ap (λ (l : List Lexeme). place_behind place f.0 l) (sym all) in
+    (x ∷ [], own, (f.0, f.1, f.2, ((v, f.3.1, value, f.3.2), f.3.3, same)))
   where
     same_pair : (p q : RawInst × List Lexeme) → (let o : Out RawInst = Ok p in o) ≡ Ok q → p ≡ q
     same_pair p q e = cc
 
-pub says : (ts : List Lexeme) (end : ℕ) → Says ts end (one_at ts)
-says ts end =
+pub says : (ts : List Lexeme) (place : List Lexeme → ℕ) → Says ts place (one_at ts)
+says ts place =
     elim (alone_or_whole ts) [
-      | inl a ↦ subst (Says ts end) (sym a.read) (
+      | inl a ↦ subst (Says ts place) (sym a.read) (
           let own : Own ts (a.first ∷ []) = inl (a.starts, sym (ap (take 1) a.all)) in
           let s : seen whole_value (read whole_inst (a.first ∷ [])) ≡ Ok (raw (name a.first) None (operands.Return []), []) = sym (whole_is.same (a.first ∷ [])) ∙ return_only a.first a.is_return in
-          says_alone ts end a (read whole_inst (a.first ∷ [])) a.first a.rest a.all own refl s)
-      | inr w ↦ subst (Says ts end) (sym (w.read ∙ whole_is.same ts)) (says_whole ts end (inr (w.starts_not, refl)) (read whole_inst ts) refl)
+          says_alone ts place a (read whole_inst (a.first ∷ [])) a.first a.rest a.all own refl s)
+      | inr w ↦ subst (Says ts place) (sym (w.read ∙ whole_is.same ts)) (says_whole ts place (inr (w.starts_not, refl)) (read whole_inst ts) refl)
     ]
 
-pub says_found : (ts : List Lexeme) (end : ℕ) (x : RawInst) (rest : List Lexeme) → one_at ts ≡ Ok (x, rest) → Found ts end x (place_or end rest)
-says_found ts end x rest e = subst (Says ts end) e (says ts end)
+pub says_found : (ts : List Lexeme) (place : List Lexeme → ℕ) (x : RawInst) (rest : List Lexeme) → one_at ts ≡ Ok (x, rest) → Found ts place x (place rest)
+says_found ts place x rest e = subst (Says ts place) e (says ts place)
 
-pub says_missing : (ts : List Lexeme) (end : ℕ) (kind : Kind) (rest : List Lexeme) → one_at ts ≡ Err (kind, rest) → Missing ts end kind (place_or end rest)
-says_missing ts end kind rest e = subst (Says ts end) e (says ts end)
+pub says_missing : (ts : List Lexeme) (place : List Lexeme → ℕ) (kind : Kind) (rest : List Lexeme) → one_at ts ≡ Err (kind, rest) → Missing ts place kind (place rest)
+says_missing ts place kind rest e = subst (Says ts place) e (says ts place)
 
 -- ---- what the call answers
 
-pub found_at : (ts given rest : List Lexeme) (end size k : ℕ) (x : RawInst) → given ≡ ts → size ≡ end → k ≡ place_or size rest → one_at given ≡ Ok (x, rest) → Found ts end x k
-found_at ts given rest end size k x e f g h = subst (Found ts end x) (sym (g ∙ ap (λ n. place_or n rest) f)) (says_found ts end x rest (sym (ap one_at e) ∙ h))
+pub found_at : (ts given rest : List Lexeme) (place : List Lexeme → ℕ) (k : ℕ) (x : RawInst) → given ≡ ts → k ≡ place rest → one_at given ≡ Ok (x, rest) → Found ts place x k
+found_at ts given rest place k x e g h = subst (Found ts place x) (sym g) (says_found ts place x rest (sym (ap one_at e) ∙ h))
 
-missing_at : (ts given rest : List Lexeme) (end size k : ℕ) (kind : Kind) → given ≡ ts → size ≡ end → k ≡ place_or size rest → one_at given ≡ Err (kind, rest) → Missing ts end kind k
-missing_at ts given rest end size k kind e f g h = subst (Missing ts end kind) (sym (g ∙ ap (λ n. place_or n rest) f)) (says_missing ts end kind rest (sym (ap one_at e) ∙ h))
+missing_at : (ts given rest : List Lexeme) (place : List Lexeme → ℕ) (k : ℕ) (kind : Kind) → given ≡ ts → k ≡ place rest → one_at given ≡ Err (kind, rest) → Missing ts place kind k
+missing_at ts given rest place k kind e g h = subst (Missing ts place kind) (sym g) (says_missing ts place kind rest (sym (ap one_at e) ∙ h))
 
-pub stopped_at : (ts given rest : List Lexeme) (end size k : ℕ) (stop : Stop) → given ≡ ts → size ≡ end → k ≡ place_or size rest → Stops rest stop (one_at given) → Stopped ts end (error_at stop k)
-stopped_at ts given rest end size k stops.Syntax e f g h = missing_at ts given rest end size k rules.Syntax e f g h
-stopped_at ts given rest end size k stops.UnknownOpcode e f g h = missing_at ts given rest end size k rules.UnknownOpcode e f g h
-stopped_at ts given rest end size k stops.Unsupported e f g h = missing_at ts given rest end size k rules.Unsupported e f g h
-stopped_at ts given rest end size k stops.NoMemory e f g h = tt
+pub stopped_at : (ts given rest : List Lexeme) (place : List Lexeme → ℕ) (k : ℕ) (stop : Stop) → given ≡ ts → k ≡ place rest → Stops rest stop (one_at given) → Stopped ts place (error_at stop k)
+stopped_at ts given rest place k stops.Syntax e g h = missing_at ts given rest place k rules.Syntax e g h
+stopped_at ts given rest place k stops.UnknownOpcode e g h = missing_at ts given rest place k rules.UnknownOpcode e g h
+stopped_at ts given rest place k stops.Unsupported e g h = missing_at ts given rest place k rules.Unsupported e g h
+stopped_at ts given rest place k stops.NoMemory e g h = tt

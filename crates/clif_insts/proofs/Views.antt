@@ -25,12 +25,12 @@ drop_past ts i le = go (drop i ts) (let l = length-drop i ts in omega arith)
     go (u ∷ us) e = absurd (omega arith)
 
 -- a comment is passed over
-pub skips : (text : List ℕ) (ts : List Token) (i : ℕ) (t : Token) → slice_get ts i ≡ Some t → is_comment t.kind ≡ true → lexemes text (i + 1) (drop (i + 1) ts) ≡ lexemes text i (drop i ts)
+pub skips : (text : List ℕ) (ts : List Token) (i : ℕ) (t : Token) → slice_get ts i ≡ Some t → is_comment t.kind ≡ true → lexemes text (drop (i + 1) ts) ≡ lexemes text (drop i ts)
 unfolding lexemes
 skips text ts i t e comment = rw (drop_some ts i t e, comment) refl
 
 -- any other token is the next
-pub takes : (text : List ℕ) (ts : List Token) (i : ℕ) (t : Token) → slice_get ts i ≡ Some t → is_comment t.kind ≡ false → lexemes text i (drop i ts) ≡ lexeme text i t ∷ lexemes text (i + 1) (drop (i + 1) ts)
+pub takes : (text : List ℕ) (ts : List Token) (i : ℕ) (t : Token) → slice_get ts i ≡ Some t → is_comment t.kind ≡ false → lexemes text (drop i ts) ≡ lexeme text t ∷ lexemes text (drop (i + 1) ts)
 unfolding lexemes
 takes text ts i t e no_comment = rw (drop_some ts i t e, no_comment) refl
 
@@ -41,10 +41,10 @@ pub upcoming_none : (text : List ℕ) (ts : List Token) (i : ℕ) → length ts 
 upcoming_none text ts i le = rw (drop_past ts i le) refl
 
 -- the next token's class
-pub heads_some : (text : List ℕ) (place : ℕ) (ts : List Token) (m : Meaning) (class : Class) → Upcoming text ts (Some m) → (code class == code m.class) ≡ heads (code class ∷ []) (lexemes text place ts)
+pub heads_some : (text : List ℕ) (ts : List Token) (m : Meaning) (class : Class) → Upcoming text ts (Some m) → (code class == code m.class) ≡ heads (code class ∷ []) (lexemes text ts)
 unfolding lexemes
-heads_some text place [] m class up = absurd cc
-heads_some text place (t ∷ ts) m class up =
+heads_some text [] m class up = absurd cc
+heads_some text (t ∷ ts) m class up =
     let same : m ≡ meaning text t = (let e = up.1 in cc) in
     rw (up.0, same) (go (code class == code (meaning text t).class))
   where
@@ -52,10 +52,10 @@ heads_some text place (t ∷ ts) m class up =
     go true = refl
     go false = refl
 
-pub heads_none : (text : List ℕ) (place : ℕ) (ts : List Token) (class : Class) → Upcoming text ts None → false ≡ heads (code class ∷ []) (lexemes text place ts)
+pub heads_none : (text : List ℕ) (ts : List Token) (class : Class) → Upcoming text ts None → false ≡ heads (code class ∷ []) (lexemes text ts)
 unfolding lexemes
-heads_none text place [] class up = refl
-heads_none text place (t ∷ ts) class up = absurd (let e = up.1 in cc)
+heads_none text [] class up = refl
+heads_none text (t ∷ ts) class up = absurd (let e = up.1 in cc)
 
 -- what is said of an element that there is
 pub if_some : {A : Type 0} (P : A → Type 0) (o : Option A) (x : A) → o ≡ Some x → IfSome o P → P x
@@ -69,7 +69,7 @@ pub if_none : {A : Type 0} (P : A → Type 0) (o : Option A) → o ≡ None → 
 if_none P o e = subst (λ (z : Option _). IfSome z P) (sym e) tt
 
 -- where a token is left, the next is there
-pub some_next : (text : List ℕ) (ts : List Token) (i : ℕ) → lexemes text i (drop i ts) ≢ [] → i < length ts
+pub some_next : (text : List ℕ) (ts : List Token) (i : ℕ) → lexemes text (drop i ts) ≢ [] → i < length ts
 unfolding lexemes
 some_next text ts i h = go (drop i ts) refl
   where
@@ -78,14 +78,14 @@ some_next text ts i h = go (drop i ts) refl
     go (u ∷ us) e = (let l = length-drop i ts in let k = ap length e in omega arith)
 
 -- the next token of a reader
-pub front_is : (text : List ℕ) (place : ℕ) (ts : List Token) (m : Meaning) (x : Lexeme) (xs : List Lexeme) → Upcoming text ts (Some m) → lexemes text place ts ≡ x ∷ xs
+pub front_is : (text : List ℕ) (ts : List Token) (m : Meaning) (x : Lexeme) (xs : List Lexeme) → Upcoming text ts (Some m) → lexemes text ts ≡ x ∷ xs
     → (t : Token) → (us : List Token) → ts ≡ t ∷ us → (m.number ≡ x.number) × (t.start ≡ x.spot)
 unfolding lexemes
-front_is text place ts m x xs up e t us f =
+front_is text ts m x xs up e t us f =
     let up2 = subst (λ (z : List Token). Upcoming text z (Some m)) f up in
     let same : m ≡ meaning text t = (let e = up2.1 in cc) in
-    let whole : lexeme text place t ∷ lexemes text (place + 1) us ≡ x ∷ xs = rw (up2.0) at (rw f at e) in
-    let head : lexeme text place t ≡ x = cc in
+    let whole : lexeme text t ∷ lexemes text us ≡ x ∷ xs = rw (up2.0) at (rw f at e) in
+    let head : lexeme text t ≡ x = cc in
     (ap (λ (z : Meaning). z.number) same ∙ ap (λ (z : Lexeme). z.number) head, ap (λ (z : Lexeme). z.spot) head)
 
 pub some_at : (ts : List Token) (i : ℕ) → i < length ts → (t : Token) × (slice_get ts i ≡ Some t)
@@ -116,22 +116,22 @@ number_kind kinds.Arrow e = absurd cc
 number_kind (kinds.Mark b) e = absurd cc
 
 -- what the next token spells as a number
-pub amount_is : (text : List ℕ) (ts : List Token) (i : ℕ) (t : Token) (next : Option Meaning) (x : Lexeme) (xs : List Lexeme) → slice_get ts i ≡ Some t → Upcoming text (drop i ts) next → lexemes text i (drop i ts) ≡ x ∷ xs
+pub amount_is : (text : List ℕ) (ts : List Token) (i : ℕ) (t : Token) (next : Option Meaning) (x : Lexeme) (xs : List Lexeme) → slice_get ts i ≡ Some t → Upcoming text (drop i ts) next → lexemes text (drop i ts) ≡ x ∷ xs
     → (amount_of t.kind (spelling text t) ≡ x.amount) × (t.start ≡ x.spot)
 amount_is text ts i t next x xs e up whole =
     let front = sym (takes text ts i t e (upcoming_not text ts i t next e up)) ∙ whole in
-    let head : lexeme text i t ≡ x = cc in
+    let head : lexeme text t ≡ x = cc in
     (ap (λ (z : Lexeme). z.amount) head, ap (λ (z : Lexeme). z.spot) head)
 
 -- whether the next token's class is among those that are asked for
-pub heads_among : (text : List ℕ) (place : ℕ) (ts : List Token) (m : Meaning) (cs : List ℕ) → Upcoming text ts (Some m) → member (code m.class) cs ≡ heads cs (lexemes text place ts)
+pub heads_among : (text : List ℕ) (ts : List Token) (m : Meaning) (cs : List ℕ) → Upcoming text ts (Some m) → member (code m.class) cs ≡ heads cs (lexemes text ts)
 unfolding lexemes
-heads_among text place [] m cs up = absurd cc
-heads_among text place (t ∷ ts) m cs up =
+heads_among text [] m cs up = absurd cc
+heads_among text (t ∷ ts) m cs up =
     let same : m ≡ meaning text t = (let e = up.1 in cc) in
     rw (up.0, same) refl
 
-pub heads_none_among : (text : List ℕ) (place : ℕ) (ts : List Token) (cs : List ℕ) → Upcoming text ts None → false ≡ heads cs (lexemes text place ts)
+pub heads_none_among : (text : List ℕ) (ts : List Token) (cs : List ℕ) → Upcoming text ts None → false ≡ heads cs (lexemes text ts)
 unfolding lexemes
-heads_none_among text place [] cs up = refl
-heads_none_among text place (t ∷ ts) cs up = absurd (let e = up.1 in cc)
+heads_none_among text [] cs up = refl
+heads_none_among text (t ∷ ts) cs up = absurd (let e = up.1 in cc)

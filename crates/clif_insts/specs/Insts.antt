@@ -1,7 +1,9 @@
 -- One instruction, read from a place of the list of tokens on: which one it is and where it stops, or where and why there is none.
-use Rattle.std.specs.Prelude.{◌≡◌, ℕ, List, [], ◌∷◌, ◌++◌, ◌⊎◌, length, take, drop}
+use Rattle.std.specs.Prelude.{◌≡◌, ℕ, ◌+◌, nat_lt, List, [], ◌∷◌, ◌++◌, ◌⊎◌, length, take, drop}
+use Rattle.std.specs.List.{prefix_len}
 use Rattle.grammar.specs.Rules.{Lexeme, Rule, Kind, Value, Cut, Derives, Begins, StopsAt}
 use Rattle.grammar.specs.Rules as rules
+use Rattle.clif_lex.specs.declared.spans.Token.{Token}
 use Rattle.clif_insts.specs.declared.raw.RawInst.{RawInst}
 use Rattle.clif_insts.specs.declared.insts.SyntaxErr.{SyntaxErr}
 use Rattle.clif_insts.specs.declared.insts.SyntaxErr.TheVariants as errors
@@ -9,6 +11,7 @@ use Rattle.clif_insts.specs.declared.stop.Stop.{Stop}
 use Rattle.clif_insts.specs.declared.stop.Stop.TheVariants as stops
 use Rattle.clif_insts.specs.Grammar.{whole_inst, return_alone}
 use Rattle.clif_insts.specs.InstValues.{whole_value}
+use Rattle.clif_insts.specs.Next.{spot_or}
 
 -- the tokens begin with a text of the rule
 abbrev pub Starts : Rule → List Lexeme → Type 0
@@ -27,28 +30,31 @@ abbrev pub NoMore : List Lexeme → List Lexeme → Type 0
 NoMore us [] = Unit {0}
 NoMore us (x ∷ more) = Begins whole_inst (us ++ x ∷ []) → ⊥
 
--- the place of the next token in the list, or the list's end
-abbrev pub place_or : ℕ → List Lexeme → ℕ
-place_or end [] = end
-place_or end (x ∷ xs) = x.place
+-- i, and the tokens from i on that start before this spot
+abbrev pub place_of : List Token → ℕ → ℕ → ℕ
+place_of tokens i spot = i + prefix_len (λ t. nat_lt t.start spot) (drop i tokens)
+
+-- the place in the list of the first of these tokens, which are left of those from i on; of none it is the list's length
+abbrev pub place_left : List ℕ → List Token → ℕ → List Lexeme → ℕ
+place_left text tokens i rest = place_of tokens i (spot_or (length text) rest)
 
 -- the place behind some of the tokens
-abbrev pub place_behind : List Lexeme → List Lexeme → ℕ → ℕ
-place_behind us ts end = place_or end (drop (length us) ts)
+abbrev pub place_behind : (List Lexeme → ℕ) → List Lexeme → List Lexeme → ℕ
+place_behind place us ts = place (drop (length us) ts)
 
 -- the tokens up to k are this instruction, and no more of them begin one
-abbrev pub Found : List Lexeme → ℕ → RawInst → ℕ → Type 0
-Found ts end x k = (own : List Lexeme) × Own ts own × Cut own (λ us rest. IsInst us x × NoMore us rest × (k ≡ place_behind us ts end))
+abbrev pub Found : List Lexeme → (List Lexeme → ℕ) → RawInst → ℕ → Type 0
+Found ts place x k = (own : List Lexeme) × Own ts own × Cut own (λ us rest. IsInst us x × NoMore us rest × (k ≡ place_behind place us ts))
 
 -- The tokens up to k are no instruction. They begin one, and with the next they begin none, or there is no next. The kind is that of the words that the place refuses, and Syntax elsewhere.
-abbrev pub Missing : List Lexeme → ℕ → Kind → ℕ → Type 0
-Missing ts end kind k = (own : List Lexeme) × Own ts own × Cut own (λ us rest. Begins whole_inst us × ((v : Value whole_inst) → Derives whole_inst us v → ⊥) × StopsAt whole_inst us kind rest × (k ≡ place_behind us ts end))
+abbrev pub Missing : List Lexeme → (List Lexeme → ℕ) → Kind → ℕ → Type 0
+Missing ts place kind k = (own : List Lexeme) × Own ts own × Cut own (λ us rest. Begins whole_inst us × ((v : Value whole_inst) → Derives whole_inst us v → ⊥) × StopsAt whole_inst us kind rest × (k ≡ place_behind place us ts))
 
-abbrev pub Stopped : List Lexeme → ℕ → SyntaxErr → Type 0
-Stopped ts end (errors.Syntax k) = Missing ts end rules.Syntax k
-Stopped ts end (errors.UnknownOpcode k) = Missing ts end rules.UnknownOpcode k
-Stopped ts end (errors.Unsupported k) = Missing ts end rules.Unsupported k
-Stopped ts end errors.NoMemory = Unit {0}
+abbrev pub Stopped : List Lexeme → (List Lexeme → ℕ) → SyntaxErr → Type 0
+Stopped ts place (errors.Syntax k) = Missing ts place rules.Syntax k
+Stopped ts place (errors.UnknownOpcode k) = Missing ts place rules.UnknownOpcode k
+Stopped ts place (errors.Unsupported k) = Missing ts place rules.Unsupported k
+Stopped ts place errors.NoMemory = Unit {0}
 
 -- why reading stopped, and at which token
 abbrev pub error_at : Stop → ℕ → SyntaxErr

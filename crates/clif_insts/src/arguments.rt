@@ -1,6 +1,7 @@
 //! Values behind one another, and the arguments of a call.
 
-ghost use Rattle.std.specs.Prelude.{◌∷◌, [], ◌<◌, ◌≤◌, length, IfOk};
+ghost use Rattle.std.specs.Prelude.{◌≢◌, ◌∷◌, [], ◌<◌, ◌≤◌, length, IfOk, IfErr};
+ghost use Rattle.clif_insts.specs.declared.stop.Stop.TheVariants.{NoMemory};
 ghost use Rattle.clif_words.specs.declared.class.Class.TheVariants as classes;
 ghost use Rattle.clif_insts.specs.Reading.{Gives, same};
 ghost use Rattle.clif_insts.specs.Arguments as spec;
@@ -15,6 +16,7 @@ use std::alloc::Global;
 #[tactic(auto, unfolding(crate::specs::Arguments::comma_name_at))]
 pub fn comma_value(reader: &mut Reader<'_>) -> Result<RawName, Stop>
     ensures is { Gives same reader.new result (spec.comma_name_at classes.Value reader.old) }
+    ensures no_memory { IfErr result (λ e. e ≢ NoMemory) }
     ensures shorter { IfOk result (λ _. length reader.new < length reader.old) }
 {
     reader.take(Class::Comma)?;

@@ -94,6 +94,19 @@ fn one_inst(alloc: Global, reader: &mut Reader<'_>) -> Result<RawInst, Stop>
     }
 }
 
+/// The place in the list of the first token from `i` on that does not start before the spot, or the list's length.
+fn place_of(tokens: &Tokens, i: usize, spot: usize) -> usize
+    requires { i ≤ length tokens.now }
+    ensures { result ≡ insts.place_of tokens.now i spot }
+{
+    let end = tokens.len();
+    let mut place = i;
+    'counted: while place < end && tokens.get(place).start < spot {
+        place += 1;
+    }
+    place
+}
+
 /// The instruction that the tokens from `i` on begin with, and the token behind it.
 /// The tokens of the next line are not read: value words behind a `return` that are its results, or its alias.
 ///
@@ -108,12 +121,12 @@ pub fn inst(
 ) -> Result<(RawInst, usize), SyntaxErr>
     requires whole { tokens_of text.now ≡ Ok tokens.now }
     requires within { i ≤ length tokens.now }
-    ensures found { IfOk result (λ x. Found (lexemes text.now i (drop i tokens.now)) (length tokens.now) x.0 x.1) }
-    ensures stop { IfErr result (λ e. Stopped (lexemes text.now i (drop i tokens.now)) (length tokens.now) e) }
+    ensures found { IfOk result (λ x. Found (lexemes text.now (drop i tokens.now)) (insts.place_left text.now tokens.now i) x.0 x.1) }
+    ensures stop { IfErr result (λ e. Stopped (lexemes text.now (drop i tokens.now)) (insts.place_left text.now tokens.now i) e) }
 {
     let mut reader = Reader::new(text, tokens, i);
     let read = one_inst(alloc, &mut reader);
-    let place = reader.place_or(tokens.len());
+    let place = place_of(tokens, i, reader.spot_or(text.len()));
     match read {
         Ok(found) => Ok((found, place)),
         Err(stop) => Err(error_at(stop, place)),

@@ -1,6 +1,7 @@
 //! Numbers and offsets.
 
-ghost use Rattle.std.specs.Prelude.{◌<◌, ◌≤◌, length, IfOk};
+ghost use Rattle.std.specs.Prelude.{◌≢◌, ◌<◌, ◌≤◌, length, IfOk, IfErr};
+ghost use Rattle.clif_insts.specs.declared.stop.Stop.TheVariants.{NoMemory};
 ghost use Rattle.clif_insts.specs.Reading.{Gives, same};
 ghost use Rattle.clif_insts.specs.Numbers as spec;
 
@@ -13,6 +14,7 @@ use clif_words::Class;
 #[tactic(auto, unfolding(crate::specs::Numbers::number_at))]
 pub fn number(reader: &mut Reader<'_>) -> Result<RawNumber, Stop>
     ensures is { Gives same reader.new result (spec.number_at reader.old) }
+    ensures no_memory { IfErr result (λ e. e ≢ NoMemory) }
     ensures shorter { IfOk result (λ _. length reader.new < length reader.old) }
 {
     if reader.next_is(Class::Unsigned) {

@@ -2,13 +2,12 @@
 
 ghost use Rattle.std.specs.Prelude.{◌≡◌, ◌≢◌, ℕ, not, List, ◌∷◌, [], ◌<◌, ◌≤◌, length, drop, slice_get, false, IfOk, IfErr, IfSome};
 ghost use Rattle.grammar.specs.Rules.{Lexeme, heads, heads_any};
-ghost use Rattle.clif_lex.specs.Lexing.{tokens_of};
+ghost use Rattle.clif_lex.specs.Spelling.{AreIn};
 ghost use Rattle.clif_words.specs.Classes.{code};
 ghost use Rattle.clif_words.specs.Lexemes.{lexemes};
 ghost use Rattle.clif_words.specs.Lexemes as lexeme_specs;
 ghost use Rattle.clif_insts.specs.declared.stop.Stop.TheVariants.{NoMemory};
 ghost use Rattle.clif_insts.specs.Grammar.{excepted, words_but};
-ghost use Rattle.clif_insts.specs.Insts.{place_or};
 ghost use Rattle.clif_insts.specs.Names as names;
 ghost use Rattle.clif_insts.specs.Next.{is_among};
 ghost use Rattle.clif_insts.specs.Next as next;
@@ -37,16 +36,16 @@ pub struct Reader<'a> {
 }
 
 impl<'a> Model for Reader<'a> {
-    ghost use Rattle.std.specs.Prelude.{List, drop, ◌≡◌, ◌≤◌, length, Ok};
+    ghost use Rattle.std.specs.Prelude.{List, drop, ◌≤◌, length};
     ghost use Rattle.grammar.specs.Rules.{Lexeme};
-    ghost use Rattle.clif_lex.specs.Lexing.{tokens_of};
+    ghost use Rattle.clif_lex.specs.Spelling.{AreIn};
     ghost use Rattle.clif_words.specs.Lexemes.{lexemes, Upcoming};
 
     ghost Value = { List Lexeme };
 
-    ghost view = { λ r. lexemes r.text.now r.at (drop r.at r.tokens.now) };
+    ghost view = { λ r. lexemes r.text.now (drop r.at r.tokens.now) };
 
-    ghost invariant = { λ r. (tokens_of r.text.now ≡ Ok r.tokens.now) × (r.at ≤ length r.tokens.now) × Upcoming r.text.now (drop r.at r.tokens.now) r.next };
+    ghost invariant = { λ r. AreIn r.text.now r.tokens.now × (r.at ≤ length r.tokens.now) × Upcoming r.text.now (drop r.at r.tokens.now) r.next };
 }
 
 /// Whether a token is a comment.
@@ -93,7 +92,7 @@ fn settle(text: &[u8], tokens: &Tokens, from: usize, end: usize) -> usize
     requires within { from ≤ end }
     requires whole { end ≡ length tokens.now }
     ensures within { result ≤ length tokens.now }
-    ensures same { lexemes text.now result (drop result tokens.now) ≡ lexemes text.now from (drop from tokens.now) }
+    ensures same { lexemes text.now (drop result tokens.now) ≡ lexemes text.now (drop from tokens.now) }
     ensures no_comment { IfSome (slice_get tokens.now result) (λ token. lexeme_specs.is_comment token.kind ≡ false) }
 {
     let mut at = from;
@@ -109,7 +108,7 @@ fn settle(text: &[u8], tokens: &Tokens, from: usize, end: usize) -> usize
 /// What the next token is.
 #[inline]
 fn upcoming(text: &[u8], tokens: &Tokens, at: usize) -> Option<Meaning>
-    requires whole { tokens_of text.now ≡ Ok tokens.now }
+    requires inside { AreIn text.now tokens.now }
     requires no_comment { IfSome (slice_get tokens.now at) (λ token. lexeme_specs.is_comment token.kind ≡ false) }
     ensures { lexeme_specs.Upcoming text.now (drop at tokens.now) result }
 {
@@ -123,9 +122,9 @@ fn upcoming(text: &[u8], tokens: &Tokens, at: usize) -> Option<Meaning>
 impl<'a> Reader<'a> {
     /// The tokens of a text from a place of their list on.
     pub fn new(text: &'a [u8], tokens: &'a Tokens, from: usize) -> Self
-        requires whole { tokens_of text.now ≡ Ok tokens.now }
+        requires inside { AreIn text.now tokens.now }
         requires within { from ≤ length tokens.now }
-        ensures { result ≡ lexemes text.now from (drop from tokens.now) }
+        ensures { result ≡ lexemes text.now (drop from tokens.now) }
     {
         let at = settle(text, tokens, from, tokens.len());
         let next = upcoming(text, tokens, at);
@@ -147,17 +146,6 @@ impl<'a> Reader<'a> {
             tokens: self.tokens,
             at: self.at,
             next: self.next,
-        }
-    }
-
-    /// The next token's place in the list of tokens, or this end where there is none.
-    #[inline]
-    pub fn place_or(&self, end: usize) -> usize
-        ensures { result ≡ place_or end self.now }
-    {
-        match self.next {
-            Some(_) => self.at,
-            None => end,
         }
     }
 
@@ -302,6 +290,7 @@ impl<'a> Reader<'a> {
     #[inline]
     pub fn take(&mut self, class: Class) -> Result<RawName, Stop>
         ensures is { Gives same self.new result (spec.name_at class self.old) }
+        ensures no_memory { IfErr result (λ e. e ≢ NoMemory) }
         ensures shorter { IfOk result (λ _. length self.new < length self.old) }
     {
         if self.next_is(class) {
@@ -317,6 +306,7 @@ impl<'a> Reader<'a> {
     #[inline]
     pub fn take_number(&mut self, class: Class) -> Result<RawNumber, Stop>
         ensures is { Gives same self.new result (spec.amount_at class self.old) }
+        ensures no_memory { IfErr result (λ e. e ≢ NoMemory) }
         ensures shorter { IfOk result (λ _. length self.new < length self.old) }
     {
         if self.next_is(class) {

@@ -1,6 +1,7 @@
 //! Types and suffixes.
 
-ghost use Rattle.std.specs.Prelude.{◌≡◌, ◌<◌, ◌≤◌, length, IfOk};
+ghost use Rattle.std.specs.Prelude.{◌≡◌, ◌≢◌, ◌<◌, ◌≤◌, length, IfOk, IfErr};
+ghost use Rattle.clif_insts.specs.declared.stop.Stop.TheVariants.{NoMemory};
 ghost use Rattle.clif_insts.specs.Reading.{Gives, same};
 ghost use Rattle.clif_insts.specs.Types as spec;
 
@@ -26,6 +27,7 @@ fn type_of(number: u64) -> Ty
 #[tactic(auto, unfolding(crate::specs::Types::type_at))]
 pub fn any_type(reader: &mut Reader<'_>) -> Result<Ty, Stop>
     ensures is { Gives same reader.new result (spec.type_at reader.old) }
+    ensures no_memory { IfErr result (λ e. e ≢ NoMemory) }
     ensures shorter { IfOk result (λ _. length reader.new < length reader.old) }
 {
     if reader.next_is(Class::Ty) {

@@ -18,13 +18,13 @@ use Rattle.clif_read.specs.DeclarationValues.{param_value, decl_value}
 
 -- a word, a number and a name, by their spots
 abbrev word : Class → ℕ → ℕ → Lexeme
-word class n spot = record { class = code class; number = n; amount = pos 0; name = []; place = spot; spot = spot }
+word class n spot = record { class = code class; number = n; amount = pos 0; name = []; spot = spot }
 
 abbrev number : ℤ → ℕ → Lexeme
-number n spot = record { class = code classes.Unsigned; number = 0; amount = n; name = []; place = spot; spot = spot }
+number n spot = record { class = code classes.Unsigned; number = 0; amount = n; name = []; spot = spot }
 
 abbrev name : List ℕ → ℕ → Lexeme
-name bytes spot = record { class = code classes.Name; number = 0; amount = pos 0; name = bytes; place = spot; spot = spot }
+name bytes spot = record { class = code classes.Name; number = 0; amount = pos 0; name = bytes; spot = spot }
 
 -- what the whole text is by the rule, or why and before which tokens it stops
 abbrev told : {A : Type 0} (r : Rule) → (Value r → A) → List Lexeme → Result A (Kind × List Lexeme)

@@ -90,7 +90,7 @@ any_name : RawName
 any_name = record { number = 0; spot = 0 }
 
 any_lexeme : Lexeme
-any_lexeme = record { class = 0; number = 0; amount = pos 0; name = []; place = 0; spot = 0 }
+any_lexeme = record { class = 0; number = 0; amount = pos 0; name = []; spot = 0 }
 
 inst_line_given : (excepted : List Class) (l : Option ℕ) (ts : List RawTag) (rs : List RawName) → Given c (instruction return_values excepted) (instruction return_word excepted) values (inst_line own excepted l ts rs) (inst_line behind excepted l ts rs) values_value with_values
 inst_line_given excepted l ts rs = given_map (raw_lines.Inst l ts rs) with_values (λ x y. refl) (inst_given excepted)

@@ -14,7 +14,7 @@ use Rattle.clif_read.specs.ModuleGrammar.{lines}
 use Rattle.clif_read.specs.LineValues.{lines_value}
 
 abbrev word : Class → ℕ → ℕ → Lexeme
-word class n spot = record { class = code class; number = n; amount = pos 0; name = []; place = spot; spot = spot }
+word class n spot = record { class = code class; number = n; amount = pos 0; name = []; spot = spot }
 
 abbrev some_lines : List Lexeme → Result (List RawLine) (Kind × List Lexeme)
 some_lines ts = read_all lines ts >>= λ v. Ok (lines_value v)

@@ -68,19 +68,19 @@ mark c =
     else Other
 
 abbrev pub plain : Class → (number spot : ℕ) → Lexeme
-plain c n at = record { class = code c; number = n; amount = pos 0; name = []; place = at; spot = at }
+plain c n at = record { class = code c; number = n; amount = pos 0; name = []; spot = at }
 
 abbrev pub lexeme_as : TokenKind → List ℕ → (spot : ℕ) → Lexeme
 lexeme_as kind.Word w at = plain (word w).0 (word w).1 at
 lexeme_as (kind.Mark c) w at = plain (mark c) 0 at
-lexeme_as kind.Number w at = record { class = code Number; number = 0; amount = spelled_number w; name = []; place = at; spot = at }
-lexeme_as kind.Name w at = record { class = code Name; number = 0; amount = pos 0; name = drop 1 w; place = at; spot = at }
+lexeme_as kind.Number w at = record { class = code Number; number = 0; amount = spelled_number w; name = []; spot = at }
+lexeme_as kind.Name w at = record { class = code Name; number = 0; amount = pos 0; name = drop 1 w; spot = at }
 lexeme_as kind.Arrow w at = plain Arrow 0 at
 lexeme_as kind.Header w at = plain Other 0 at
 lexeme_as kind.Comment w at = plain Other 0 at
 lexeme_as kind.Srcloc w at = plain Other 0 at
 
--- A token of a text as the grammar sees it. Its place is that of its first byte, since no place in a list is asked for.
+-- a token of a text as the grammar sees it
 unfoldable pub lexeme_in : List ℕ → Token → Lexeme
 lexeme_in text t = lexeme_as t.kind (spelling text t) t.start
 

@@ -33,8 +33,8 @@ fn error_at(stop: Stop, spot: usize) -> TextErr
 /// `UnknownOpcode` at a word in the place of an opcode, `Unsupported` at a word of CLIF that is left out here, else `Syntax`.
 pub fn read_raw(alloc: Global, text: &[u8], tokens: &Tokens) -> Result<RawModule, TextErr>
     requires whole { tokens_of text.now ≡ Ok tokens.now }
-    ensures found { IfOk result (λ m. IsModule (lexemes text.now 0 tokens.now) m) }
-    ensures stop { IfErr result (λ e. Stopped (lexemes text.now 0 tokens.now) (length text.now) e) }
+    ensures found { IfOk result (λ m. IsModule (lexemes text.now tokens.now) m) }
+    ensures stop { IfErr result (λ e. Stopped (lexemes text.now tokens.now) (length text.now) e) }
 {
     let mut reader = Reader::new(text, tokens, 0);
     let read = whole_module(alloc, &mut reader);

@@ -1,5 +1,5 @@
 -- The tokens of a text as the grammar sees them. Comments are passed over.
-use Rattle.std.specs.Prelude.{ℕ, ◌+◌, ◌==◌, Bool, true, false, if◌then◌else◌, List, [], ◌∷◌, drop, ℤ, pos, Option, Some, None, ◌≡◌}
+use Rattle.std.specs.Prelude.{ℕ, ◌==◌, Bool, true, false, if◌then◌else◌, List, [], ◌∷◌, drop, ℤ, pos, Option, Some, None, ◌≡◌}
 use Rattle.grammar.specs.Rules.{Lexeme}
 use Rattle.clif_lex.specs.declared.spans.TokenKind.{TokenKind}
 use Rattle.clif_lex.specs.declared.spans.TokenKind.TheVariants as kinds
@@ -59,13 +59,12 @@ abbrev pub name_of : TokenKind → List ℕ → List ℕ
 name_of kinds.Name s = drop 1 s
 name_of kind s = []
 
-abbrev pub lexeme : List ℕ → ℕ → Token → Lexeme
-lexeme text place token = record {
+abbrev pub lexeme : List ℕ → Token → Lexeme
+lexeme text token = record {
   class = code (meaning text token).class;
   number = (meaning text token).number;
   amount = amount_of token.kind (spelling text token);
   name = name_of token.kind (spelling text token);
-  place = place;
   spot = token.start;
 }
 
@@ -73,10 +72,10 @@ abbrev pub is_comment : TokenKind → Bool
 is_comment kinds.Comment = true
 is_comment kind = false
 
--- the tokens from this place of the list on
-unfoldable pub lexemes : List ℕ → ℕ → List Token → List Lexeme
-lexemes text place [] = []
-lexemes text place (t ∷ ts) = if is_comment t.kind then lexemes text (place + 1) ts else lexeme text place t ∷ lexemes text (place + 1) ts
+-- these tokens of the text
+unfoldable pub lexemes : List ℕ → List Token → List Lexeme
+lexemes text [] = []
+lexemes text (t ∷ ts) = if is_comment t.kind then lexemes text ts else lexeme text t ∷ lexemes text ts
 
 -- The tokens from here on begin with one that is no comment and has this meaning, or there are none.
 abbrev pub Upcoming : List ℕ → List Token → Option Meaning → Type 0

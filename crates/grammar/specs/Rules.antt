@@ -8,14 +8,13 @@ use Rattle.std.specs.List.{list_all, list_any}
 abbrev pub Class : Type 0
 Class = ℕ
 
--- A token as a grammar sees it: its class, its place in the list of tokens and that of its first byte in the text.
+-- A token as a grammar sees it: its class, and the place of its first byte in the text.
 -- `number` says which of the words of its class it is (as 7 in `v7`), `amount` what a number spells, and `name` what a name spells.
 pub record Lexeme : Type 0 where
   pub class : Class
   pub number : ℕ
   pub amount : ℤ
   pub name : List ℕ
-  pub place : ℕ
   pub spot : ℕ
 
 -- Why a token does not fit: it is out of place, or a word that its place refuses.

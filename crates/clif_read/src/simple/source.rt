@@ -1,6 +1,6 @@
 //! A text with its tokens, read from the left.
-ghost use Rattle.std.specs.Prelude.{◌≡◌, Ok};
-ghost use Rattle.clif_lex.specs.Lexing.{tokens_of};
+ghost use Rattle.std.specs.Prelude.{◌≡◌};
+ghost use Rattle.clif_lex.specs.Spelling.{AreIn};
 
 use crate::simple::lexemes::{Class, behind_first, mark, word};
 use clif_lex::{TokenKind, Tokens};
@@ -10,7 +10,7 @@ use clif_lex::{TokenKind, Tokens};
 pub struct Source<'a> {
     pub text: &'a [u8],
     pub tokens: &'a Tokens,
-    pub ghost whole: { tokens_of text.now ≡ Ok tokens.now },
+    pub ghost inside: { AreIn text.now tokens.now },
 }
 
 impl<'a> Source<'a> {

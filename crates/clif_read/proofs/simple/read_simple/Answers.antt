@@ -1,6 +1,10 @@
+use Rattle.clif_lex.proofs.Pieces.{tokens_are_in}
 use Rattle.clif_read.specs.SimpleWords.{rest}
 use Rattle.clif_read.proofs.SimpleWhole.{found, is_only, not_simple}
 use Rattle.clif_read.proofs.simple.read_simple.Goals as goal
+
+pub invariant_of-source : goal.invariant_of-source
+invariant_of-source c = record { inside = tokens_are_in c.args.text.now c.args.tokens.now c.requires.whole }
 
 pub returns-clause-found : goal.returns-clause-found
 unfolding rest

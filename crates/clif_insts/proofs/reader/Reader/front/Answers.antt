@@ -11,7 +11,7 @@ returns c = λ x xs e.
     let i = c.self.inside in
     elim c.match-self.branch [
       | in-Some w ↦ (
-          let f = front_is i.text.now i.at (drop i.at i.tokens.now) w.in-Some.next x xs (rw (w.in-Some.is) at c.self.invariant.2) (c.self.view_is ∙ e) c.get.result _ (drop_some i.tokens.now i.at c.get.result c.get.ensures) in
+          let f = front_is i.text.now (drop i.at i.tokens.now) w.in-Some.next x xs (rw (w.in-Some.is) at c.self.invariant.2) (c.self.view_is ∙ e) c.get.result _ (drop_some i.tokens.now i.at c.get.result c.get.ensures) in
           rw (w.number-is, f.0, f.1) refl)
       | in-None w ↦ absurd (upcoming_there i.text.now i.tokens.now i.at c.get.result c.get.ensures (rw (w.in-None.is) at c.self.invariant.2))
     ]

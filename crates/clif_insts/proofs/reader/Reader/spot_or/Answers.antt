@@ -17,4 +17,4 @@ pub returns-in-None : goal.returns-in-None
 returns-in-None c =
     let i = c.self.inside in
     let up = c.self.invariant.2 in
-    rw (← c.self.view_is) (spot_none i.text.now i.at _ c.args.«end» (rw (c.in-None.is) at up))
+    rw (← c.self.view_is) (spot_none i.text.now _ c.args.«end» (rw (c.in-None.is) at up))

@@ -53,6 +53,7 @@ pub fn read_simple_text<R: Threads + Sync>(
     workers: usize,
 ) -> Result<Module, SimpleErr>
     ensures found { IfOk result (Reads text.now) }
+    ensures only { IfOk result (λ m. (n : ir.Module) → Reads text.now n → n ≡ m) }
     ensures reads_back { IfOk result ReadsBack }
     ensures not_simple { IfErr result (λ e. e ≡ NotSimple → (m : ir.Module) → Reads text.now m → ⊥) }
 {

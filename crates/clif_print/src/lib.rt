@@ -16,6 +16,8 @@ mod plain_outputs;
 mod signatures;
 mod sink_output;
 mod suffixes;
+#[cfg(test)]
+mod tests;
 mod text;
 mod waiting;
 mod words;

@@ -10,6 +10,7 @@ pub mod laws;
 mod lines;
 mod modules;
 mod raw;
+mod room;
 mod signatures;
 mod simple;
 mod tags;

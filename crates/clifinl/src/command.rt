@@ -9,10 +9,11 @@ ghost use Rattle.clifinl.specs.Output.{ReadsNone, ReadsAndWrites, ReadsAndWrites
 use crate::status::{Refusal, Status};
 use crate::words::asks_inline;
 use clif_lex::{Place, TextKind};
-use clif_print::{numbering, print};
+use clif_print::{PrintErr, print_with};
 use clif_read::{SimpleErr, read_simple_text};
 use clk_flow::{Gate, ReadErr, Sink, Source, read_whole};
 use std::alloc::Global;
+use std::mem::forget;
 use std::sync::Wait;
 use std::thread::Threads;
 
@@ -76,11 +77,12 @@ pub fn command<R: Threads + Wait + Sync, I: Source, O: Sink, E: Sink, G: Gate>(
         }
         Err(SimpleErr::NoMemory) => return Status::NoMemory,
     };
-    let Ok(numbers) = numbering(alloc, &module) else {
-        return Status::NoMemory;
-    };
-    match print(&module, &numbers, out) {
+    let printed = print_with(rt, alloc, &module, WORKERS, out);
+    // The program ends here: its memory goes with it, and not part by part before.
+    forget(module);
+    match printed {
         Ok(()) => Status::Done,
-        Err(_) => Status::WriteFault,
+        Err(PrintErr::Failed) => Status::WriteFault,
+        Err(PrintErr::NoMemory) => Status::NoMemory,
     }
 }

@@ -10,6 +10,7 @@ ghost use Rattle.clif_read.specs.SimpleModule as spec;
 ghost use Rattle.clif_read.specs.SimplePieces.{MeansEach, ReadsPiece, functions_in};
 ghost use Rattle.clif_read.specs.SimpleReading.{after, one_block};
 
+use crate::room::make_room;
 use crate::simple::MOST_FUNCTIONS;
 use crate::simple::building::build;
 use crate::simple::errors::SimpleErr;
@@ -103,6 +104,7 @@ fn read_range(
     let mut at = from;
     'pieces: while at < end {
         let next = piece_end(text, at, end, size);
+        make_room(alloc);
         append_piece(alloc, text, at, next, &mut funcs)?;
         at = next;
     }

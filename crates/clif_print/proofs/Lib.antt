@@ -1,6 +1,7 @@
 pub mod Blocks
 pub mod Digits
 pub mod Left
+pub mod PartsLemmas
 pub mod PlacesLemmas
 pub mod Puts
 pub mod Ranges

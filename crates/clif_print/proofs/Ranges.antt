@@ -1,9 +1,8 @@
 -- Definitions of a sound function are in range, and not too many.
-use Rattle.std.proofs.Common.{◌≡◌, ℕ, zero, suc, ◌+◌, ◌-◌, ◌<◌, ◌≤◌, ◌^◌, List, [], ◌∷◌, ◌++◌, Bool, true, false, nat_eq, cond, length, map, refl, sym, ap, ◌∙◌, inl, inr, arith, eq-eqb}
-use Rattle.std.specs.Prelude.{◌⊎◌}
+use Rattle.std.proofs.Common.{◌≡◌, ℕ, zero, suc, ◌<◌, ◌≤◌, ◌^◌, List, [], ◌∷◌, ◌++◌, Bool, true, false, nat_eq, cond, length, refl, sym, ◌∙◌, inl, inr, arith, eq-eqb}
 use Rattle.std.proofs.lemmas.Bool.{eqb-true}
 use Rattle.ir_core.specs.Lists.{In, Different, Below, Each}
-use Rattle.ir_core.specs.Lookup.{definitions, line_definitions, block_numbers}
+use Rattle.ir_core.specs.Lookup.{definitions, line_definitions}
 use Rattle.ir_core.specs.Module.{Block, Line, Function}
 use Rattle.ir_core.specs.Sound.{Counts, counts_of, LineInRange, BlockInRange, IsSound}
 

@@ -1,4 +1,5 @@
 pub mod Examples
 pub mod Output
+pub mod Parts
 pub mod Placed
 pub mod Walk

@@ -79,7 +79,7 @@ pub fn numbering(alloc: Global, module: &Module) -> Result<Numbers, AllocError>
 }
 
 /// The canonical numbers of a whole function.
-fn func_numbers(alloc: Global, func: &Func) -> Result<FuncNumbers, AllocError>
+pub(crate) fn func_numbers(alloc: Global, func: &Func) -> Result<FuncNumbers, AllocError>
     requires { IsWhole func.now.function }
     ensures { IfOk result (λ numbers. numbers ≡ numbering_of func.now.function) }
 {

@@ -1,4 +1,4 @@
-use Rattle.std.proofs.Common.{◌≡◌, ◌+◌, ◌∷◌, suc, ℕ, List, drop, ap, sym, ◌∙◌, drop-cons, add-one}
+use Rattle.std.proofs.Common.{◌∷◌, suc, ℕ, List, drop, ap, sym, ◌∙◌, drop-cons, add-one}
 use Rattle.ir_core.specs.Pieces.{spelled}
 use Rattle.ir_core.specs.Text.{declarations}
 use Rattle.clif_print.proofs.Puts.{goes}

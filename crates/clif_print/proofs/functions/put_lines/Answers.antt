@@ -1,4 +1,4 @@
-use Rattle.std.proofs.Common.{◌≡◌, ◌+◌, ◌∷◌, ◌++◌, List, length, map, ap, arith, length-append}
+use Rattle.std.proofs.Common.{◌≡◌, ◌∷◌, List, length, map, ap, arith, length-append}
 use Rattle.ir_core.specs.Lookup.{line_definitions}
 use Rattle.ir_core.specs.Module.{Line}
 use Rattle.ir_core.specs.Pieces.{spelled}

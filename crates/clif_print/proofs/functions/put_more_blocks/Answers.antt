@@ -1,4 +1,4 @@
-use Rattle.std.proofs.Common.{◌≡◌, ◌+◌, ◌∷◌, ◌++◌, List, ℕ, length, ap, refl, arith, rules, length-append}
+use Rattle.std.proofs.Common.{◌≡◌, ◌++◌, List, ℕ, length, ap, refl, arith, rules, length-append}
 use Rattle.ir_core.specs.Edits.{params_of, lines_of}
 use Rattle.ir_core.specs.Lookup.{definitions, line_definitions}
 use Rattle.ir_core.specs.Pieces.{spelled}

@@ -1,5 +1,5 @@
-use Rattle.std.proofs.Common.{◌≡◌, ◌∷◌, ◌++◌, ap, ◌∙◌, rules}
-use Rattle.ir_core.specs.Lookup.{block_numbers, line_definitions}
+use Rattle.std.proofs.Common.{◌≡◌, rules}
+use Rattle.ir_core.specs.Lookup.{block_numbers}
 use Rattle.clif_print.proofs.Blocks.{begun, first_in, rest_in, listed}
 use Rattle.clif_print.proofs.numbers.definitions.Goals as goal
 

@@ -1,4 +1,4 @@
-use Rattle.std.proofs.Common.{◌≡◌, [], ◌∙◌, arith}
+use Rattle.std.proofs.Common.{[], ◌∙◌, arith}
 use Rattle.clif_print.proofs.Results.{no_sink}
 use Rattle.clif_print.proofs.text.text_len.Goals as goal
 

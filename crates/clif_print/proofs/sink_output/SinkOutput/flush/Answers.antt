@@ -1,4 +1,4 @@
-use Rattle.std.proofs.Common.{[], refl, sym, ◌∙◌}
+use Rattle.std.proofs.Common.{[], sym, ◌∙◌}
 use Rattle.std.proofs.lemmas.List.{append-nil}
 use Rattle.clif_print.proofs.Sinks.{given, dropped}
 use Rattle.clif_print.proofs.sink_output.SinkOutput.flush.Goals as goal

@@ -1,5 +1,5 @@
 -- The tokens that start before a spot, counted from a place of the list on.
-use Rattle.std.proofs.Common.{◌≡◌, ℕ, ◌+◌, ◌<◌, ◌≤◌, true, false, List, length, Some, slice_get, arith}
+use Rattle.std.proofs.Common.{◌≡◌, ℕ, ◌+◌, ◌<◌, ◌≤◌, List, length, Some, slice_get, arith}
 use Rattle.std.proofs.lemmas.Bool.{lt-ltb, le-ltb}
 use Rattle.clif_lex.specs.declared.spans.Token.{Token}
 use Rattle.clif_insts.specs.Insts.{place_of}

@@ -1,4 +1,4 @@
-use Rattle.std.proofs.Common.{drop, length, ap, ◌∙◌}
+use Rattle.std.proofs.Common.{drop, ap, ◌∙◌}
 use Rattle.clif_lex.proofs.Pieces.{tokens_are_in}
 use Rattle.clif_words.specs.Lexemes.{lexemes}
 use Rattle.clif_insts.specs.Insts.{place_of, place_left}

@@ -1,5 +1,5 @@
 -- Pieces of a simple text join, and the piece that is the whole text is a simple text, where names differ.
-use Rattle.std.proofs.Common.{◌≡◌, ℕ, ◌+◌, ◌<◌, ◌≤◌, ◌==◌, Bool, true, false, not, ◌&&◌, ◌||◌, cond, List, [], ◌∷◌, ◌++◌, map, length, Option, Some, None, Result, Ok, Err, refl, sym, ap, ap₂, subst, ◌∙◌, arith, inl, inr, append_assoc, length-append}
+use Rattle.std.proofs.Common.{◌≡◌, ℕ, ◌<◌, ◌≤◌, ◌==◌, Bool, true, false, ◌&&◌, cond, List, [], ◌∷◌, ◌++◌, map, length, Option, Some, None, Result, Ok, Err, refl, sym, ap, ap₂, subst, ◌∙◌, arith, inl, inr, append_assoc, length-append}
 use Rattle.std.specs.List.{list_all, list_any}
 use Rattle.std.specs.Prelude.{is_some, IfOk, MatchOption, OnOk}
 use Rattle.std.proofs.lemmas.Bool.{and_from, and_parts, cases_Bool}
@@ -71,14 +71,14 @@ no_piece text at within = record { tokens = []; piece = empty_piece text false a
 
 -- ---- functions that were read
 
-abbrev Some_pair : Type 0
-Some_pair = List OneBlock × List Lexeme
+abbrev Taken : Type 0
+Taken = List OneBlock × List Lexeme
 
-abbrev some_pair : Some_pair → Option Some_pair
-some_pair p = Some p
+abbrev some_taken : Taken → Option Taken
+some_taken p = Some p
 
-same_pair : (p q : Some_pair) → some_pair p ≡ some_pair q → p ≡ q
-same_pair p q e = cc
+same_taken : (p q : Taken) → some_taken p ≡ some_taken q → p ≡ q
+same_taken p q e = cc
 
 -- what was read by the next token is what the grammar reads
 pub means_each : (ts : List Lexeme) (fs : List OneBlock) → with_front [] (read_all ts) ≡ Some (fs, []) → list_all function_fits fs ≡ true → MeansEach ts (map meaning fs)
@@ -88,9 +88,9 @@ means_each ts fs h fit = go (rules.read module_rule ts) refl (sym (functions_is 
     go (Ok (tree, [])) e h =
         let s = sound module_rule ts (tree, []) e in
         let all : ts ≡ s.0 = s.1 ∙ append-nil s.0 in
-        let is : functions tree ≡ fs = ap (λ (p : Some_pair). p.0) (same_pair (functions tree, []) (fs, []) h) in
+        let is : functions tree ≡ fs = ap (λ (p : Taken). p.0) (same_taken (functions tree, []) (fs, []) h) in
         record { tree = tree; derived = subst (λ (l : List Lexeme). Derives module_rule l tree) (sym all) s.2; fit = rw is fit; same = rw is refl }
-    go (Ok (tree, x ∷ xs)) e h = absurd (let k = ap (λ (p : Some_pair). p.1) (same_pair (functions tree, x ∷ xs) (fs, []) h) in cc)
+    go (Ok (tree, x ∷ xs)) e h = absurd (let k = ap (λ (p : Taken). p.1) (same_taken (functions tree, x ∷ xs) (fs, []) h) in cc)
     go (Err e) was h = absurd cc
 
 pub nothing_left : (o : Option ℕ) (ts : List Lexeme) (t : ℕ → Lexeme) (r : ℕ → List Lexeme) → MatchOption o (ts ≡ []) (λ x. ts ≡ t x ∷ r x) → is_some o ≡ false → ts ≡ []

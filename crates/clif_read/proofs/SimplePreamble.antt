@@ -1,5 +1,5 @@
 -- Where a function stands in front, no Header does: the tokens are the same whether one might stand there or not.
-use Rattle.std.proofs.Common.{◌≡◌, ℕ, zero, suc, ◌+◌, ◌-◌, Bool, true, false, not, ◌&&◌, ◌||◌, cond, nat_lt, List, [], ◌∷◌, length, take, drop, Result, Ok, Err, refl, sym, ap, subst, ◌∙◌, arith, inl, inr}
+use Rattle.std.proofs.Common.{◌≡◌, ℕ, ◌+◌, ◌-◌, Bool, true, false, not, ◌&&◌, ◌||◌, cond, nat_lt, List, [], ◌∷◌, length, take, drop, Result, Ok, Err, refl, sym, ap, subst, ◌∙◌, arith, inl, inr}
 use Rattle.std.specs.Prelude.{◌⊎◌, codes}
 use Rattle.std.specs.List.{prefix_len}
 use Rattle.std.specs.Str.{bytes_eq}
@@ -15,11 +15,11 @@ use Rattle.clif_lex.specs.Bytes.{is_blank, is_letter, is_word_byte, first}
 use Rattle.clif_lex.specs.Lexing.{◌>>=◌, is_header_word, is_preamble, token, token_at, tokens_from, tokens_of, word_at}
 use Rattle.clif_lex.specs.Pieces.{IsPiece}
 use Rattle.clif_lex.specs.Spans.{spelling}
-use Rattle.grammar.specs.Rules.{Lexeme, Value, Derives, firsts, heads}
+use Rattle.grammar.specs.Rules.{Lexeme, Value, Derives}
 use Rattle.grammar.proofs.Laws.{front}
 use Rattle.clif_read.specs.SimpleClasses.{code}
 use Rattle.clif_read.specs.SimpleGrammar.{module_rule}
-use Rattle.clif_read.specs.SimpleWords.{word, mark, lexeme_in, lexeme_as, lexemes, is_comment}
+use Rattle.clif_read.specs.SimpleWords.{word, lexeme_in, lexeme_as, lexemes, is_comment}
 
 -- ---- what stands in front
 

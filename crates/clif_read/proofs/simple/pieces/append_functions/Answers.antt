@@ -1,11 +1,9 @@
-use Rattle.std.proofs.Common.{◌≡◌, ◌+◌, Bool, ◌&&◌, true, List, ◌∷◌, [], ◌++◌, map, sym, ap, ap₂, ◌∙◌, append_assoc, Option, Some}
+use Rattle.std.proofs.Common.{◌≡◌, ◌+◌, Bool, ◌&&◌, true, ◌∷◌, [], ◌++◌, map, sym, ap, ap₂, ◌∙◌, append_assoc}
 use Rattle.std.proofs.lemmas.List.{map-append}
 use Rattle.std.proofs.lemmas.List.Folds.{list_all-append}
-use Rattle.grammar.specs.Rules.{Lexeme}
 use Rattle.ir_core.specs.Module.{Function, Module}
 use Rattle.ir_core.specs.Named.{function_in}
 use Rattle.clif_read.specs.declared.simple.lexemes.Class.TheVariants as class
-use Rattle.clif_read.specs.SimpleGrammar.{OneBlock}
 use Rattle.clif_read.specs.SimpleModule.{function_fits, meaning}
 use Rattle.clif_read.specs.SimplePieces.{functions_in}
 use Rattle.clif_read.specs.SimpleReading.{after, token_at, only, with_front, function_at, one_block}

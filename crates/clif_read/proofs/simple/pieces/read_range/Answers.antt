@@ -1,4 +1,4 @@
-use Rattle.std.proofs.Common.{sym, subst, arith}
+use Rattle.std.proofs.Common.{sym, subst}
 use Rattle.ir_core.specs.Module.{Module}
 use Rattle.clif_read.specs.SimplePieces.{ReadsPiece, functions_in}
 use Rattle.clif_read.proofs.SimplePieces.{no_piece, piece_join}

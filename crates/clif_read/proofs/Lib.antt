@@ -36,6 +36,7 @@ pub mod LineLaws
 pub mod LineLoop
 pub mod ModuleLaws
 pub mod Whole
+pub mod PieceLaws
 pub mod Alike
 pub mod Given
 pub mod LetterInsts

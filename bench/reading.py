@@ -5,7 +5,8 @@
 
 The program reads standard input and stops behind the bytes, the tokens or the raw module. A step's time is the least of
 five runs, less that of reading the bytes alone, and is the processor's time (user and system), since a machine is seldom
-idle; that of the raw module includes its tokens. Memory is the most that a run held, a byte of text.
+idle; that of the raw module includes its tokens. The step `text` is the raw module read in pieces by four workers: its
+time is the clock's, as is that of the bytes then. Memory is the most that a run held, a byte of text.
 
 First a text of about 60 MB whose bodies have all forms. Then texts of one shape each, once and half as large: twice the
 text should take at most 2.2 times the time."""
@@ -14,6 +15,7 @@ import random
 import subprocess
 import sys
 import tempfile
+import time
 
 TURNS = 5
 
@@ -112,19 +114,21 @@ SHAPES = {
 
 
 def run(words, path):
-    """The processor's seconds, and the peak memory in bytes, of one run over the file."""
+    """The processor's seconds, the clock's, and the peak memory in bytes, of one run over the file."""
     with open(path, 'rb') as text, open(os.devnull, 'wb') as out:
+        begin = time.monotonic()
         process = subprocess.Popen(words, stdin=text, stdout=out)
         _, status, usage = os.wait4(process.pid, 0)
+        clock = time.monotonic() - begin
     if status != 0:
         sys.exit('%s ended with %d' % (' '.join(words), os.waitstatus_to_exitcode(status)))
-    return usage.ru_utime + usage.ru_stime, usage.ru_maxrss * 1024
+    return usage.ru_utime + usage.ru_stime, clock, usage.ru_maxrss * 1024
 
 
 def least(program, texts):
-    """For each text the least time and the memory of each step, and of `wc -w`. The texts take turns, so that what
+    """For each text the least times and the memory of each step, and of `wc -w`. The texts take turns, so that what
     disturbs the machine for a while disturbs them alike."""
-    steps = {'bytes': [program, 'bytes'], 'tokens': [program, 'tokens'], 'raw': [program, 'raw'], 'wc': ['wc', '-w']}
+    steps = {step: [program, step] for step in ('bytes', 'tokens', 'raw', 'text')} | {'wc': ['wc', '-w']}
     found = [{step: [] for step in steps} for _ in texts]
     with tempfile.TemporaryDirectory() as folder:
         paths = [os.path.join(folder, str(number)) for number in range(len(texts))]
@@ -135,12 +139,13 @@ def least(program, texts):
             for path, runs in zip(paths, found):
                 for step, words in steps.items():
                     runs[step].append(run(words, path))
-    return [{step: (min(seconds for seconds, _ in it), max(memory for _, memory in it)) for step, it in runs.items()} for runs in found]
+    return [{step: (min(it)[0], min(clock for _, clock, _ in it), max(memory for _, _, memory in it)) for step, it in runs.items()} for runs in found]
 
 
 def net(found, step):
-    """A step's seconds, less those of reading the bytes."""
-    return max(found[step][0] - found['bytes'][0], 1e-3)
+    """A step's seconds, less those of reading the bytes: the processor's, or the clock's where several workers read."""
+    watch = 1 if step == 'text' else 0
+    return max(found[step][watch] - found['bytes'][watch], 1e-3)
 
 
 def main():
@@ -150,16 +155,16 @@ def main():
     [found] = least(program, [text])
     length = len(text)
     print('%.1f MB with all forms' % (length / 1e6))
-    for step in ('tokens', 'raw'):
+    for step in ('tokens', 'raw', 'text'):
         seconds = net(found, step)
-        print('  %-7s %.3f s, %4.0f MB/s, %.1f bytes a byte of text' % (step, seconds, length / 1e6 / seconds, found[step][1] / length))
+        print('  %-7s %.3f s, %4.0f MB/s, %.1f bytes a byte of text' % (step, seconds, length / 1e6 / seconds, found[step][2] / length))
     print('  wc -w   %.3f s, %4.0f MB/s' % (found['wc'][0], length / 1e6 / found['wc'][0]))
     for name, (count, make) in SHAPES.items():
         half = make(count // 2)
         full = make(count)
         first, second = least(program, [half, full])
         print('%d %s (%.1f MB):' % (count, name, len(full) / 1e6), end=' ')
-        print(', '.join('%s %.3f s, %.2f times the half' % (step, net(second, step), net(second, step) / net(first, step)) for step in ('tokens', 'raw')))
+        print(', '.join('%s %.3f s, %.2f times the half' % (step, net(second, step), net(second, step) / net(first, step)) for step in ('tokens', 'raw', 'text')))
 
 
 if __name__ == '__main__':

@@ -39,6 +39,7 @@ pub mod LineLaws
 pub mod LineLoop
 pub mod ModuleLaws
 pub mod Whole
+pub mod PieceLaws
 pub mod Alike
 pub mod Given
 pub mod LetterInsts

@@ -76,7 +76,7 @@ function_is =
     (λ bs ts. name_at classes.RightBrace ts >>= λ right. Ok (raw_function word.spot called sig ds bs, right.1))
     (λ bs. map_is (name_is classes.RightBrace) (λ right. raw_function word.spot called sig ds bs))))))))
 
-functions_is : Is (Many function) (map function_value) functions_at
+pub functions_is : Is (Many function) (map function_value) functions_at
 unfolding functions_at
 functions_is = map_is (many_is function_is) (λ vs. [] ++ vs)
 

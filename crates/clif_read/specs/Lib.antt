@@ -20,6 +20,7 @@ pub mod Tags
 pub mod Lines
 pub mod Modules
 pub mod Texts
+pub mod Pieces
 pub mod Alike
 pub mod LetterLines
 pub mod LetterModule

@@ -9,6 +9,9 @@ mod heads;
 pub mod laws;
 mod lines;
 mod modules;
+#[cfg(test)]
+mod piece_tests;
+mod pieces;
 mod raw;
 mod room;
 mod signatures;
@@ -18,6 +21,7 @@ mod tags;
 mod tests;
 mod texts;
 
+pub use pieces::read_text;
 pub use raw::{
     RawAttribute, RawBlock, RawBlockParam, RawCalleeSig, RawDecl, RawFuncName, RawFunction,
     RawLine, RawModule, RawParam, RawSignature, RawTag,

@@ -101,7 +101,7 @@ fn function(alloc: Global, reader: &mut Reader<'_>) -> Result<RawFunction, Stop>
 }
 
 /// The functions of a module.
-fn functions(alloc: Global, reader: &mut Reader<'_>) -> Result<Vec<RawFunction>, Stop>
+pub(crate) fn functions(alloc: Global, reader: &mut Reader<'_>) -> Result<Vec<RawFunction>, Stop>
     ensures is { Gives (λ x. x.items) reader.new result (spec.functions_at reader.old) }
     ensures shorter { IfOk result (λ _. length reader.new ≤ length reader.old) }
 {

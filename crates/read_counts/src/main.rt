@@ -1,15 +1,19 @@
 //! Reads a text from standard input as far as the one word of the command line says, `bytes`, `tokens` or `raw`, and
-//! writes how much it found. bench/reading.py measures it.
+//! writes how much it found. With the word `text` several workers read the raw module in pieces. bench/reading.py
+//! measures it.
 #![tactic(auto)]
 
 use clif_lex::tokens;
-use clif_read::{RawModule, read_raw};
+use clif_read::{RawModule, read_raw, read_text};
 use clk_flow::{StdSource, read_whole};
 use std::env;
 use std::process::ExitCode;
 
 /// The most bytes that are read.
 const LIMIT: usize = 134_217_728;
+
+/// How many workers read a text in pieces.
+const WORKERS: usize = 4;
 
 /// The functions of a module, and the lines of their blocks.
 fn counts(found: &RawModule) -> (usize, usize) {
@@ -37,6 +41,16 @@ fn main(rt: HostRuntime) -> ExitCode {
     };
     if word.as_str() == "bytes" {
         return match println!(rt; "{} bytes", bytes.len()) {
+            Ok(()) => ExitCode::SUCCESS,
+            Err(_) => ExitCode::FAILURE,
+        };
+    }
+    if word.as_str() == "text" {
+        let Ok(found) = read_text(&rt, rt.alloc(), bytes.as_slice(), WORKERS) else {
+            return ExitCode::FAILURE;
+        };
+        let (functions, lines) = counts(&found);
+        return match println!(rt; "{functions} functions, {lines} lines") {
             Ok(()) => ExitCode::SUCCESS,
             Err(_) => ExitCode::FAILURE,
         };

@@ -20,11 +20,14 @@ mod SimpleDigits
 mod SimpleDrafts
 mod SimpleLoops
 mod SimpleNames
+mod SimplePieces
+mod SimplePreamble
 mod SimplePush
 mod SimpleRest
 mod SimpleRight
 mod SimpleRules
 mod SimpleSeen
+mod SimpleText
 mod SimpleWhole
 pub mod AttributeLaws
 pub mod SignatureLaws

@@ -5,6 +5,7 @@ pub mod SimpleDrafts
 pub mod SimpleGrammar
 pub mod SimpleModule
 pub mod SimpleNumbers
+pub mod SimplePieces
 pub mod SimpleReading
 pub mod SimpleWords
 pub mod ModuleGrammar

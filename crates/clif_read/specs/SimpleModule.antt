@@ -1,11 +1,12 @@
 -- Which texts of the grammar are simple texts, and the module that each means. Values are numbered from 0 in order of
 -- definition, the block's parameters first; the block has the number 0.
-use Rattle.std.specs.Prelude.{◌≡◌, ℕ, ◌+◌, Bool, true, not, ◌&&◌, ◌==◌, nat_eq, nat_le, List, [], ◌∷◌, ◌++◌, map, length, replicate, position, unwrap_or, is_some, Option, Some, None}
+use Rattle.std.specs.Prelude.{◌≡◌, ℕ, ◌+◌, Bool, true, not, ◌&&◌, ◌==◌, nat_eq, nat_le, List, [], ◌∷◌, ◌++◌, map, length, replicate, position, unwrap_or, is_some, Option, Some, None, Ok}
 use Rattle.std.specs.List.{list_all, list_any, enumerate_from}
 use Rattle.clk_num.specs.Numbers.{fits, wrapped}
 use Rattle.clk_num.specs.declared.op.Op.TheVariants as op
 use Rattle.clk_num.specs.declared.width.Width.TheVariants.{W64}
 use Rattle.clif_lex.specs.declared.spans.Token.{Token}
+use Rattle.clif_lex.specs.Lexing.{tokens_of}
 use Rattle.ir_core.specs.declared.names.FuncName.{FuncName}
 use Rattle.ir_core.specs.declared.names.FuncName.TheVariants.{Text}
 use Rattle.ir_core.specs.declared.signatures.Ty.{Ty}
@@ -153,3 +154,9 @@ pub record Means (text : List ℕ) (tokens : List Token) (m : Module) : Type 0 w
   pub derived : Derives module_rule (lexemes text tokens) tree
   pub fits : functions_fit [] (functions tree) ≡ true
   pub same : m ≡ map meaning (functions tree)
+
+-- the bytes are a simple text that means this module
+pub record Reads (bytes : List ℕ) (m : Module) : Type 0 where
+  pub tokens : List Token
+  pub lexed : tokens_of bytes ≡ Ok tokens
+  pub means : Means bytes tokens m

@@ -25,5 +25,5 @@ pub use raw::{
     RawAttribute, RawBlock, RawBlockParam, RawCalleeSig, RawDecl, RawFuncName, RawFunction,
     RawLine, RawModule, RawParam, RawSignature, RawTag,
 };
-pub use simple::{SimpleErr, read_simple};
+pub use simple::{SimpleErr, read_simple, read_simple_text};
 pub use texts::read_raw;

@@ -11,8 +11,12 @@ mod building;
 mod errors;
 mod lexemes;
 mod numbers;
+mod pieces;
 mod rules;
 mod source;
+#[cfg(test)]
+mod tests;
+mod texts;
 mod written;
 
 use building::build;
@@ -23,10 +27,11 @@ use lexemes::Class;
 use rules::{function, next_is};
 use source::Source;
 use std::alloc::Global;
+pub use texts::read_simple_text;
 use written::Written;
 
 /// How many functions a module may have.
-const MOST_FUNCTIONS: usize = 65536;
+pub(crate) const MOST_FUNCTIONS: usize = 65536;
 
 /// Adds to a module the function that is written, if it may follow those that are there.
 fn add_function(alloc: Global, to: &mut Module, written: &Written) -> Result<(), SimpleErr>

@@ -1,12 +1,10 @@
 -- What a run of `inline` reads and writes. A simple text has no call, so that the pass leaves its module as it is.
-use Rattle.std.specs.Prelude.{◌≡◌, ℕ, ◌+◌, ◌≤◌, List, length, Option, Ok}
+use Rattle.std.specs.Prelude.{◌≡◌, ℕ, ◌+◌, ◌≤◌, List, length, Option}
 use Rattle.std.specs.Io.KnownBytes.{Appends, Consumes, IsAtEnd}
 use Rattle.clk_flow.specs.Whole.{AppendsPrefix}
-use Rattle.clif_lex.specs.declared.spans.Token.{Token}
-use Rattle.clif_lex.specs.Lexing.{tokens_of}
 use Rattle.clif_lex.specs.declared.faults.TextKind.TheVariants.{Syntax}
 use Rattle.clif_read.specs.SimpleBack.{ReadsBack}
-use Rattle.clif_read.specs.SimpleModule.{Means}
+use Rattle.clif_read.specs.SimpleModule.{Reads}
 use Rattle.ir_core.specs.Module.{Module}
 use Rattle.ir_core.specs.Text.{text_of}
 use Rattle.clifinl.specs.declared.status.Status.{Status}
@@ -16,12 +14,6 @@ use Rattle.clifinl.specs.declared.status.Refusal.TheVariants as refusal
 -- a text has at most so many bytes
 abbrev pub most_bytes : ℕ
 most_bytes = 67108864
-
--- the bytes are a simple text that means this module
-pub record Reads (bytes : List ℕ) (m : Module) : Type 0 where
-  pub tokens : List Token
-  pub lexed : tokens_of bytes ≡ Ok tokens
-  pub means : Means bytes tokens m
 
 -- these bytes were taken from the source, and they were all that it had
 pub record ReadsWhole (before after : Option (List ℕ)) (bytes : List ℕ) : Type 0 where

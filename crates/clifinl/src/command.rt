@@ -3,14 +3,14 @@ ghost use Rattle.std.specs.Prelude.{◌≡◌, ℕ, ◌<◌, ◌≤◌, ◌⊎�
 ghost use Rattle.clk_flow.specs.Faults.{Rose};
 ghost use Rattle.ir_core.specs.Module as ir;
 ghost use Rattle.clifinl.specs.Asked as asked;
-ghost use Rattle.clifinl.specs.Output.{Reads, ReadsNone, ReadsAndWrites, ReadsAndWritesPart, GivesTooMany, most_bytes, no_simple_text, too_long};
+ghost use Rattle.clif_read.specs.SimpleModule.{Reads};
+ghost use Rattle.clifinl.specs.Output.{ReadsNone, ReadsAndWrites, ReadsAndWritesPart, GivesTooMany, most_bytes, no_simple_text, too_long};
 
-use crate::reading::read_module;
 use crate::status::{Refusal, Status};
 use crate::words::asks_inline;
 use clif_lex::{Place, TextKind};
 use clif_print::{numbering, print};
-use clif_read::SimpleErr;
+use clif_read::{SimpleErr, read_simple_text};
 use clk_flow::{Gate, ReadErr, Sink, Source, read_whole};
 use std::alloc::Global;
 use std::sync::Wait;
@@ -18,6 +18,9 @@ use std::thread::Threads;
 
 /// The most bytes that a text may have.
 const LIMIT: usize = 67_108_864;
+
+/// How many workers read and print where the words say nothing of it.
+const WORKERS: usize = 4;
 
 /// All that the program does, by the words of its command line: `inline` reads a module from `input` and writes the
 /// canonical text of the module with its calls inlined to `out`. Nothing is written to `err` yet, and nothing passes the
@@ -65,7 +68,7 @@ pub fn command<R: Threads + Wait + Sync, I: Source, O: Sink, E: Sink, G: Gate>(
         Err(ReadErr::TooLong) => return Status::Refused(Refusal::TooLong),
         Err(ReadErr::NoMemory) => return Status::NoMemory,
     };
-    let module = match read_module(alloc, bytes.as_slice()) {
+    let module = match read_simple_text(rt, alloc, bytes.as_slice(), WORKERS) {
         Ok(module) => module,
         Err(SimpleErr::NotSimple) => {
             let start = Place { line: 1, column: 1 };

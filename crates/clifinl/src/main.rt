@@ -2,7 +2,6 @@
 #![tactic(auto)]
 
 mod command;
-mod reading;
 mod status;
 #[cfg(test)]
 mod tests;

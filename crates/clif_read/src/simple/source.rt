@@ -5,7 +5,7 @@ ghost use Rattle.clif_lex.specs.Spelling.{AreIn};
 use crate::simple::lexemes::{Class, behind_first, mark, word};
 use clif_lex::{TokenKind, Tokens};
 
-/// A text with its tokens.
+/// A text, and tokens in it.
 #[derive(Clone, Copy)]
 pub struct Source<'a> {
     pub text: &'a [u8],

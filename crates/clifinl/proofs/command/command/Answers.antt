@@ -1,6 +1,6 @@
 use Rattle.std.proofs.Common.{◌≡◌, ℕ, List, Option, sym, subst, ◌∙◌, arith}
 use Rattle.std.specs.Prelude.{IfSome}
-use Rattle.clifinl.specs.Output.{Reads}
+use Rattle.clif_read.specs.SimpleModule.{Reads}
 use Rattle.clifinl.proofs.command.command.Goals as goal
 
 pub returns-in-Err-NotSimple-clause-not_simple : goal.returns-in-Err-NotSimple-clause-not_simple

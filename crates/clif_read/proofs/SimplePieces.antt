@@ -9,6 +9,7 @@ use Rattle.std.proofs.lemmas.List.Folds.{list_all-append}
 use Rattle.grammar.specs.Rules.{Lexeme, Value, Derives, Each}
 use Rattle.grammar.specs.Rules as rules
 use Rattle.grammar.proofs.Laws.{sound}
+use Rattle.grammar.proofs.Joins.{each_join}
 use Rattle.clif_lex.specs.declared.spans.Token.{Token}
 use Rattle.clif_lex.specs.Pieces.{IsPiece, IsCut}
 use Rattle.clif_lex.proofs.Pieces.{pieces_join, empty_piece}
@@ -44,15 +45,11 @@ lexemes-append text (t ∷ ts) us =
       | false ↦ ap (λ (l : List Lexeme). lexeme_in text t ∷ l) ih
     ]
 
-each-append : {A : Type 0} (D : List Lexeme → A → Type 0) (xs ys : List Lexeme) (vs ws : List A) → Each D xs vs → Each D ys ws → Each D (xs ++ ys) (vs ++ ws)
-each-append D xs ys [] ws d e = subst (λ (l : List Lexeme). Each D (l ++ ys) ws) (sym d) e
-each-append D xs ys (v ∷ vs) ws d e = (d.0, d.1 ++ ys, ap (λ (l : List Lexeme). l ++ ys) d.2 ∙ append_assoc d.0 d.1 ys, (d.3.0, each-append D d.1 ys vs ws d.3.1 e))
-
 means_join : (xs ys : List Lexeme) (ms ns : Module) → MeansEach xs ms → MeansEach ys ns → MeansEach (xs ++ ys) (ms ++ ns)
 means_join xs ys ms ns one two =
     let all : functions (one.tree ++ two.tree) ≡ functions one.tree ++ functions two.tree = map-append function one.tree two.tree in record {
       tree = one.tree ++ two.tree;
-      derived = each-append _ xs ys one.tree two.tree one.derived two.derived;
+      derived = each_join _ xs ys one.tree two.tree one.derived two.derived;
       fit = rw (all, list_all-append function_fits (functions one.tree) (functions two.tree)) (and_from _ _ one.fit two.fit);
       same = rw (all, map-append meaning (functions one.tree) (functions two.tree), one.same, two.same) refl;
     }

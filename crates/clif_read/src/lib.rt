@@ -12,6 +12,7 @@ mod modules;
 #[cfg(test)]
 mod piece_tests;
 mod pieces;
+mod ranges;
 mod raw;
 mod room;
 mod signatures;

@@ -1,6 +1,6 @@
 //! What no clause says: that a text is read in pieces, whatever the number of workers and the size of a piece.
 
-use crate::pieces::{read_in_pieces, read_text_by};
+use crate::pieces::{read_in_pieces, read_text, read_text_by};
 use crate::tests::read;
 use std::alloc::{AllocError, Global};
 
@@ -29,6 +29,7 @@ fn reads_in_pieces(rt: HostRuntime) -> Result<(), AllocError> {
             }
         }
     }
+    assert!(rt; read_text(&rt, rt.alloc(), text.as_bytes(), 4).is_ok());
     Ok(())
 }
 

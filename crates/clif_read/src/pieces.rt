@@ -7,6 +7,7 @@ ghost use Rattle.clif_lex.specs.Pieces.{IsCut, preamble_after};
 ghost use Rattle.clif_read.specs.Pieces.{AreFunctions, IsFaultOf, IsFront, IsModuleText, IsRange, with_functions};
 
 use crate::modules::{functions, whole_module};
+use crate::ranges::{PIECE, piece_end};
 use crate::raw::{RawFunction, RawModule};
 use crate::room::make_room;
 use crate::texts::read_raw;
@@ -15,9 +16,6 @@ use clif_lex::{TextErr, TokenKind, Tokens, next_line_with, tokens, tokens_betwee
 use ir_core::List;
 use std::alloc::Global;
 use std::thread::{Threads, join};
-
-/// How many bytes a piece takes at least. The tokens of so few bytes stay in a processor's own memory.
-const PIECE: usize = 65_536;
 
 /// The functions that stand between two places of the text. None where anything else stands there, or memory runs out.
 fn read_piece(alloc: Global, text: &[u8], from: usize, end: usize) -> Option<Vec<RawFunction>>
@@ -37,20 +35,6 @@ fn read_piece(alloc: Global, text: &[u8], from: usize, end: usize) -> Option<Vec
     } else {
         None
     }
-}
-
-/// Where a piece of a range ends: behind so many bytes the next line that begins with `function`, or the range's end.
-fn piece_end(text: &[u8], from: usize, end: usize, size: usize) -> usize
-    requires { IsRange text.now from end }
-    ensures piece { IsRange text.now from result }
-    ensures rest { IsRange text.now result end }
-    ensures forward { from < end → from < result }
-{
-    if end - from <= size {
-        return end;
-    }
-    let line = next_line_with(text, from + size, b"function");
-    if line < end { line } else { end }
 }
 
 /// The functions of a range, read piece by piece. None where anything else stands there, or memory runs out.
@@ -100,7 +84,7 @@ fn read_shares<R: Threads + Sync>(
     requires { IsRange text.now from end }
     ensures { IfSome result (λ found. AreFunctions text.now from end found.items) }
 {
-    if workers <= 1 {
+    if workers <= 1 || end - from <= size {
         return read_range(alloc, text, from, end, size);
     }
     let few = workers / 2;

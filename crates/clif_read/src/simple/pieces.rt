@@ -1,15 +1,16 @@
 //! Reading simple texts in pieces, by several workers at once.
 ghost use Rattle.std.specs.Prelude.{◌≡◌, ◌++◌, ◌<◌, ◌≤◌, true, length, OnOk, IfOk};
 ghost use Rattle.std.specs.Thread.{IsSync};
-ghost use Rattle.clif_lex.specs.Pieces.{IsCut};
 ghost use Rattle.ir_core.specs.Lists.{Each};
 ghost use Rattle.ir_core.specs.Module as ir;
 ghost use Rattle.ir_core.specs.Sound.{IsWhole};
 ghost use Rattle.ir_core.specs.Whole.{DifferentNames};
+ghost use Rattle.clif_read.specs.Pieces.{IsRange};
 ghost use Rattle.clif_read.specs.SimpleModule as spec;
 ghost use Rattle.clif_read.specs.SimplePieces.{MeansEach, ReadsPiece, functions_in};
 ghost use Rattle.clif_read.specs.SimpleReading.{after, one_block};
 
+use crate::ranges::piece_end;
 use crate::room::make_room;
 use crate::simple::MOST_FUNCTIONS;
 use crate::simple::building::build;
@@ -18,7 +19,7 @@ use crate::simple::lexemes::Class;
 use crate::simple::rules::{function, next_is};
 use crate::simple::source::Source;
 use crate::simple::written::Written;
-use clif_lex::{LexErr, next_line_with, tokens_between};
+use clif_lex::{LexErr, tokens_between};
 use ir_core::{Func, FuncName, List, Module};
 use std::alloc::Global;
 use std::thread::{Threads, join};
@@ -72,21 +73,6 @@ fn append_piece(
     append_functions(alloc, &source, funcs)
 }
 
-/// Where the piece ends that begins at a place: at the next line behind so many bytes that begins with `function`.
-fn piece_end(text: &[u8], at: usize, end: usize, size: usize) -> usize
-    requires before { at < «end» }
-    requires cut { IsCut text.now «end» }
-    ensures further { at < result }
-    ensures within { result ≤ «end» }
-    ensures cut { IsCut text.now result }
-{
-    if end - at <= size {
-        return end;
-    }
-    let near = next_line_with(text, at + size, b"function");
-    if at < near && near < end { near } else { end }
-}
-
 /// The functions that stand between two places at which a text may be cut, read in pieces of at least so many bytes.
 fn read_range(
     alloc: Global,
@@ -95,9 +81,7 @@ fn read_range(
     end: usize,
     size: usize,
 ) -> Result<Vec<Func>, SimpleErr>
-    requires ordered { from ≤ «end» }
-    requires begins { IsCut text.now from }
-    requires ends { IsCut text.now «end» }
+    requires { IsRange text.now from «end» }
     ensures { IfOk result (λ funcs. ReadsPiece text.now from «end» (functions_in funcs.items)) }
 {
     let mut funcs = Vec::new(alloc);
@@ -111,20 +95,6 @@ fn read_range(
     Ok(funcs)
 }
 
-/// Where the first of so many workers is to stop when half of them read what is left of a range.
-fn middle(text: &[u8], from: usize, end: usize, workers: usize) -> usize
-    requires ordered { from ≤ «end» }
-    requires ends { IsCut text.now «end» }
-    requires some { 0 < workers }
-    ensures further { from ≤ result }
-    ensures within { result ≤ «end» }
-    ensures cut { IsCut text.now result }
-{
-    let share = (end - from) / workers;
-    let near = next_line_with(text, from + share * (workers / 2), b"function");
-    if near < end { near } else { end }
-}
-
 /// The functions that stand between two places at which a text may be cut, read by so many workers at once.
 #[cycle(workers)]
 pub(crate) fn read_shared<R: Threads + Sync>(
@@ -136,23 +106,22 @@ pub(crate) fn read_shared<R: Threads + Sync>(
     workers: usize,
     size: usize,
 ) -> Result<Vec<Func>, SimpleErr>
-    requires ordered { from ≤ «end» }
-    requires begins { IsCut text.now from }
-    requires ends { IsCut text.now «end» }
+    requires { IsRange text.now from «end» }
     ensures { IfOk result (λ funcs. ReadsPiece text.now from «end» (functions_in funcs.items)) }
 {
-    if workers < 2 {
+    if workers <= 1 || end - from <= size {
         return read_range(alloc, text, from, end, size);
     }
     let half = workers / 2;
     let rest = workers - half;
-    let middle = middle(text, from, end, workers);
+    let share = (end - from) / workers;
+    let middle = piece_end(text, from, end, share.saturating_mul(half));
     let front = || -> Result<Vec<Func>, SimpleErr>
-        requires { IsSync R.row × (0 < half) × (from ≤ middle) × IsCut text.now from × IsCut text.now middle }
+        requires { IsSync R.row × IsRange text.now from middle }
         ensures { IfOk result (λ funcs. ReadsPiece text.entry.now from middle (functions_in funcs.items)) }
     { read_shared(rt, alloc, text, from, middle, half, size) };
     let back = || -> Result<Vec<Func>, SimpleErr>
-        requires { IsSync R.row × (middle ≤ «end») × IsCut text.now middle × IsCut text.now «end» }
+        requires { IsSync R.row × IsRange text.now middle «end» }
         ensures { IfOk result (λ funcs. ReadsPiece text.entry.now middle «end» (functions_in funcs.items)) }
     { read_shared(rt, alloc, text, middle, end, rest, size) };
     let (first, second) = join(rt, front, back);

@@ -5,6 +5,7 @@ ghost use Rattle.clif_read.specs.declared.simple.errors.SimpleErr.TheVariants.{N
 ghost use Rattle.clif_read.specs.SimpleBack.{ReadsBack};
 ghost use Rattle.clif_read.specs.SimpleModule.{Reads};
 
+use crate::ranges::PIECE;
 use crate::simple::errors::SimpleErr;
 use crate::simple::pieces::{module_of, read_shared};
 use crate::simple::read_simple;
@@ -12,9 +13,6 @@ use clif_lex::{LexErr, tokens};
 use ir_core::Module;
 use std::alloc::Global;
 use std::thread::Threads;
-
-/// How many bytes are read at a time, at least, so that the tokens of a piece stay in the cache.
-const PIECE: usize = 65_536;
 
 /// The module that a simple text means, read as a whole.
 fn read_whole(alloc: Global, text: &[u8]) -> Result<Module, SimpleErr>

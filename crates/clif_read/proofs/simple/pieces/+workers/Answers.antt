@@ -11,7 +11,7 @@ returns g t c =
     let text = c.args.text.now in
     let ms = functions_in c.in_ok-funcs.funcs.items in
     let ns = functions_in c.in_ok-more.more.items in
-    let front : ReadsPiece text c.args.from c.middle-middle.result ms = rw c.in_ok-funcs.was at c.join-first.ensures.first in
-    let back : ReadsPiece text c.middle-middle.result c.args.end ns = rw c.in_ok-more.was at c.join-first.ensures.second in
+    let front : ReadsPiece text c.args.from c.piece_end-middle.result ms = rw c.in_ok-funcs.was at c.join-first.ensures.first in
+    let back : ReadsPiece text c.piece_end-middle.result c.args.end ns = rw c.in_ok-more.was at c.join-first.ensures.second in
     let all : functions_in c.append.new.self.items ≡ ms ++ ns = ap functions_in c.in_ok-append.ensures.items ∙ map-append function_in c.in_ok-funcs.funcs.items c.in_ok-more.more.items in
-    subst (λ (z : Module). ReadsPiece text c.args.from c.args.end z) (sym all) (piece_join text c.args.from c.middle-middle.result c.args.end ms ns front c.middle-middle.ensures.cut back)
+    subst (λ (z : Module). ReadsPiece text c.args.from c.args.end z) (sym all) (piece_join text c.args.from c.piece_end-middle.result c.args.end ms ns front c.piece_end-middle.ensures.piece.ends back)

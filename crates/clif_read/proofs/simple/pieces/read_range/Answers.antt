@@ -5,7 +5,7 @@ use Rattle.clif_read.proofs.SimplePieces.{no_piece, piece_join}
 use Rattle.clif_read.proofs.simple.pieces.read_range.Goals as goal
 
 pub pieces-init : goal.pieces-init
-pieces-init c = (c.requires.ordered, c.requires.begins, rw c.new-funcs.ensures.items (no_piece c.args.text.now c.args.from c.requires.begins.0))
+pieces-init c = (c.requires, rw c.new-funcs.ensures.items (no_piece c.args.text.now c.args.from c.requires.begins.0))
 
 pub pieces-preserved : goal.pieces-preserved
 pieces-preserved c =
@@ -13,5 +13,5 @@ pieces-preserved c =
     let text = c.args.text.now in
     let next = c.piece_end-next.result in
     let read = c.in_ok-append_piece.ensures in
-    let all = piece_join text c.args.from l.at next (functions_in l.funcs.items) read.0 l.invariant.2 l.invariant.1 read.1 in
-    (c.piece_end-next.ensures.within, c.piece_end-next.ensures.cut, subst (λ (ms : Module). ReadsPiece text c.args.from next ms) (sym read.2) all)
+    let all = piece_join text c.args.from l.at next (functions_in l.funcs.items) read.0 l.invariant.1 l.invariant.0.begins read.1 in
+    (c.piece_end-next.ensures.rest, subst (λ (ms : Module). ReadsPiece text c.args.from next ms) (sym read.2) all)

@@ -127,10 +127,10 @@ fn reads_any_text_in_shares(rt: HostRuntime) {
 #[test]
 fn finds_the_first_fault_in_shares(rt: HostRuntime) -> Result<(), AllocError> {
     for (first, second, third) in [
-        ("v1 =", "nop", "nop"),
+        ("v1, v2 nop", "nop", "nop"),
         ("nop", "v1 = frob v0", "nop"),
         ("nop", "nop", "v1 = fadd v0, v0"),
-        ("frob", "v1 =", "}"),
+        ("frob", "v1, v2 nop", "}"),
         ("nop", "}", "frob"),
     ] {
         let text = text_of(rt.alloc(), first, second, third)?;

@@ -17,3 +17,4 @@ pub mod FlagLetter
 pub mod Next
 pub mod Choice
 pub mod Counted
+pub mod Ends

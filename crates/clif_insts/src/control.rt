@@ -8,7 +8,7 @@ use crate::codes::trap;
 use crate::raw::{RawInst, RawOperands};
 use crate::reader::Reader;
 use crate::stop::Stop;
-use crate::targets::{Place, target, target_list};
+use crate::targets::{Place, boxed_target, target, target_list};
 use crate::types::opt_suffix;
 use clif_words::Class;
 use ir_core::List;
@@ -53,9 +53,9 @@ pub(crate) fn brif(alloc: Global, reader: &mut Reader<'_>) -> Result<RawInst, St
     let suffix = opt_suffix(reader)?;
     let cond = reader.take(Class::Value)?;
     reader.take(Class::Comma)?;
-    let then_target = target(alloc, reader, Place::Branch)?;
+    let then_target = boxed_target(alloc, reader, Place::Branch)?;
     reader.take(Class::Comma)?;
-    let else_target = target(alloc, reader, Place::Branch)?;
+    let else_target = boxed_target(alloc, reader, Place::Branch)?;
     Ok(RawInst {
         opcode,
         suffix,
@@ -76,7 +76,7 @@ pub(crate) fn br_table(alloc: Global, reader: &mut Reader<'_>) -> Result<RawInst
     let opcode = reader.take(Class::BrTable)?;
     let index = reader.take(Class::Value)?;
     reader.take(Class::Comma)?;
-    let default = target(alloc, reader, Place::Branch)?;
+    let default = boxed_target(alloc, reader, Place::Branch)?;
     reader.take(Class::Comma)?;
     let entries = target_list(alloc, reader)?;
     Ok(RawInst {

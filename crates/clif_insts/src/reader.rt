@@ -1,6 +1,6 @@
 //! The tokens of a text, read one after the other.
 
-ghost use Rattle.std.specs.Prelude.{◌≡◌, ◌≢◌, ℕ, not, List, ◌∷◌, [], ◌<◌, ◌≤◌, length, drop, slice_get, false, IfOk, IfErr, IfSome};
+ghost use Rattle.std.specs.Prelude.{◌≡◌, ◌≢◌, ℕ, not, List, ◌∷◌, [], ◌<◌, ◌≤◌, length, take, drop, slice_get, slice_range, false, IfOk, IfErr, IfSome};
 ghost use Rattle.grammar.specs.Rules.{Lexeme, heads, heads_any};
 ghost use Rattle.clif_lex.specs.Spelling.{AreIn};
 ghost use Rattle.clif_words.specs.Classes.{code};
@@ -29,23 +29,25 @@ use std::marker::Model;
 pub struct Reader<'a> {
     text: &'a [u8],
     tokens: &'a Tokens,
-    /// The next token's place in the list, or the list's length.
+    /// The next token's place in the list, or `end`.
     at: usize,
+    /// The place in the list before which the reader ends.
+    end: usize,
     /// What the next token is.
     next: Option<Meaning>,
 }
 
 impl<'a> Model for Reader<'a> {
-    ghost use Rattle.std.specs.Prelude.{List, drop, ◌≤◌, length};
+    ghost use Rattle.std.specs.Prelude.{List, take, drop, ◌≤◌, length};
     ghost use Rattle.grammar.specs.Rules.{Lexeme};
     ghost use Rattle.clif_lex.specs.Spelling.{AreIn};
     ghost use Rattle.clif_words.specs.Lexemes.{lexemes, Upcoming};
 
     ghost Value = { List Lexeme };
 
-    ghost view = { λ r. lexemes r.text.now (drop r.at r.tokens.now) };
+    ghost view = { λ r. lexemes r.text.now (drop r.at (take r.«end» r.tokens.now)) };
 
-    ghost invariant = { λ r. AreIn r.text.now r.tokens.now × (r.at ≤ length r.tokens.now) × Upcoming r.text.now (drop r.at r.tokens.now) r.next };
+    ghost invariant = { λ r. AreIn r.text.now r.tokens.now × (r.at ≤ r.«end») × (r.«end» ≤ length r.tokens.now) × Upcoming r.text.now (drop r.at (take r.«end» r.tokens.now)) r.next };
 }
 
 /// Whether a token is a comment.
@@ -86,14 +88,14 @@ fn name_of(kind: TokenKind, spelling: &[u8]) -> &[u8]
     }
 }
 
-/// The first token from here on that is no comment, or the list's length.
+/// The first token from here on and before the end that is no comment, or the end.
 #[inline]
 fn settle(text: &[u8], tokens: &Tokens, from: usize, end: usize) -> usize
-    requires within { from ≤ end }
-    requires whole { end ≡ length tokens.now }
-    ensures within { result ≤ length tokens.now }
-    ensures same { lexemes text.now (drop result tokens.now) ≡ lexemes text.now (drop from tokens.now) }
-    ensures no_comment { IfSome (slice_get tokens.now result) (λ token. lexeme_specs.is_comment token.kind ≡ false) }
+    requires ordered { from ≤ «end» }
+    requires within { «end» ≤ length tokens.now }
+    ensures within { result ≤ «end» }
+    ensures same { lexemes text.now (drop result (take «end» tokens.now)) ≡ lexemes text.now (drop from (take «end» tokens.now)) }
+    ensures no_comment { IfSome (slice_get (take «end» tokens.now) result) (λ token. lexeme_specs.is_comment token.kind ≡ false) }
 {
     let mut at = from;
     'comments: while at < end {
@@ -105,14 +107,15 @@ fn settle(text: &[u8], tokens: &Tokens, from: usize, end: usize) -> usize
     at
 }
 
-/// What the next token is.
+/// What the next token is, if it stands before the end.
 #[inline]
-fn upcoming(text: &[u8], tokens: &Tokens, at: usize) -> Option<Meaning>
+fn upcoming(text: &[u8], tokens: &Tokens, at: usize, end: usize) -> Option<Meaning>
     requires inside { AreIn text.now tokens.now }
-    requires no_comment { IfSome (slice_get tokens.now at) (λ token. lexeme_specs.is_comment token.kind ≡ false) }
-    ensures { lexeme_specs.Upcoming text.now (drop at tokens.now) result }
+    requires within { «end» ≤ length tokens.now }
+    requires no_comment { IfSome (slice_get (take «end» tokens.now) at) (λ token. lexeme_specs.is_comment token.kind ≡ false) }
+    ensures { lexeme_specs.Upcoming text.now (drop at (take «end» tokens.now)) result }
 {
-    if at < tokens.len() {
+    if at < end {
         Some(token_meaning(text, tokens, at))
     } else {
         None
@@ -126,12 +129,23 @@ impl<'a> Reader<'a> {
         requires within { from ≤ length tokens.now }
         ensures { result ≡ lexemes text.now (drop from tokens.now) }
     {
-        let at = settle(text, tokens, from, tokens.len());
-        let next = upcoming(text, tokens, at);
+        Reader::between(text, tokens, from, tokens.len())
+    }
+
+    /// The tokens of a text from a place of their list on and before another.
+    pub fn between(text: &'a [u8], tokens: &'a Tokens, from: usize, end: usize) -> Self
+        requires inside { AreIn text.now tokens.now }
+        requires ordered { from ≤ «end» }
+        requires within { «end» ≤ length tokens.now }
+        ensures { result ≡ lexemes text.now (slice_range tokens.now from «end») }
+    {
+        let at = settle(text, tokens, from, end);
+        let next = upcoming(text, tokens, at, end);
         Reader {
             text,
             tokens,
             at,
+            end,
             next,
         }
     }
@@ -145,6 +159,7 @@ impl<'a> Reader<'a> {
             text: self.text,
             tokens: self.tokens,
             at: self.at,
+            end: self.end,
             next: self.next,
         }
     }
@@ -280,9 +295,8 @@ impl<'a> Reader<'a> {
         requires { self.old ≢ [] }
         ensures { self.new ≡ drop 1 self.old }
     {
-        let end = self.tokens.len();
-        let at = settle(self.text, self.tokens, self.at + 1, end);
-        self.next = upcoming(self.text, self.tokens, at);
+        let at = settle(self.text, self.tokens, self.at + 1, self.end);
+        self.next = upcoming(self.text, self.tokens, at, self.end);
         self.at = at;
     }
 

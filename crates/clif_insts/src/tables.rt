@@ -10,6 +10,7 @@ use crate::reader::Reader;
 use crate::stop::Stop;
 use crate::targets::{Place, target};
 use clif_words::Class;
+use ir_core::{Boxed, List};
 use std::alloc::Global;
 
 /// `tagN` or `default`.
@@ -93,4 +94,16 @@ pub(crate) fn table(alloc: Global, reader: &mut Reader<'_>) -> Result<Vec<RawEnt
     };
     reader.take(Class::RightBracket)?;
     Ok(list)
+}
+
+/// A table behind a pointer: so an instruction is no larger for it.
+pub(crate) fn boxed_table(
+    alloc: Global,
+    reader: &mut Reader<'_>,
+) -> Result<Boxed<List<RawEntry>>, Stop>
+    ensures is { Gives same reader.new result (spec.table_at reader.old) }
+    ensures shorter { IfOk result (λ _. length reader.new < length reader.old) }
+{
+    let entries = table(alloc, reader)?;
+    Ok(Boxed::new(alloc, List::from_vec(entries))?)
 }

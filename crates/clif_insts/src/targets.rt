@@ -9,7 +9,7 @@ use crate::raw::{RawArg, RawTarget};
 use crate::reader::Reader;
 use crate::stop::Stop;
 use clif_words::Class;
-use ir_core::List;
+use ir_core::{Boxed, List};
 use std::alloc::Global;
 
 /// Where a target stands: at a branch, as the normal target of a `try_call`, or in its table.
@@ -148,6 +148,19 @@ pub(crate) fn target(
         block,
         args: List::from_vec(args),
     })
+}
+
+/// A target behind a pointer: so an instruction is no larger for it.
+pub(crate) fn boxed_target(
+    alloc: Global,
+    reader: &mut Reader<'_>,
+    place: Place,
+) -> Result<Boxed<RawTarget>, Stop>
+    ensures is { Gives same reader.new result (spec.target_at place reader.old) }
+    ensures shorter { IfOk result (λ _. length reader.new < length reader.old) }
+{
+    let target = target(alloc, reader, place)?;
+    Ok(Boxed::new(alloc, target)?)
 }
 
 #[tactic(auto, unfolding(crate::specs::Targets::comma_target_at))]

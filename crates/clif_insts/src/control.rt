@@ -1,6 +1,7 @@
 //! Instructions without operands, branches, returns and traps.
 
-ghost use Rattle.std.specs.Prelude.{◌<◌, length, IfOk};
+ghost use Rattle.std.specs.Prelude.{◌≢◌, ◌<◌, length, IfOk, IfErr};
+ghost use Rattle.clif_insts.specs.declared.stop.Stop.TheVariants.{NoMemory};
 ghost use Rattle.clif_insts.specs.Reading.{Gives, same};
 ghost use Rattle.clif_insts.specs.Forms as spec;
 
@@ -18,6 +19,7 @@ use std::alloc::Global;
 #[tactic(auto, unfolding(crate::specs::Forms::nullary_at))]
 pub(crate) fn nullary(reader: &mut Reader<'_>) -> Result<RawInst, Stop>
     ensures is { Gives same reader.new result (spec.nullary_at reader.old) }
+    ensures no_memory { IfErr result (λ e. e ≢ NoMemory) }
     ensures shorter { IfOk result (λ _. length reader.new < length reader.old) }
 {
     let opcode = reader.take(Class::Nullary)?;
@@ -108,6 +110,7 @@ pub(crate) fn return_inst(alloc: Global, reader: &mut Reader<'_>) -> Result<RawI
 #[tactic(auto, unfolding(crate::specs::Forms::trap_inst_at))]
 pub(crate) fn trap_inst(reader: &mut Reader<'_>) -> Result<RawInst, Stop>
     ensures is { Gives same reader.new result (spec.trap_inst_at reader.old) }
+    ensures no_memory { IfErr result (λ e. e ≢ NoMemory) }
     ensures shorter { IfOk result (λ _. length reader.new < length reader.old) }
 {
     let opcode = reader.take(Class::Trap)?;
@@ -123,6 +126,7 @@ pub(crate) fn trap_inst(reader: &mut Reader<'_>) -> Result<RawInst, Stop>
 #[tactic(auto, unfolding(crate::specs::Forms::trap_if_at))]
 pub(crate) fn trap_if(reader: &mut Reader<'_>) -> Result<RawInst, Stop>
     ensures is { Gives same reader.new result (spec.trap_if_at reader.old) }
+    ensures no_memory { IfErr result (λ e. e ≢ NoMemory) }
     ensures shorter { IfOk result (λ _. length reader.new < length reader.old) }
 {
     let opcode = reader.take(Class::TrapIf)?;

@@ -1,6 +1,7 @@
 //! Loads, stores and addresses.
 
-ghost use Rattle.std.specs.Prelude.{◌<◌, length, IfOk};
+ghost use Rattle.std.specs.Prelude.{◌≢◌, ◌<◌, length, IfOk, IfErr};
+ghost use Rattle.clif_insts.specs.declared.stop.Stop.TheVariants.{NoMemory};
 ghost use Rattle.clif_insts.specs.Reading.{Gives, same};
 ghost use Rattle.clif_insts.specs.Forms as spec;
 
@@ -127,6 +128,7 @@ pub(crate) fn stack_store(alloc: Global, reader: &mut Reader<'_>) -> Result<RawI
 #[tactic(auto, unfolding(crate::specs::Forms::func_addr_at))]
 pub(crate) fn func_addr(reader: &mut Reader<'_>) -> Result<RawInst, Stop>
     ensures is { Gives same reader.new result (spec.func_addr_at reader.old) }
+    ensures no_memory { IfErr result (λ e. e ≢ NoMemory) }
     ensures shorter { IfOk result (λ _. length reader.new < length reader.old) }
 {
     let opcode = reader.take(Class::FuncAddr)?;

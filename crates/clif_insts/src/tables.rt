@@ -1,6 +1,7 @@
 //! Exception tables.
 
-ghost use Rattle.std.specs.Prelude.{◌<◌, ◌≤◌, length, IfOk};
+ghost use Rattle.std.specs.Prelude.{◌≢◌, ◌<◌, ◌≤◌, length, IfOk, IfErr};
+ghost use Rattle.clif_insts.specs.declared.stop.Stop.TheVariants.{NoMemory};
 ghost use Rattle.clif_insts.specs.Reading.{Gives, same};
 ghost use Rattle.clif_insts.specs.Tables as spec;
 
@@ -17,6 +18,7 @@ use std::alloc::Global;
 #[tactic(auto, unfolding(crate::specs::Tables::entry_tag_at))]
 pub(crate) fn entry_tag(reader: &mut Reader<'_>) -> Result<Option<RawName>, Stop>
     ensures is { Gives same reader.new result (spec.entry_tag_at reader.old) }
+    ensures no_memory { IfErr result (λ e. e ≢ NoMemory) }
     ensures shorter { IfOk result (λ _. length reader.new < length reader.old) }
 {
     if reader.next_is(Class::Tag) {

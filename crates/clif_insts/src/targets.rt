@@ -1,6 +1,7 @@
 //! Targets of branches.
 
-ghost use Rattle.std.specs.Prelude.{◌≡◌, ◌<◌, ◌≤◌, length, IfOk};
+ghost use Rattle.std.specs.Prelude.{◌≡◌, ◌≢◌, ◌<◌, ◌≤◌, length, IfOk, IfErr};
+ghost use Rattle.clif_insts.specs.declared.stop.Stop.TheVariants.{NoMemory};
 ghost use Rattle.clif_insts.specs.Reading.{Gives, same};
 ghost use Rattle.clif_insts.specs.Targets as spec;
 
@@ -25,6 +26,7 @@ pub enum Place {
 #[tactic(auto, unfolding(crate::specs::Targets::arg_at))]
 pub(crate) fn arg(reader: &mut Reader<'_>, place: Place) -> Result<RawArg, Stop>
     ensures is { Gives same reader.new result (spec.arg_at place reader.old) }
+    ensures no_memory { IfErr result (λ e. e ≢ NoMemory) }
     ensures shorter { IfOk result (λ _. length reader.new < length reader.old) }
 {
     match place {
@@ -49,6 +51,7 @@ pub(crate) fn arg(reader: &mut Reader<'_>, place: Place) -> Result<RawArg, Stop>
 #[tactic(auto, unfolding(crate::specs::Targets::comma_arg_at))]
 pub(crate) fn comma_arg(reader: &mut Reader<'_>, place: Place) -> Result<RawArg, Stop>
     ensures is { Gives same reader.new result (spec.comma_arg_at place reader.old) }
+    ensures no_memory { IfErr result (λ e. e ≢ NoMemory) }
     ensures shorter { IfOk result (λ _. length reader.new < length reader.old) }
 {
     reader.take(Class::Comma)?;

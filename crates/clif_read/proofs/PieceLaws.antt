@@ -18,7 +18,7 @@ use Rattle.clif_read.specs.ModuleGrammar.{function, module_rule}
 use Rattle.clif_read.specs.ModuleValues.{function_value, module_value}
 use Rattle.clif_read.specs.Modules.{functions_at, whole_module_at}
 use Rattle.clif_read.specs.Texts.{IsModule}
-use Rattle.clif_read.specs.Pieces.{IsModuleText, IsShare, IsRange, Functions, AreFunctions, AreListed, IsFront, with_functions}
+use Rattle.clif_read.specs.Pieces.{IsModuleText, IsShare, IsRange, Functions, AreFunctions, AreListed, Follow, IsFront, with_functions}
 use Rattle.clif_read.proofs.ModuleLaws.{functions_is}
 use Rattle.clif_read.proofs.Whole.{found_at}
 
@@ -76,13 +76,16 @@ pub no_functions : (text : List ℕ) (at : ℕ) → IsCut text at → AreFunctio
 unfolding lexemes
 no_functions text at cut = record { tokens = []; piece = empty_piece text false at cut.0; read = none }
 
-pub more_functions : (text : List ℕ) (a b c : ℕ) (fs gs : List RawFunction) → IsCut text b → AreFunctions text a b fs → AreFunctions text b c gs → AreFunctions text a c (fs ++ gs)
+more_functions : (text : List ℕ) (a b c : ℕ) (fs gs : List RawFunction) → IsCut text b → AreFunctions text a b fs → AreFunctions text b c gs → AreFunctions text a c (fs ++ gs)
 more_functions text a b c fs gs cut f g = record {
   tokens = f.tokens ++ g.tokens;
   piece = pieces_join text false a b c f.tokens g.tokens f.piece cut g.piece;
   read = subst (λ (ts : List Lexeme). Functions ts (fs ++ gs)) (sym (lexemes-append text f.tokens g.tokens))
       (both (lexemes text f.tokens) (lexemes text g.tokens) fs gs f.read g.read);
 }
+
+pub range_follows : (text : List ℕ) (a b : ℕ) (fs : List RawFunction) → IsCut text a → AreFunctions text a b fs → Follow (AreFunctions text) a b fs
+range_follows text a b fs cut f start before s = more_functions text start a b before fs cut s f
 
 pub whole_text : (text : List ℕ) (at : ℕ) (m : RawModule) (fs : List RawFunction) → IsCut text at → IsFront text at m → AreFunctions text at (length text) fs → IsModuleText text (with_functions m fs)
 whole_text text at m fs cut front more =
@@ -113,7 +116,7 @@ whole_share text ts size lexed all = record { ordered = omega arith; within = om
 pub no_share : (text : List ℕ) (ts : List Token) (a b : ℕ) → IsShare text ts a b → IsShare text ts a a
 no_share text ts a b s = record { ordered = omega arith; within = omega (arith, s.ordered, s.within); inside = s.inside }
 
-pub more_share : (text : List ℕ) (ts : List Token) (a b c : ℕ) → IsShare text ts a b → IsShare text ts b c → IsShare text ts a c
+more_share : (text : List ℕ) (ts : List Token) (a b c : ℕ) → IsShare text ts a b → IsShare text ts b c → IsShare text ts a c
 more_share text ts a b c s t = record { ordered = omega (arith, s.ordered, t.ordered); within = t.within; inside = s.inside }
 
 pub none_listed : (text : List ℕ) (ts : List Token) (at : ℕ) → AreListed text ts at at []
@@ -122,10 +125,14 @@ none_listed text ts at =
     let nothing : at - at ≡ 0 = omega arith in
     subst (λ n. Functions (lexemes text (take n (drop at ts))) []) (sym nothing) none
 
-pub more_listed : (text : List ℕ) (ts : List Token) (a b c : ℕ) (fs gs : List RawFunction) → a ≤ b → b ≤ c → AreListed text ts a b fs → AreListed text ts b c gs → AreListed text ts a c (fs ++ gs)
+more_listed : (text : List ℕ) (ts : List Token) (a b c : ℕ) (fs gs : List RawFunction) → a ≤ b → b ≤ c → AreListed text ts a b fs → AreListed text ts b c gs → AreListed text ts a c (fs ++ gs)
 more_listed text ts a b c fs gs ab bc f g =
     subst (λ (us : List Lexeme). Functions us (fs ++ gs)) (sym (lexemes-between text ts a b c ab bc))
     (both (lexemes text (slice_range ts a b)) (lexemes text (slice_range ts b c)) fs gs f g)
+
+pub share_follows : (text : List ℕ) (ts : List Token) (a b : ℕ) (fs : List RawFunction) → IsShare text ts a b → AreListed text ts a b fs → Follow (λ from to functions. IsShare text ts from to × AreListed text ts from to functions) a b fs
+share_follows text ts a b fs s f start before t =
+    (more_share text ts start a b t.0 s, more_listed text ts start a b before fs t.0.ordered s.ordered t.1 f)
 
 pub whole_list : (text : List ℕ) (ts : List Token) (at size : ℕ) (m : RawModule) (fs : List RawFunction) → size ≡ length ts → at ≤ size → IsModule (lexemes text (slice_range ts 0 at)) m → AreListed text ts at size fs → IsModule (lexemes text ts) (with_functions m fs)
 whole_list text ts at size m fs all le front more =

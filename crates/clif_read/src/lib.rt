@@ -16,6 +16,7 @@ mod ranges;
 mod raw;
 mod room;
 mod shares;
+mod sharing;
 mod signatures;
 mod simple;
 mod tags;

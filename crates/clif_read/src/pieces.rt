@@ -1,7 +1,6 @@
 //! Modules read in pieces, by several workers at once.
 
-ghost use Rattle.std.specs.Prelude.{◌≡◌, ◌<◌, ◌≤◌, ◌++◌, length, true, IfOk, IfErr, IfSome};
-ghost use Rattle.std.specs.Thread.{IsSync};
+ghost use Rattle.std.specs.Prelude.{◌≡◌, ◌≤◌, length, true, IfOk, IfErr, IfSome};
 ghost use Rattle.clif_lex.specs.Lexing as lexing;
 ghost use Rattle.clif_lex.specs.Pieces.{IsCut, preamble_after};
 ghost use Rattle.clif_read.specs.Pieces.{AreFunctions, IsFaultOf, IsFront, IsModuleText, IsRange, with_functions};
@@ -9,94 +8,38 @@ ghost use Rattle.clif_read.specs.Pieces.{AreFunctions, IsFaultOf, IsFront, IsMod
 use crate::modules::{all_functions, whole_module};
 use crate::ranges::{PIECE, piece_end};
 use crate::raw::{RawFunction, RawModule};
-use crate::room::make_room;
+use crate::sharing::{Ranges, joined, read_shares};
 use crate::texts::read_alone;
 use clif_insts::Reader;
 use clif_lex::{TextErr, TokenKind, Tokens, next_line_with, tokens, tokens_between};
 use ir_core::List;
 use std::alloc::Global;
-use std::thread::{Threads, join};
+use std::thread::Threads;
 
-/// The functions that stand between two places of the text. None where anything else stands there, or memory runs out.
-fn read_piece(alloc: Global, text: &[u8], from: usize, end: usize) -> Option<Vec<RawFunction>>
-    requires ordered { from ≤ end }
-    requires within { end ≤ length text.now }
-    ensures { IfSome result (λ found. AreFunctions text.now from end found.items) }
-{
-    let Ok(tokens) = tokens_between(alloc, text, from, end, false) else {
-        return None;
-    };
-    let mut reader = Reader::new(text, &tokens, 0);
-    all_functions(alloc, &mut reader)
+/// A text that is read range by range.
+#[derive(Drop)]
+struct TextRanges<'t> {
+    text: &'t [u8],
 }
 
-/// The functions of a range, read piece by piece. None where anything else stands there, or memory runs out.
-fn read_range(
-    alloc: Global,
-    text: &[u8],
-    from: usize,
-    end: usize,
-    size: usize,
-) -> Option<Vec<RawFunction>>
-    requires { IsRange text.now from end }
-    ensures { IfSome result (λ found. AreFunctions text.now from end found.items) }
-{
-    let mut found = Vec::new(alloc);
-    let mut at = from;
-    'pieces: while at < end {
-        let next = piece_end(text, at, end, size);
-        make_room(alloc);
-        let more = read_piece(alloc, text, at, next)?;
-        found = joined(found, more)?;
-        at = next;
-    }
-    Some(found)
-}
+impl<'t> Ranges for TextRanges<'t> {
+    ghost range = { λ ranges from to. IsRange ranges.text.now from to };
 
-/// The functions of one range and those of the next. None where memory runs out.
-pub(crate) fn joined(
-    mut found: Vec<RawFunction>,
-    mut more: Vec<RawFunction>,
-) -> Option<Vec<RawFunction>>
-    ensures { IfSome result (λ all. all.items ≡ found.items ++ more.items) }
-{
-    match found.append(&mut more) {
-        Ok(()) => Some(found),
-        Err(_) => None,
-    }
-}
+    ghost stand = { λ ranges from to functions. AreFunctions ranges.text.now from to functions };
 
-/// The functions of a range, read by so many workers at once. None where anything else stands there, or memory runs out.
-#[cycle(shares)]
-fn read_shares<R: Threads + Sync>(
-    rt: &R,
-    alloc: Global,
-    text: &[u8],
-    from: usize,
-    end: usize,
-    workers: usize,
-    size: usize,
-) -> Option<Vec<RawFunction>>
-    requires { IsRange text.now from end }
-    ensures { IfSome result (λ found. AreFunctions text.now from end found.items) }
-{
-    if workers <= 1 || end - from <= size {
-        return read_range(alloc, text, from, end, size);
+    fn piece_end(&self, from: usize, end: usize, size: usize) -> usize {
+        piece_end(self.text, from, end, size)
     }
-    let few = workers / 2;
-    let others = workers - few;
-    let share = (end - from) / workers;
-    let middle = piece_end(text, from, end, share.saturating_mul(few));
-    let low = || -> Option<Vec<RawFunction>>
-        requires { IsSync R.row × IsRange text.now from middle }
-        ensures { IfSome result (λ found. AreFunctions text.entry.now from middle found.items) }
-    { read_shares(rt, alloc, text, from, middle, few, size) };
-    let high = || -> Option<Vec<RawFunction>>
-        requires { IsSync R.row × IsRange text.now middle end }
-        ensures { IfSome result (λ found. AreFunctions text.entry.now middle end found.items) }
-    { read_shares(rt, alloc, text, middle, end, others, size) };
-    let (front, rest) = join(rt, low, high);
-    joined(front?, rest?)
+
+    fn read_piece(&self, alloc: Global, from: usize, end: usize) -> Option<Vec<RawFunction>> {
+        let Ok(tokens) = tokens_between(alloc, self.text, from, end, false) else {
+            return None;
+        };
+        let mut reader = Reader::new(self.text, &tokens, 0);
+        all_functions(alloc, &mut reader)
+    }
+
+    ghost ordered = { λ ranges from to range. range.ordered };
 }
 
 /// Whether a token is one behind which a Header may stand.
@@ -162,7 +105,8 @@ pub(crate) fn read_in_pieces<R: Threads + Sync>(
 {
     let end = front_end(text, size);
     let front = read_front(alloc, text, end)?;
-    let rest = read_shares(rt, alloc, text, end, text.len(), workers, size)?;
+    let ranges = TextRanges { text };
+    let rest = read_shares(rt, alloc, &ranges, end, text.len(), workers, size)?;
     extended(front, rest)
 }
 

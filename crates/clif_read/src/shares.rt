@@ -1,22 +1,21 @@
 //! Modules read from the list of a text's tokens, by several workers at once.
 
-ghost use Rattle.std.specs.Prelude.{◌≡◌, ◌<◌, ◌≤◌, length, slice_range, Ok, IfOk, IfErr, IfSome};
-ghost use Rattle.std.specs.Thread.{IsSync};
+ghost use Rattle.std.specs.Prelude.{◌≡◌, ◌<◌, length, slice_range, Ok, IfOk, IfErr, IfSome};
 ghost use Rattle.clif_lex.specs.Lexing.{tokens_of};
 ghost use Rattle.clif_words.specs.Lexemes.{lexemes};
 ghost use Rattle.clif_read.specs.Pieces.{AreListed, IsShare};
 ghost use Rattle.clif_read.specs.Texts.{IsModule, Stopped};
 
 use crate::modules::{all_functions, whole_module};
-use crate::pieces::{extended, joined};
+use crate::pieces::extended;
 use crate::raw::{RawFunction, RawModule};
-use crate::room::make_room;
+use crate::sharing::{Ranges, read_shares};
 use crate::texts::read_alone;
 use clif_insts::Reader;
 use clif_lex::{TextErr, Tokens};
 use clif_words::{Class, token_meaning};
 use std::alloc::Global;
-use std::thread::{Threads, join};
+use std::thread::Threads;
 
 /// How many tokens a piece takes at least.
 const SHARE: usize = 16_384;
@@ -50,77 +49,28 @@ fn share_end(text: &[u8], tokens: &Tokens, from: usize, end: usize, size: usize)
     next_function(text, tokens, from + size + 1, end)
 }
 
-/// The functions that stand between two places of the list. None where anything else stands there, or memory runs out.
-fn read_piece(
-    alloc: Global,
-    text: &[u8],
-    tokens: &Tokens,
-    from: usize,
-    end: usize,
-) -> Option<Vec<RawFunction>>
-    requires { IsShare text.now tokens.now from end }
-    ensures { IfSome result (λ found. AreListed text.now tokens.now from end found.items) }
-{
-    let mut reader = Reader::between(text, tokens, from, end);
-    all_functions(alloc, &mut reader)
+/// A list of a text's tokens that is read range by range.
+#[derive(Drop)]
+struct TokenRanges<'t> {
+    text: &'t [u8],
+    tokens: &'t Tokens,
 }
 
-/// The functions of a range of tokens, read piece by piece. None where anything else stands there, or memory runs out.
-fn read_share(
-    alloc: Global,
-    text: &[u8],
-    tokens: &Tokens,
-    from: usize,
-    end: usize,
-    size: usize,
-) -> Option<Vec<RawFunction>>
-    requires { IsShare text.now tokens.now from end }
-    ensures { IfSome result (λ found. AreListed text.now tokens.now from end found.items) }
-{
-    let mut found = Vec::new(alloc);
-    let mut at = from;
-    'pieces: while at < end {
-        let next = share_end(text, tokens, at, end, size);
-        make_room(alloc);
-        let more = read_piece(alloc, text, tokens, at, next)?;
-        found = joined(found, more)?;
-        at = next;
-    }
-    Some(found)
-}
+impl<'t> Ranges for TokenRanges<'t> {
+    ghost range = { λ ranges from to. IsShare ranges.text.now ranges.tokens.now from to };
 
-/// The functions of a range of tokens, read by so many workers at once. None where anything else stands there, or memory runs out.
-#[cycle(shares)]
-fn read_shares<R: Threads + Sync>(
-    rt: &R,
-    alloc: Global,
-    text: &[u8],
-    tokens: &Tokens,
-    from: usize,
-    end: usize,
-    workers: usize,
-    size: usize,
-) -> Option<Vec<RawFunction>>
-    requires { IsShare text.now tokens.now from end }
-    ensures { IfSome result (λ found. AreListed text.now tokens.now from end found.items) }
-{
-    if workers <= 1 || end - from <= size {
-        return read_share(alloc, text, tokens, from, end, size);
+    ghost stand = { λ ranges from to functions. IsShare ranges.text.now ranges.tokens.now from to × AreListed ranges.text.now ranges.tokens.now from to functions };
+
+    fn piece_end(&self, from: usize, end: usize, size: usize) -> usize {
+        share_end(self.text, self.tokens, from, end, size)
     }
-    let few = workers / 2;
-    let others = workers - few;
-    let share = (end - from) / workers;
-    let middle = share_end(text, tokens, from, end, share.saturating_mul(few));
-    let low = || -> Option<Vec<RawFunction>>
-        requires { IsSync R.row × IsShare text.now tokens.now from middle }
-        ensures { IfSome result (λ found. AreListed text.entry.now tokens.entry.now from middle found.items) }
-    { read_shares(rt, alloc, text, tokens, from, middle, few, size) };
-    let high = || -> Option<Vec<RawFunction>>
-        requires { IsSync R.row × IsShare text.now tokens.now middle end }
-        ensures { IfSome result (λ found. AreListed text.entry.now tokens.entry.now middle end found.items) }
-    { read_shares(rt, alloc, text, tokens, middle, end, others, size) };
-    let (front, rest) = join(rt, low, high);
-    joined(front?, rest?)
+
+    fn read_piece(&self, alloc: Global, from: usize, end: usize) -> Option<Vec<RawFunction>> {
+        let mut reader = Reader::between(self.text, self.tokens, from, end);
+        all_functions(alloc, &mut reader)
+    }
+
+    ghost ordered = { λ ranges from to share. share.ordered };
 }
 
 /// The module that stands before a place of the list. None where it is none, or memory runs out.
@@ -150,7 +100,8 @@ pub(crate) fn read_in_shares<R: Threads + Sync>(
     let end = tokens.len();
     let first = next_function(text, tokens, 0, end);
     let front = read_front(alloc, text, tokens, first)?;
-    let rest = read_shares(rt, alloc, text, tokens, first, end, workers, size)?;
+    let ranges = TokenRanges { text, tokens };
+    let rest = read_shares(rt, alloc, &ranges, first, end, workers, size)?;
     extended(front, rest)
 }
 

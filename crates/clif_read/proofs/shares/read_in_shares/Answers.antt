@@ -1,8 +1,8 @@
-use Rattle.std.proofs.Common.{sym, subst}
+use Rattle.std.proofs.Common.{[], sym, subst}
 use Rattle.std.proofs.lemmas.Option.{IfSome_then}
 use Rattle.clif_words.specs.Lexemes.{lexemes}
 use Rattle.clif_read.specs.Texts.{IsModule}
-use Rattle.clif_read.proofs.PieceLaws.{whole_share, whole_list}
+use Rattle.clif_read.proofs.PieceLaws.{whole_share, no_share, none_listed, whole_list}
 use Rattle.clif_read.proofs.shares.read_in_shares.Goals as goal
 
 pub next_function-first-requires : goal.next_function-first-requires
@@ -12,6 +12,9 @@ pub returns : goal.returns
 returns g c =
     let text = c.args.text.now in
     let tokens = c.args.tokens.now in
+    let first = c.next_function-first.result in
+    let size = c.len-end.result in
+    let rest = c.in_ok-rest.ensures first [] (no_share text tokens first size c.next_function-first.ensures.behind, none_listed text tokens first) in
     IfSome_then c.extended.result c.extended.ensures
     (λ found e. subst (IsModule (lexemes text tokens)) (sym e)
-    (whole_list text tokens c.next_function-first.result c.len-end.result c.in_ok-front.front c.in_ok-rest.rest.items c.len-end.ensures c.next_function-first.ensures.behind.ordered c.in_ok-front.ensures c.in_ok-rest.ensures))
+    (whole_list text tokens first size c.in_ok-front.front c.in_ok-rest.rest.items c.len-end.ensures c.next_function-first.ensures.behind.ordered c.in_ok-front.ensures rest.1))

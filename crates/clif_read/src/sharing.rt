@@ -1,0 +1,104 @@
+//! Ranges read piece by piece, by several workers at once.
+
+ghost use Rattle.std.specs.Prelude.{◌≡◌, ◌<◌, ◌≤◌, ◌++◌, ℕ, List, IfSome};
+ghost use Rattle.std.specs.Thread.{IsSync};
+ghost use Rattle.clif_read.specs.declared.raw.RawFunction.{RawFunction};
+ghost use Rattle.clif_read.specs.Pieces.{Follow};
+
+use crate::raw::RawFunction;
+use crate::room::make_room;
+use std::alloc::Global;
+use std::thread::{Threads, join};
+
+/// What is read range by range: places of a text, or of the list of its tokens.
+pub(crate) trait Ranges: Sync {
+    /// Two places, one behind the other or the same.
+    ghost range: { Self → ℕ → ℕ → Type 0 };
+
+    /// From the first place to the second stand these functions, and nothing else.
+    ghost stand: { Self → ℕ → ℕ → List RawFunction → Type 0 };
+
+    /// Where a piece of a range ends.
+    fn piece_end(&self, from: usize, end: usize, size: usize) -> usize
+        requires { range self.now from «end» }
+        ensures piece { range self.now from result }
+        ensures rest { range self.now result «end» }
+        ensures forward { from < «end» → from < result };
+
+    /// The functions of one piece. None where anything else stands there, or memory runs out.
+    fn read_piece(&self, alloc: Global, from: usize, end: usize) -> Option<Vec<RawFunction>>
+        requires { range self.now from «end» }
+        ensures { IfSome result (λ found. Follow (stand self.now) from «end» found.items) };
+
+    /// The first place is not behind the second.
+    ghost ordered: { (s : Self) (from to : ℕ) → range s from to → from ≤ to };
+}
+
+/// The functions of one range and those of the next. None where memory runs out.
+pub(crate) fn joined(
+    mut found: Vec<RawFunction>,
+    mut more: Vec<RawFunction>,
+) -> Option<Vec<RawFunction>>
+    ensures { IfSome result (λ all. all.items ≡ found.items ++ more.items) }
+{
+    match found.append(&mut more) {
+        Ok(()) => Some(found),
+        Err(_) => None,
+    }
+}
+
+/// The functions of a range, read piece by piece. None where anything else stands there, or memory runs out.
+fn read_range<P: Ranges>(
+    alloc: Global,
+    ranges: &P,
+    from: usize,
+    end: usize,
+    size: usize,
+) -> Option<Vec<RawFunction>>
+    requires { P.range ranges.now from «end» }
+    ensures { IfSome result (λ found. Follow (P.stand ranges.now) from «end» found.items) }
+{
+    let mut found = Vec::new(alloc);
+    let mut at = from;
+    'pieces: while at < end {
+        let next = ranges.piece_end(at, end, size);
+        make_room(alloc);
+        let more = ranges.read_piece(alloc, at, next)?;
+        found = joined(found, more)?;
+        at = next;
+    }
+    Some(found)
+}
+
+/// The functions of a range, read by so many workers at once. None where anything else stands there, or memory runs out.
+#[cycle(shares)]
+pub(crate) fn read_shares<R: Threads + Sync, P: Ranges>(
+    rt: &R,
+    alloc: Global,
+    ranges: &P,
+    from: usize,
+    end: usize,
+    workers: usize,
+    size: usize,
+) -> Option<Vec<RawFunction>>
+    requires { P.range ranges.now from «end» }
+    ensures { IfSome result (λ found. Follow (P.stand ranges.now) from «end» found.items) }
+{
+    if workers <= 1 || end - from <= size {
+        return read_range(alloc, ranges, from, end, size);
+    }
+    let few = workers / 2;
+    let others = workers - few;
+    let share = (end - from) / workers;
+    let middle = ranges.piece_end(from, end, share.saturating_mul(few));
+    let low = || -> Option<Vec<RawFunction>>
+        requires { IsSync R.row × IsSync P.row × P.range ranges.now from middle }
+        ensures { IfSome result (λ found. Follow (P.stand ranges.entry.now) from middle found.items) }
+    { read_shares(rt, alloc, ranges, from, middle, few, size) };
+    let high = || -> Option<Vec<RawFunction>>
+        requires { IsSync R.row × IsSync P.row × P.range ranges.now middle «end» }
+        ensures { IfSome result (λ found. Follow (P.stand ranges.entry.now) middle «end» found.items) }
+    { read_shares(rt, alloc, ranges, middle, end, others, size) };
+    let (front, rest) = join(rt, low, high);
+    joined(front?, rest?)
+}

@@ -14,6 +14,7 @@ pub mod Views
 pub mod Names
 pub mod Singles
 pub mod FlagLetter
-pub mod Next
 pub mod Choice
 pub mod Counted
+pub mod Ends
+pub mod Shown

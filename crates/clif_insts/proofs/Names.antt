@@ -1,12 +1,11 @@
 -- What a name spells is read with it.
-use Rattle.std.proofs.Common.{◌≡◌, ℕ, true, false, ◌==◌, List, [], ◌∷◌, drop, Option, Some, Ok, Err, slice_get, refl, sym, ap, ◌∙◌}
+use Rattle.std.proofs.Common.{◌≡◌, ℕ, true, false, ◌==◌, List, [], ◌∷◌, drop, Some, Ok, Err, slice_get, refl, sym, ap, ◌∙◌}
 use Rattle.grammar.specs.Rules.{Lexeme, Syntax, Out, token, ◌>>=◌}
 use Rattle.clif_lex.specs.declared.spans.Token.{Token}
 use Rattle.clif_lex.specs.Spans.{spelling}
 use Rattle.clif_words.specs.declared.class.Class.{Class}
-use Rattle.clif_words.specs.declared.items.Meaning.{Meaning}
 use Rattle.clif_words.specs.Classes.{code}
-use Rattle.clif_words.specs.Lexemes.{lexeme, lexemes, name_of, Upcoming}
+use Rattle.clif_words.specs.Lexemes.{lexeme, lexemes, is_comment, name_of}
 use Rattle.clif_words.specs.Terminals.{one}
 use Rattle.clif_insts.specs.declared.raw.RawText.{RawText}
 use Rattle.clif_insts.specs.Reading.{next_is}
@@ -14,13 +13,13 @@ use Rattle.clif_insts.specs.Names.{text, text_at}
 use Rattle.clif_insts.specs.Values.{seen}
 use Rattle.clif_insts.proofs.Seen.{Is}
 use Rattle.clif_insts.proofs.Takes.{same_class}
-use Rattle.clif_insts.proofs.Views.{takes, upcoming_not}
+use Rattle.clif_insts.proofs.Views.{takes}
 
 -- what the next token spells as a name
-pub spells_name : (text : List ℕ) (ts : List Token) (i : ℕ) (t : Token) (next : Option Meaning) (x : Lexeme) (xs : List Lexeme) → slice_get ts i ≡ Some t → Upcoming text (drop i ts) next → lexemes text (drop i ts) ≡ x ∷ xs
+pub spells_name : (text : List ℕ) (ts : List Token) (i : ℕ) (t : Token) (x : Lexeme) (xs : List Lexeme) → slice_get ts i ≡ Some t → is_comment t.kind ≡ false → lexemes text (drop i ts) ≡ x ∷ xs
     → (name_of t.kind (spelling text t) ≡ x.name) × (t.start ≡ x.spot)
-spells_name text ts i t next x xs e up whole =
-    let front = sym (takes text ts i t e (upcoming_not text ts i t next e up)) ∙ whole in
+spells_name text ts i t x xs e no_comment whole =
+    let front = sym (takes text ts i t e no_comment) ∙ whole in
     let head : lexeme text t ≡ x = cc in
     (ap (λ (z : Lexeme). z.name) head, ap (λ (z : Lexeme). z.spot) head)
 

@@ -34,12 +34,6 @@ pub takes : (text : List ℕ) (ts : List Token) (i : ℕ) (t : Token) → slice_
 unfolding lexemes
 takes text ts i t e no_comment = rw (drop_some ts i t e, no_comment) refl
 
-pub upcoming_some : (text : List ℕ) (ts : List Token) (i : ℕ) (t : Token) (m : Meaning) → slice_get ts i ≡ Some t → is_comment t.kind ≡ false → m ≡ meaning text t → Upcoming text (drop i ts) (Some m)
-upcoming_some text ts i t m e no_comment same = rw (drop_some ts i t e) (no_comment, ap Some same)
-
-pub upcoming_none : (text : List ℕ) (ts : List Token) (i : ℕ) → length ts ≤ i → Upcoming text (drop i ts) None
-upcoming_none text ts i le = rw (drop_past ts i le) refl
-
 -- the next token's class
 pub heads_some : (text : List ℕ) (ts : List Token) (m : Meaning) (class : Class) → Upcoming text ts (Some m) → (code class == code m.class) ≡ heads (code class ∷ []) (lexemes text ts)
 unfolding lexemes
@@ -51,11 +45,6 @@ heads_some text (t ∷ ts) m class up =
     go : (b : Bool) → b ≡ (b || false)
     go true = refl
     go false = refl
-
-pub heads_none : (text : List ℕ) (ts : List Token) (class : Class) → Upcoming text ts None → false ≡ heads (code class ∷ []) (lexemes text ts)
-unfolding lexemes
-heads_none text [] class up = refl
-heads_none text (t ∷ ts) class up = absurd (let e = up.1 in cc)
 
 -- what is said of an element that there is
 pub if_some : {A : Type 0} (P : A → Type 0) (o : Option A) (x : A) → o ≡ Some x → IfSome o P → P x
@@ -77,17 +66,6 @@ some_next text ts i h = go (drop i ts) refl
     go [] e = absurd (h (rw e refl))
     go (u ∷ us) e = (let l = length-drop i ts in let k = ap length e in omega arith)
 
--- the next token of a reader
-pub front_is : (text : List ℕ) (ts : List Token) (m : Meaning) (x : Lexeme) (xs : List Lexeme) → Upcoming text ts (Some m) → lexemes text ts ≡ x ∷ xs
-    → (t : Token) → (us : List Token) → ts ≡ t ∷ us → (m.number ≡ x.number) × (t.start ≡ x.spot)
-unfolding lexemes
-front_is text ts m x xs up e t us f =
-    let up2 = subst (λ (z : List Token). Upcoming text z (Some m)) f up in
-    let same : m ≡ meaning text t = (let e = up2.1 in cc) in
-    let whole : lexeme text t ∷ lexemes text us ≡ x ∷ xs = rw (up2.0) at (rw f at e) in
-    let head : lexeme text t ≡ x = cc in
-    (ap (λ (z : Meaning). z.number) same ∙ ap (λ (z : Lexeme). z.number) head, ap (λ (z : Lexeme). z.spot) head)
-
 pub some_at : (ts : List Token) (i : ℕ) → i < length ts → (t : Token) × (slice_get ts i ≡ Some t)
 some_at ts i less = go (slice_get ts i) refl
   where
@@ -97,13 +75,6 @@ some_at ts i less = go (slice_get ts i) refl
       | inl h ↦ (h.0, h.2)
       | inr h ↦ absurd (let l = h.0 in omega arith)
     ]
-
--- the next token of a reader is no comment
-pub upcoming_not : (text : List ℕ) (ts : List Token) (i : ℕ) (t : Token) (next : Option Meaning) → slice_get ts i ≡ Some t → Upcoming text (drop i ts) next → is_comment t.kind ≡ false
-upcoming_not text ts i t next e up = (subst (λ (z : List Token). Upcoming text z next) (drop_some ts i t e) up).0
-
-pub upcoming_there : (text : List ℕ) (ts : List Token) (i : ℕ) (t : Token) → slice_get ts i ≡ Some t → Upcoming text (drop i ts) None → ⊥
-upcoming_there text ts i t e up = (let u = (subst (λ (z : List Token). Upcoming text z None) (drop_some ts i t e) up).1 in cc)
 
 pub number_kind : (kind : TokenKind) → is_number kind ≡ true → kind ≡ kinds.Number
 number_kind kinds.Header e = absurd cc
@@ -116,10 +87,10 @@ number_kind kinds.Arrow e = absurd cc
 number_kind (kinds.Mark b) e = absurd cc
 
 -- what the next token spells as a number
-pub amount_is : (text : List ℕ) (ts : List Token) (i : ℕ) (t : Token) (next : Option Meaning) (x : Lexeme) (xs : List Lexeme) → slice_get ts i ≡ Some t → Upcoming text (drop i ts) next → lexemes text (drop i ts) ≡ x ∷ xs
+pub amount_is : (text : List ℕ) (ts : List Token) (i : ℕ) (t : Token) (x : Lexeme) (xs : List Lexeme) → slice_get ts i ≡ Some t → is_comment t.kind ≡ false → lexemes text (drop i ts) ≡ x ∷ xs
     → (amount_of t.kind (spelling text t) ≡ x.amount) × (t.start ≡ x.spot)
-amount_is text ts i t next x xs e up whole =
-    let front = sym (takes text ts i t e (upcoming_not text ts i t next e up)) ∙ whole in
+amount_is text ts i t x xs e no_comment whole =
+    let front = sym (takes text ts i t e no_comment) ∙ whole in
     let head : lexeme text t ≡ x = cc in
     (ap (λ (z : Lexeme). z.amount) head, ap (λ (z : Lexeme). z.spot) head)
 
@@ -130,8 +101,3 @@ heads_among text [] m cs up = absurd cc
 heads_among text (t ∷ ts) m cs up =
     let same : m ≡ meaning text t = (let e = up.1 in cc) in
     rw (up.0, same) refl
-
-pub heads_none_among : (text : List ℕ) (ts : List Token) (cs : List ℕ) → Upcoming text ts None → false ≡ heads cs (lexemes text ts)
-unfolding lexemes
-heads_none_among text [] cs up = refl
-heads_none_among text (t ∷ ts) cs up = absurd (let e = up.1 in cc)

@@ -15,3 +15,4 @@ pub mod Names
 pub mod FlagLetter
 pub mod Next
 pub mod Listed
+pub mod Shown

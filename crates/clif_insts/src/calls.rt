@@ -8,8 +8,8 @@ use crate::arguments::args;
 use crate::raw::{RawInst, RawOperands};
 use crate::reader::Reader;
 use crate::stop::Stop;
-use crate::tables::table;
-use crate::targets::{Place, target};
+use crate::tables::boxed_table;
+use crate::targets::{Place, boxed_target};
 use crate::types::opt_suffix_i64;
 use clif_words::Class;
 use ir_core::List;
@@ -46,9 +46,9 @@ pub(crate) fn try_call(alloc: Global, reader: &mut Reader<'_>) -> Result<RawInst
     reader.take(Class::Comma)?;
     let sig = reader.take(Class::Sig)?;
     reader.take(Class::Comma)?;
-    let normal = target(alloc, reader, Place::Normal)?;
+    let normal = boxed_target(alloc, reader, Place::Normal)?;
     reader.take(Class::Comma)?;
-    let table = table(alloc, reader)?;
+    let table = boxed_table(alloc, reader)?;
     Ok(RawInst {
         opcode,
         suffix: None,
@@ -57,7 +57,7 @@ pub(crate) fn try_call(alloc: Global, reader: &mut Reader<'_>) -> Result<RawInst
             args: List::from_vec(args),
             sig,
             normal,
-            table: List::from_vec(table),
+            table,
         },
     })
 }
@@ -98,9 +98,9 @@ pub(crate) fn try_call_indirect(alloc: Global, reader: &mut Reader<'_>) -> Resul
     reader.take(Class::Comma)?;
     let sig = reader.take(Class::Sig)?;
     reader.take(Class::Comma)?;
-    let normal = target(alloc, reader, Place::Normal)?;
+    let normal = boxed_target(alloc, reader, Place::Normal)?;
     reader.take(Class::Comma)?;
-    let table = table(alloc, reader)?;
+    let table = boxed_table(alloc, reader)?;
     Ok(RawInst {
         opcode,
         suffix: None,
@@ -109,7 +109,7 @@ pub(crate) fn try_call_indirect(alloc: Global, reader: &mut Reader<'_>) -> Resul
             args: List::from_vec(args),
             sig,
             normal,
-            table: List::from_vec(table),
+            table,
         },
     })
 }

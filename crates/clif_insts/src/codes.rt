@@ -1,6 +1,7 @@
 //! Conditions and trap codes.
 
-ghost use Rattle.std.specs.Prelude.{◌≡◌, ◌<◌, length, IfOk};
+ghost use Rattle.std.specs.Prelude.{◌≡◌, ◌≢◌, ◌<◌, length, IfOk, IfErr};
+ghost use Rattle.clif_insts.specs.declared.stop.Stop.TheVariants.{NoMemory};
 ghost use Rattle.clif_insts.specs.Reading.{Gives, same};
 ghost use Rattle.clif_insts.specs.Codes as spec;
 
@@ -32,6 +33,7 @@ fn condition_of(number: u64) -> Cc
 #[tactic(auto, unfolding(crate::specs::Codes::condition_at))]
 pub(crate) fn condition(reader: &mut Reader<'_>) -> Result<Cc, Stop>
     ensures is { Gives same reader.new result (spec.condition_at reader.old) }
+    ensures no_memory { IfErr result (λ e. e ≢ NoMemory) }
     ensures shorter { IfOk result (λ _. length reader.new < length reader.old) }
 {
     let word = reader.take(Class::Condition)?;
@@ -55,6 +57,7 @@ fn trap_of(number: u64) -> RawTrap
 #[tactic(auto, unfolding(crate::specs::Codes::trap_at))]
 pub(crate) fn trap(reader: &mut Reader<'_>) -> Result<RawTrap, Stop>
     ensures is { Gives same reader.new result (spec.trap_at reader.old) }
+    ensures no_memory { IfErr result (λ e. e ≢ NoMemory) }
     ensures shorter { IfOk result (λ _. length reader.new < length reader.old) }
 {
     if reader.next_is(Class::TrapCode) {

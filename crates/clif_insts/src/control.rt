@@ -1,6 +1,7 @@
 //! Instructions without operands, branches, returns and traps.
 
-ghost use Rattle.std.specs.Prelude.{◌<◌, length, IfOk};
+ghost use Rattle.std.specs.Prelude.{◌≢◌, ◌<◌, length, IfOk, IfErr};
+ghost use Rattle.clif_insts.specs.declared.stop.Stop.TheVariants.{NoMemory};
 ghost use Rattle.clif_insts.specs.Reading.{Gives, same};
 ghost use Rattle.clif_insts.specs.Forms as spec;
 
@@ -8,7 +9,7 @@ use crate::codes::trap;
 use crate::raw::{RawInst, RawOperands};
 use crate::reader::Reader;
 use crate::stop::Stop;
-use crate::targets::{Place, target, target_list};
+use crate::targets::{Place, boxed_target, target, target_list};
 use crate::types::opt_suffix;
 use clif_words::Class;
 use ir_core::List;
@@ -18,6 +19,7 @@ use std::alloc::Global;
 #[tactic(auto, unfolding(crate::specs::Forms::nullary_at))]
 pub(crate) fn nullary(reader: &mut Reader<'_>) -> Result<RawInst, Stop>
     ensures is { Gives same reader.new result (spec.nullary_at reader.old) }
+    ensures no_memory { IfErr result (λ e. e ≢ NoMemory) }
     ensures shorter { IfOk result (λ _. length reader.new < length reader.old) }
 {
     let opcode = reader.take(Class::Nullary)?;
@@ -53,9 +55,9 @@ pub(crate) fn brif(alloc: Global, reader: &mut Reader<'_>) -> Result<RawInst, St
     let suffix = opt_suffix(reader)?;
     let cond = reader.take(Class::Value)?;
     reader.take(Class::Comma)?;
-    let then_target = target(alloc, reader, Place::Branch)?;
+    let then_target = boxed_target(alloc, reader, Place::Branch)?;
     reader.take(Class::Comma)?;
-    let else_target = target(alloc, reader, Place::Branch)?;
+    let else_target = boxed_target(alloc, reader, Place::Branch)?;
     Ok(RawInst {
         opcode,
         suffix,
@@ -76,7 +78,7 @@ pub(crate) fn br_table(alloc: Global, reader: &mut Reader<'_>) -> Result<RawInst
     let opcode = reader.take(Class::BrTable)?;
     let index = reader.take(Class::Value)?;
     reader.take(Class::Comma)?;
-    let default = target(alloc, reader, Place::Branch)?;
+    let default = boxed_target(alloc, reader, Place::Branch)?;
     reader.take(Class::Comma)?;
     let entries = target_list(alloc, reader)?;
     Ok(RawInst {
@@ -108,6 +110,7 @@ pub(crate) fn return_inst(alloc: Global, reader: &mut Reader<'_>) -> Result<RawI
 #[tactic(auto, unfolding(crate::specs::Forms::trap_inst_at))]
 pub(crate) fn trap_inst(reader: &mut Reader<'_>) -> Result<RawInst, Stop>
     ensures is { Gives same reader.new result (spec.trap_inst_at reader.old) }
+    ensures no_memory { IfErr result (λ e. e ≢ NoMemory) }
     ensures shorter { IfOk result (λ _. length reader.new < length reader.old) }
 {
     let opcode = reader.take(Class::Trap)?;
@@ -123,6 +126,7 @@ pub(crate) fn trap_inst(reader: &mut Reader<'_>) -> Result<RawInst, Stop>
 #[tactic(auto, unfolding(crate::specs::Forms::trap_if_at))]
 pub(crate) fn trap_if(reader: &mut Reader<'_>) -> Result<RawInst, Stop>
     ensures is { Gives same reader.new result (spec.trap_if_at reader.old) }
+    ensures no_memory { IfErr result (λ e. e ≢ NoMemory) }
     ensures shorter { IfOk result (λ _. length reader.new < length reader.old) }
 {
     let opcode = reader.take(Class::TrapIf)?;

@@ -1,9 +1,10 @@
 //! Flags of a memory access.
 
-ghost use Rattle.std.specs.Prelude.{◌≡◌, ◌∷◌, [], ◌++◌, ◌<◌, ◌≤◌, length, IfOk};
+ghost use Rattle.std.specs.Prelude.{◌≡◌, ◌≢◌, ◌∷◌, [], ◌++◌, ◌<◌, ◌≤◌, length, IfOk, IfErr};
 ghost use Rattle.grammar.specs.Rules.{heads};
 ghost use Rattle.clif_words.specs.Classes.{code};
 ghost use Rattle.clif_words.specs.Terminals.{codes_of};
+ghost use Rattle.clif_insts.specs.declared.stop.Stop.TheVariants.{NoMemory};
 ghost use Rattle.clif_insts.specs.Reading.{Gives, same};
 ghost use Rattle.clif_insts.specs.Flags as spec;
 
@@ -39,6 +40,7 @@ fn begins_plain_flag(reader: &Reader<'_>) -> bool
 #[tactic(auto, unfolding(crate::specs::Flags::plain_flag_at))]
 pub(crate) fn plain_flag(reader: &mut Reader<'_>) -> Result<RawFlag, Stop>
     ensures is { Gives same reader.new result (spec.plain_flag_at reader.old) }
+    ensures no_memory { IfErr result (λ e. e ≢ NoMemory) }
     ensures shorter { IfOk result (λ _. length reader.new < length reader.old) }
 {
     if reader.next_is(Class::Flag) {
@@ -88,6 +90,7 @@ fn order_flag(order: Class) -> RawFlag
 #[tactic(auto, unfolding(crate::specs::Flags::ordered_flag_at))]
 pub(crate) fn ordered_flag(reader: &mut Reader<'_>, order: Class) -> Result<RawFlag, Stop>
     ensures is { Gives same reader.new result (spec.ordered_flag_at order reader.old) }
+    ensures no_memory { IfErr result (λ e. e ≢ NoMemory) }
     ensures shorter { IfOk result (λ _. length reader.new < length reader.old) }
 {
     if begins_plain_flag(reader) {

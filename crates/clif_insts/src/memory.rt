@@ -1,6 +1,7 @@
 //! Loads, stores and addresses.
 
-ghost use Rattle.std.specs.Prelude.{◌<◌, length, IfOk};
+ghost use Rattle.std.specs.Prelude.{◌≢◌, ◌<◌, length, IfOk, IfErr};
+ghost use Rattle.clif_insts.specs.declared.stop.Stop.TheVariants.{NoMemory};
 ghost use Rattle.clif_insts.specs.Reading.{Gives, same};
 ghost use Rattle.clif_insts.specs.Forms as spec;
 
@@ -24,7 +25,7 @@ pub(crate) fn load(alloc: Global, reader: &mut Reader<'_>) -> Result<RawInst, St
     let suffix = suffix(reader)?;
     let flags = flags(alloc, reader)?;
     let address = reader.take(Class::Value)?;
-    let offset = offset(reader)?;
+    let offset = offset(alloc, reader)?;
     Ok(RawInst {
         opcode,
         suffix: Some(suffix),
@@ -46,7 +47,7 @@ pub(crate) fn load_wide(alloc: Global, reader: &mut Reader<'_>) -> Result<RawIns
     let suffix = opt_suffix(reader)?;
     let flags = flags(alloc, reader)?;
     let address = reader.take(Class::Value)?;
-    let offset = offset(reader)?;
+    let offset = offset(alloc, reader)?;
     Ok(RawInst {
         opcode,
         suffix,
@@ -70,7 +71,7 @@ pub(crate) fn store(alloc: Global, reader: &mut Reader<'_>) -> Result<RawInst, S
     let value = reader.take(Class::Value)?;
     reader.take(Class::Comma)?;
     let address = reader.take(Class::Value)?;
-    let offset = offset(reader)?;
+    let offset = offset(alloc, reader)?;
     Ok(RawInst {
         opcode,
         suffix,
@@ -85,14 +86,14 @@ pub(crate) fn store(alloc: Global, reader: &mut Reader<'_>) -> Result<RawInst, S
 
 /// `stack_load.T ssN+off`
 #[tactic(auto, unfolding(crate::specs::Forms::stack_load_at))]
-pub(crate) fn stack_load(reader: &mut Reader<'_>) -> Result<RawInst, Stop>
+pub(crate) fn stack_load(alloc: Global, reader: &mut Reader<'_>) -> Result<RawInst, Stop>
     ensures is { Gives same reader.new result (spec.stack_load_at reader.old) }
     ensures shorter { IfOk result (λ _. length reader.new < length reader.old) }
 {
     let opcode = reader.take(Class::StackLoad)?;
     let suffix = suffix(reader)?;
     let slot = reader.take(Class::Slot)?;
-    let offset = offset(reader)?;
+    let offset = offset(alloc, reader)?;
     Ok(RawInst {
         opcode,
         suffix: Some(suffix),
@@ -102,7 +103,7 @@ pub(crate) fn stack_load(reader: &mut Reader<'_>) -> Result<RawInst, Stop>
 
 /// `stack_store[.T] x, ssN+off`
 #[tactic(auto, unfolding(crate::specs::Forms::stack_store_at))]
-pub(crate) fn stack_store(reader: &mut Reader<'_>) -> Result<RawInst, Stop>
+pub(crate) fn stack_store(alloc: Global, reader: &mut Reader<'_>) -> Result<RawInst, Stop>
     ensures is { Gives same reader.new result (spec.stack_store_at reader.old) }
     ensures shorter { IfOk result (λ _. length reader.new < length reader.old) }
 {
@@ -111,7 +112,7 @@ pub(crate) fn stack_store(reader: &mut Reader<'_>) -> Result<RawInst, Stop>
     let value = reader.take(Class::Value)?;
     reader.take(Class::Comma)?;
     let slot = reader.take(Class::Slot)?;
-    let offset = offset(reader)?;
+    let offset = offset(alloc, reader)?;
     Ok(RawInst {
         opcode,
         suffix,
@@ -127,6 +128,7 @@ pub(crate) fn stack_store(reader: &mut Reader<'_>) -> Result<RawInst, Stop>
 #[tactic(auto, unfolding(crate::specs::Forms::func_addr_at))]
 pub(crate) fn func_addr(reader: &mut Reader<'_>) -> Result<RawInst, Stop>
     ensures is { Gives same reader.new result (spec.func_addr_at reader.old) }
+    ensures no_memory { IfErr result (λ e. e ≢ NoMemory) }
     ensures shorter { IfOk result (λ _. length reader.new < length reader.old) }
 {
     let opcode = reader.take(Class::FuncAddr)?;

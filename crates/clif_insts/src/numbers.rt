@@ -9,6 +9,8 @@ use crate::raw::RawNumber;
 use crate::reader::Reader;
 use crate::stop::Stop;
 use clif_words::Class;
+use ir_core::Boxed;
+use std::alloc::Global;
 
 /// A number.
 #[tactic(auto, unfolding(crate::specs::Numbers::number_at))]
@@ -24,14 +26,18 @@ pub fn number(reader: &mut Reader<'_>) -> Result<RawNumber, Stop>
     }
 }
 
-/// An offset, if there is one.
+/// An offset, if there is one, behind a pointer: so an instruction is no larger for it.
 #[tactic(auto, unfolding(crate::specs::Numbers::offset_at))]
-pub(crate) fn offset(reader: &mut Reader<'_>) -> Result<Option<RawNumber>, Stop>
+pub(crate) fn offset(
+    alloc: Global,
+    reader: &mut Reader<'_>,
+) -> Result<Option<Boxed<RawNumber>>, Stop>
     ensures is { Gives same reader.new result (spec.offset_at reader.old) }
     ensures shorter { IfOk result (λ _. length reader.new ≤ length reader.old) }
 {
     if reader.next_is(Class::Signed) {
-        Ok(Some(reader.take_number(Class::Signed)?))
+        let number = reader.take_number(Class::Signed)?;
+        Ok(Some(Boxed::new(alloc, number)?))
     } else {
         Ok(None)
     }

@@ -1,6 +1,7 @@
 //! Operations on values, and constants.
 
-ghost use Rattle.std.specs.Prelude.{◌<◌, length, IfOk};
+ghost use Rattle.std.specs.Prelude.{◌≢◌, ◌<◌, length, IfOk, IfErr};
+ghost use Rattle.clif_insts.specs.declared.stop.Stop.TheVariants.{NoMemory};
 ghost use Rattle.clif_insts.specs.Reading.{Gives, same};
 ghost use Rattle.clif_insts.specs.Forms as spec;
 
@@ -16,6 +17,7 @@ use clif_words::Class;
 #[tactic(auto, unfolding(crate::specs::Forms::iconst_at))]
 pub(crate) fn iconst(reader: &mut Reader<'_>) -> Result<RawInst, Stop>
     ensures is { Gives same reader.new result (spec.iconst_at reader.old) }
+    ensures no_memory { IfErr result (λ e. e ≢ NoMemory) }
     ensures shorter { IfOk result (λ _. length reader.new < length reader.old) }
 {
     let opcode = reader.take(Class::Iconst)?;
@@ -32,6 +34,7 @@ pub(crate) fn iconst(reader: &mut Reader<'_>) -> Result<RawInst, Stop>
 #[tactic(auto, unfolding(crate::specs::Forms::binary_at))]
 pub(crate) fn binary(reader: &mut Reader<'_>) -> Result<RawInst, Stop>
     ensures is { Gives same reader.new result (spec.binary_at reader.old) }
+    ensures no_memory { IfErr result (λ e. e ≢ NoMemory) }
     ensures shorter { IfOk result (λ _. length reader.new < length reader.old) }
 {
     let opcode = reader.take(Class::Binary)?;
@@ -50,6 +53,7 @@ pub(crate) fn binary(reader: &mut Reader<'_>) -> Result<RawInst, Stop>
 #[tactic(auto, unfolding(crate::specs::Forms::unary_at))]
 pub(crate) fn unary(reader: &mut Reader<'_>) -> Result<RawInst, Stop>
     ensures is { Gives same reader.new result (spec.unary_at reader.old) }
+    ensures no_memory { IfErr result (λ e. e ≢ NoMemory) }
     ensures shorter { IfOk result (λ _. length reader.new < length reader.old) }
 {
     let opcode = reader.take(Class::Unary)?;
@@ -66,6 +70,7 @@ pub(crate) fn unary(reader: &mut Reader<'_>) -> Result<RawInst, Stop>
 #[tactic(auto, unfolding(crate::specs::Forms::icmp_at))]
 pub(crate) fn icmp(reader: &mut Reader<'_>) -> Result<RawInst, Stop>
     ensures is { Gives same reader.new result (spec.icmp_at reader.old) }
+    ensures no_memory { IfErr result (λ e. e ≢ NoMemory) }
     ensures shorter { IfOk result (λ _. length reader.new < length reader.old) }
 {
     let opcode = reader.take(Class::Icmp)?;
@@ -85,6 +90,7 @@ pub(crate) fn icmp(reader: &mut Reader<'_>) -> Result<RawInst, Stop>
 #[tactic(auto, unfolding(crate::specs::Forms::select_at))]
 pub(crate) fn select(reader: &mut Reader<'_>) -> Result<RawInst, Stop>
     ensures is { Gives same reader.new result (spec.select_at reader.old) }
+    ensures no_memory { IfErr result (λ e. e ≢ NoMemory) }
     ensures shorter { IfOk result (λ _. length reader.new < length reader.old) }
 {
     let opcode = reader.take(Class::Select)?;
@@ -105,6 +111,7 @@ pub(crate) fn select(reader: &mut Reader<'_>) -> Result<RawInst, Stop>
 #[tactic(auto, unfolding(crate::specs::Forms::convert_at))]
 pub(crate) fn convert(reader: &mut Reader<'_>) -> Result<RawInst, Stop>
     ensures is { Gives same reader.new result (spec.convert_at reader.old) }
+    ensures no_memory { IfErr result (λ e. e ≢ NoMemory) }
     ensures shorter { IfOk result (λ _. length reader.new < length reader.old) }
 {
     let opcode = reader.take(Class::Convert)?;
@@ -121,6 +128,7 @@ pub(crate) fn convert(reader: &mut Reader<'_>) -> Result<RawInst, Stop>
 #[tactic(auto, unfolding(crate::specs::Forms::binary_imm_at))]
 pub(crate) fn binary_imm(reader: &mut Reader<'_>) -> Result<RawInst, Stop>
     ensures is { Gives same reader.new result (spec.binary_imm_at reader.old) }
+    ensures no_memory { IfErr result (λ e. e ≢ NoMemory) }
     ensures shorter { IfOk result (λ _. length reader.new < length reader.old) }
 {
     let opcode = reader.take(Class::BinaryImm)?;
@@ -139,6 +147,7 @@ pub(crate) fn binary_imm(reader: &mut Reader<'_>) -> Result<RawInst, Stop>
 #[tactic(auto, unfolding(crate::specs::Forms::icmp_imm_at))]
 pub(crate) fn icmp_imm(reader: &mut Reader<'_>) -> Result<RawInst, Stop>
     ensures is { Gives same reader.new result (spec.icmp_imm_at reader.old) }
+    ensures no_memory { IfErr result (λ e. e ≢ NoMemory) }
     ensures shorter { IfOk result (λ _. length reader.new < length reader.old) }
 {
     let opcode = reader.take(Class::IcmpImm)?;

@@ -1,7 +1,8 @@
 //! Instructions as the grammar reads them, with names that are not looked up yet.
 
 use clk_num::Cc;
-use ir_core::{List, Ty};
+use ir_core::{Boxed, List, Ty};
+use std::mem::size_of;
 
 /// An entity, a tag or a result by its word, as `v7`.
 #[derive(Clone, Copy, Debug, PartialEq, Eq)]
@@ -90,33 +91,33 @@ pub enum RawOperands {
     Load {
         flags: List<RawFlag>,
         address: RawName,
-        offset: Option<RawNumber>,
+        offset: Option<Boxed<RawNumber>>,
     },
     Store {
         flags: List<RawFlag>,
         value: RawName,
         address: RawName,
-        offset: Option<RawNumber>,
+        offset: Option<Boxed<RawNumber>>,
     },
     StackLoad {
         slot: RawName,
-        offset: Option<RawNumber>,
+        offset: Option<Boxed<RawNumber>>,
     },
     StackStore {
         value: RawName,
         slot: RawName,
-        offset: Option<RawNumber>,
+        offset: Option<Boxed<RawNumber>>,
     },
     FuncAddr(RawName),
     Jump(RawTarget),
     Brif {
         cond: RawName,
-        yes: RawTarget,
-        no: RawTarget,
+        yes: Boxed<RawTarget>,
+        no: Boxed<RawTarget>,
     },
     BrTable {
         index: RawName,
-        default: RawTarget,
+        default: Boxed<RawTarget>,
         entries: List<RawTarget>,
     },
     Return(List<RawName>),
@@ -130,8 +131,8 @@ pub enum RawOperands {
         callee: RawName,
         args: List<RawName>,
         sig: RawName,
-        normal: RawTarget,
-        table: List<RawEntry>,
+        normal: Boxed<RawTarget>,
+        table: Boxed<List<RawEntry>>,
     },
     CallIndirect {
         sig: RawName,
@@ -142,8 +143,8 @@ pub enum RawOperands {
         address: RawName,
         args: List<RawName>,
         sig: RawName,
-        normal: RawTarget,
-        table: List<RawEntry>,
+        normal: Boxed<RawTarget>,
+        table: Boxed<List<RawEntry>>,
     },
 }
 
@@ -155,3 +156,6 @@ pub struct RawInst {
     pub suffix: Option<Ty>,
     pub operands: RawOperands,
 }
+
+/// A text has millions of instructions: how large one is decides how much memory and time reading it takes.
+const _: () = prove!(size_of::<RawInst>() <= 112);

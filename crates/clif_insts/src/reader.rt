@@ -1,6 +1,6 @@
 //! The tokens of a text, read one after the other.
 
-ghost use Rattle.std.specs.Prelude.{◌≡◌, ◌≢◌, ℕ, not, List, ◌∷◌, [], ◌<◌, ◌≤◌, length, drop, slice_get, false, IfOk, IfErr, IfSome};
+ghost use Rattle.std.specs.Prelude.{◌≡◌, ◌≢◌, ℕ, not, List, ◌∷◌, [], ◌<◌, ◌≤◌, length, take, drop, slice_get, slice_range, false, IfOk, IfErr, IfSome};
 ghost use Rattle.grammar.specs.Rules.{Lexeme, heads, heads_any};
 ghost use Rattle.clif_lex.specs.Spelling.{AreIn};
 ghost use Rattle.clif_words.specs.Classes.{code};
@@ -13,15 +13,28 @@ ghost use Rattle.clif_insts.specs.Next.{is_among};
 ghost use Rattle.clif_insts.specs.Next as next;
 ghost use Rattle.clif_insts.specs.Reading as spec;
 ghost use Rattle.clif_insts.specs.Reading.{Gives, same};
+ghost use Rattle.clif_insts.specs.Shown.{IsOf, Shows};
 
 use crate::opening::Opening;
 use crate::raw::{RawName, RawNumber, RawText};
 use crate::stop::Stop;
 use clif_lex::{TokenKind, Tokens};
-use clif_words::{Class, Meaning, token_meaning};
+use clif_words::{Class, token_meaning};
 use ir_core::List;
 use std::alloc::Global;
 use std::marker::Model;
+
+/// The next token. Where none is left, only its place says anything.
+#[derive(Clone, Copy)]
+struct Next {
+    /// Its place in the list, or where the reader ends.
+    at: usize,
+    class: Class,
+    /// Which of the words of its class it is.
+    number: u64,
+    /// Its first byte.
+    spot: usize,
+}
 
 /// The tokens that are still to be read. Comments are passed over.
 /// Contracts see the tokens as the grammar does.
@@ -29,23 +42,23 @@ use std::marker::Model;
 pub struct Reader<'a> {
     text: &'a [u8],
     tokens: &'a Tokens,
-    /// The next token's place in the list, or the list's length.
-    at: usize,
-    /// What the next token is.
-    next: Option<Meaning>,
+    /// The place in the list before which the reader ends.
+    end: usize,
+    next: Next,
 }
 
 impl<'a> Model for Reader<'a> {
-    ghost use Rattle.std.specs.Prelude.{List, drop, ◌≤◌, length};
+    ghost use Rattle.std.specs.Prelude.{List, take, drop, ◌≤◌, length};
     ghost use Rattle.grammar.specs.Rules.{Lexeme};
     ghost use Rattle.clif_lex.specs.Spelling.{AreIn};
-    ghost use Rattle.clif_words.specs.Lexemes.{lexemes, Upcoming};
+    ghost use Rattle.clif_words.specs.Lexemes.{lexemes};
+    ghost use Rattle.clif_insts.specs.Shown.{Shows};
 
     ghost Value = { List Lexeme };
 
-    ghost view = { λ r. lexemes r.text.now (drop r.at r.tokens.now) };
+    ghost view = { λ r. lexemes r.text.now (drop r.next.at (take r.«end» r.tokens.now)) };
 
-    ghost invariant = { λ r. AreIn r.text.now r.tokens.now × (r.at ≤ length r.tokens.now) × Upcoming r.text.now (drop r.at r.tokens.now) r.next };
+    ghost invariant = { λ r. AreIn r.text.now r.tokens.now × (r.next.at ≤ r.«end») × (r.«end» ≤ length r.tokens.now) × Shows r.text.now (drop r.next.at (take r.«end» r.tokens.now)) r.next };
 }
 
 /// Whether a token is a comment.
@@ -86,37 +99,40 @@ fn name_of(kind: TokenKind, spelling: &[u8]) -> &[u8]
     }
 }
 
-/// The first token from here on that is no comment, or the list's length.
+/// Keeps what the token at a place of the list is.
 #[inline]
-fn settle(text: &[u8], tokens: &Tokens, from: usize, end: usize) -> usize
-    requires within { from ≤ end }
-    requires whole { end ≡ length tokens.now }
-    ensures within { result ≤ length tokens.now }
-    ensures same { lexemes text.now (drop result tokens.now) ≡ lexemes text.now (drop from tokens.now) }
-    ensures no_comment { IfSome (slice_get tokens.now result) (λ token. lexeme_specs.is_comment token.kind ≡ false) }
+fn keep(next: &mut Next, text: &[u8], tokens: &Tokens, at: usize)
+    requires inside { AreIn text.now tokens.now }
+    requires below { at < length tokens.now }
+    ensures at { next.new.at ≡ at }
+    ensures token { IfSome (slice_get tokens.now at) (λ token. IsOf text.now token next.new) }
+{
+    let spot = tokens.get(at).start;
+    let meaning = token_meaning(text, tokens, at);
+    next.at = at;
+    next.class = meaning.class;
+    next.number = meaning.number;
+    next.spot = spot;
+}
+
+/// Goes on to the first token from a place on and before the end that is no comment.
+fn find(next: &mut Next, text: &[u8], tokens: &Tokens, from: usize, end: usize)
+    requires inside { AreIn text.now tokens.now }
+    requires ordered { from ≤ «end» }
+    requires within { «end» ≤ length tokens.now }
+    ensures within { next.new.at ≤ «end» }
+    ensures same { lexemes text.now (drop next.new.at (take «end» tokens.now)) ≡ lexemes text.now (drop from (take «end» tokens.now)) }
+    ensures shows { Shows text.now (drop next.new.at (take «end» tokens.now)) next.new }
 {
     let mut at = from;
     'comments: while at < end {
         if !is_comment(tokens.get(at).kind) {
-            return at;
+            keep(next, text, tokens, at);
+            return;
         }
         at += 1;
     }
-    at
-}
-
-/// What the next token is.
-#[inline]
-fn upcoming(text: &[u8], tokens: &Tokens, at: usize) -> Option<Meaning>
-    requires inside { AreIn text.now tokens.now }
-    requires no_comment { IfSome (slice_get tokens.now at) (λ token. lexeme_specs.is_comment token.kind ≡ false) }
-    ensures { lexeme_specs.Upcoming text.now (drop at tokens.now) result }
-{
-    if at < tokens.len() {
-        Some(token_meaning(text, tokens, at))
-    } else {
-        None
-    }
+    next.at = at;
 }
 
 impl<'a> Reader<'a> {
@@ -126,12 +142,27 @@ impl<'a> Reader<'a> {
         requires within { from ≤ length tokens.now }
         ensures { result ≡ lexemes text.now (drop from tokens.now) }
     {
-        let at = settle(text, tokens, from, tokens.len());
-        let next = upcoming(text, tokens, at);
+        Reader::between(text, tokens, from, tokens.len())
+    }
+
+    /// The tokens of a text from a place of their list on and before another.
+    pub fn between(text: &'a [u8], tokens: &'a Tokens, from: usize, end: usize) -> Self
+        requires inside { AreIn text.now tokens.now }
+        requires ordered { from ≤ «end» }
+        requires within { «end» ≤ length tokens.now }
+        ensures { result ≡ lexemes text.now (slice_range tokens.now from «end») }
+    {
+        let mut next = Next {
+            at: end,
+            class: Class::Other,
+            number: 0,
+            spot: 0,
+        };
+        find(&mut next, text, tokens, from, end);
         Reader {
             text,
             tokens,
-            at,
+            end,
             next,
         }
     }
@@ -144,9 +175,17 @@ impl<'a> Reader<'a> {
         Reader {
             text: self.text,
             tokens: self.tokens,
-            at: self.at,
+            end: self.end,
             next: self.next,
         }
+    }
+
+    /// Whether a token is left.
+    #[inline]
+    fn is_left(&self) -> bool
+        ensures { result ≡ heads_any self.now }
+    {
+        self.next.at < self.end
     }
 
     /// Whether the next token is of this class.
@@ -154,10 +193,7 @@ impl<'a> Reader<'a> {
     pub fn next_is(&self, class: Class) -> bool
         ensures { result ≡ spec.next_is class self.now }
     {
-        match self.next {
-            Some(next) => class as u8 == next.class as u8,
-            None => false,
-        }
+        self.is_left() && class as u8 == self.next.class as u8
     }
 
     /// Whether the next token is of one of these classes.
@@ -181,9 +217,10 @@ impl<'a> Reader<'a> {
     pub fn next_class(&self) -> Option<Class>
         ensures { (codes : List ℕ) → is_among result codes ≡ heads codes self.now }
     {
-        match self.next {
-            Some(next) => Some(next.class),
-            None => None,
+        if self.is_left() {
+            Some(self.next.class)
+        } else {
+            None
         }
     }
 
@@ -192,20 +229,14 @@ impl<'a> Reader<'a> {
     pub fn is_at_end(&self) -> bool
         ensures { result ≡ not (heads_any self.now) }
     {
-        match self.next {
-            Some(_) => false,
-            None => true,
-        }
+        !self.is_left()
     }
 
     /// The first byte of the next token, or this end where there is none.
     pub fn spot_or(&self, end: usize) -> usize
         ensures { result ≡ next.spot_or end self.now }
     {
-        match self.next {
-            Some(_) => self.tokens.get(self.at).start,
-            None => end,
-        }
+        if self.is_left() { self.next.spot } else { end }
     }
 
     /// The name that the next token spells.
@@ -214,13 +245,9 @@ impl<'a> Reader<'a> {
         requires { self.now ≢ [] }
         ensures { (x : Lexeme) (xs : List Lexeme) → self.now ≡ x ∷ xs → result ≡ spec.name x }
     {
-        let number = match self.next {
-            Some(next) => next.number,
-            None => 0,
-        };
         RawName {
-            number,
-            spot: self.tokens.get(self.at).start,
+            number: self.next.number,
+            spot: self.next.spot,
         }
     }
 
@@ -230,9 +257,9 @@ impl<'a> Reader<'a> {
         requires { self.now ≢ [] }
         ensures { (x : Lexeme) (xs : List Lexeme) → self.now ≡ x ∷ xs → result ≡ x.amount }
     {
-        let token = self.tokens.get(self.at);
+        let token = self.tokens.get(self.next.at);
         if is_number(token.kind) {
-            self.tokens.number(self.text, self.at)
+            self.tokens.number(self.text, self.next.at)
         } else {
             0
         }
@@ -254,10 +281,7 @@ impl<'a> Reader<'a> {
     pub fn next_is_refused(&self, opening: Opening) -> bool
         ensures { result ≡ heads (words_but (excepted opening)) self.now }
     {
-        match self.next {
-            Some(next) => opening.refuses(next.class),
-            None => false,
-        }
+        self.is_left() && opening.refuses(self.next.class)
     }
 
     /// What the next token spells as a name.
@@ -266,8 +290,8 @@ impl<'a> Reader<'a> {
         ensures some { (x : Lexeme) (xs : List Lexeme) → self.now ≡ x ∷ xs → IfOk result (λ r. r ≡ names.text x) }
         ensures none { IfErr result (λ e. e ≡ NoMemory) }
     {
-        let token = self.tokens.get(self.at);
-        let bytes = name_of(token.kind, self.tokens.spelling(self.text, self.at));
+        let token = self.tokens.get(self.next.at);
+        let bytes = name_of(token.kind, self.tokens.spelling(self.text, self.next.at));
         Ok(RawText {
             bytes: List::from_vec(Vec::from_slice(alloc, bytes)?),
             spot: token.start,
@@ -280,10 +304,8 @@ impl<'a> Reader<'a> {
         requires { self.old ≢ [] }
         ensures { self.new ≡ drop 1 self.old }
     {
-        let end = self.tokens.len();
-        let at = settle(self.text, self.tokens, self.at + 1, end);
-        self.next = upcoming(self.text, self.tokens, at);
-        self.at = at;
+        let behind = self.next.at + 1;
+        find(&mut self.next, self.text, self.tokens, behind, self.end);
     }
 
     /// The name that a token of this class spells.

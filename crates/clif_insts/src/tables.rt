@@ -1,6 +1,7 @@
 //! Exception tables.
 
-ghost use Rattle.std.specs.Prelude.{◌<◌, ◌≤◌, length, IfOk};
+ghost use Rattle.std.specs.Prelude.{◌≢◌, ◌<◌, ◌≤◌, length, IfOk, IfErr};
+ghost use Rattle.clif_insts.specs.declared.stop.Stop.TheVariants.{NoMemory};
 ghost use Rattle.clif_insts.specs.Reading.{Gives, same};
 ghost use Rattle.clif_insts.specs.Tables as spec;
 
@@ -10,12 +11,14 @@ use crate::reader::Reader;
 use crate::stop::Stop;
 use crate::targets::{Place, target};
 use clif_words::Class;
+use ir_core::{Boxed, List};
 use std::alloc::Global;
 
 /// `tagN` or `default`.
 #[tactic(auto, unfolding(crate::specs::Tables::entry_tag_at))]
 pub(crate) fn entry_tag(reader: &mut Reader<'_>) -> Result<Option<RawName>, Stop>
     ensures is { Gives same reader.new result (spec.entry_tag_at reader.old) }
+    ensures no_memory { IfErr result (λ e. e ≢ NoMemory) }
     ensures shorter { IfOk result (λ _. length reader.new < length reader.old) }
 {
     if reader.next_is(Class::Tag) {
@@ -93,4 +96,16 @@ pub(crate) fn table(alloc: Global, reader: &mut Reader<'_>) -> Result<Vec<RawEnt
     };
     reader.take(Class::RightBracket)?;
     Ok(list)
+}
+
+/// A table behind a pointer: so an instruction is no larger for it.
+pub(crate) fn boxed_table(
+    alloc: Global,
+    reader: &mut Reader<'_>,
+) -> Result<Boxed<List<RawEntry>>, Stop>
+    ensures is { Gives same reader.new result (spec.table_at reader.old) }
+    ensures shorter { IfOk result (λ _. length reader.new < length reader.old) }
+{
+    let entries = table(alloc, reader)?;
+    Ok(Boxed::new(alloc, List::from_vec(entries))?)
 }

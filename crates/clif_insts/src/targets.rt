@@ -1,6 +1,7 @@
 //! Targets of branches.
 
-ghost use Rattle.std.specs.Prelude.{◌≡◌, ◌<◌, ◌≤◌, length, IfOk};
+ghost use Rattle.std.specs.Prelude.{◌≡◌, ◌≢◌, ◌<◌, ◌≤◌, length, IfOk, IfErr};
+ghost use Rattle.clif_insts.specs.declared.stop.Stop.TheVariants.{NoMemory};
 ghost use Rattle.clif_insts.specs.Reading.{Gives, same};
 ghost use Rattle.clif_insts.specs.Targets as spec;
 
@@ -9,7 +10,7 @@ use crate::raw::{RawArg, RawTarget};
 use crate::reader::Reader;
 use crate::stop::Stop;
 use clif_words::Class;
-use ir_core::List;
+use ir_core::{Boxed, List};
 use std::alloc::Global;
 
 /// Where a target stands: at a branch, as the normal target of a `try_call`, or in its table.
@@ -25,6 +26,7 @@ pub enum Place {
 #[tactic(auto, unfolding(crate::specs::Targets::arg_at))]
 pub(crate) fn arg(reader: &mut Reader<'_>, place: Place) -> Result<RawArg, Stop>
     ensures is { Gives same reader.new result (spec.arg_at place reader.old) }
+    ensures no_memory { IfErr result (λ e. e ≢ NoMemory) }
     ensures shorter { IfOk result (λ _. length reader.new < length reader.old) }
 {
     match place {
@@ -49,6 +51,7 @@ pub(crate) fn arg(reader: &mut Reader<'_>, place: Place) -> Result<RawArg, Stop>
 #[tactic(auto, unfolding(crate::specs::Targets::comma_arg_at))]
 pub(crate) fn comma_arg(reader: &mut Reader<'_>, place: Place) -> Result<RawArg, Stop>
     ensures is { Gives same reader.new result (spec.comma_arg_at place reader.old) }
+    ensures no_memory { IfErr result (λ e. e ≢ NoMemory) }
     ensures shorter { IfOk result (λ _. length reader.new < length reader.old) }
 {
     reader.take(Class::Comma)?;
@@ -148,6 +151,19 @@ pub(crate) fn target(
         block,
         args: List::from_vec(args),
     })
+}
+
+/// A target behind a pointer: so an instruction is no larger for it.
+pub(crate) fn boxed_target(
+    alloc: Global,
+    reader: &mut Reader<'_>,
+    place: Place,
+) -> Result<Boxed<RawTarget>, Stop>
+    ensures is { Gives same reader.new result (spec.target_at place reader.old) }
+    ensures shorter { IfOk result (λ _. length reader.new < length reader.old) }
+{
+    let target = target(alloc, reader, place)?;
+    Ok(Boxed::new(alloc, target)?)
 }
 
 #[tactic(auto, unfolding(crate::specs::Targets::comma_target_at))]

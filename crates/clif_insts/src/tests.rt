@@ -104,6 +104,40 @@ fn refusal(alloc: Global, text: &str, opening: Opening) -> Option<Stop> {
     }
 }
 
+/// Whether nothing stands behind the instruction between two places of the list of the text's tokens, or why there is none.
+fn is_alone_between(alloc: Global, text: &str, from: usize, end: usize) -> Result<bool, Stop> {
+    let bytes = text.as_bytes();
+    let Ok(list) = tokens(alloc, bytes) else {
+        return Err(Stop::NoMemory);
+    };
+    if from > end || end > list.len() {
+        return Err(Stop::NoMemory);
+    }
+    let mut reader = Reader::between(bytes, &list, from, end);
+    any_inst(alloc, &mut reader, Opening::AfterResults)?;
+    Ok(reader.is_at_end())
+}
+
+#[test]
+fn reads_between_two_places(rt: HostRuntime) {
+    for (from, end, found) in [
+        (0, 1, Ok(true)),
+        (0, 2, Ok(true)),
+        (0, 3, Ok(false)),
+        (1, 6, Ok(true)),
+        (2, 7, Ok(false)),
+        (1, 2, Err(Stop::Syntax)),
+        (2, 5, Err(Stop::Syntax)),
+        (7, 7, Err(Stop::Syntax)),
+    ] {
+        assert_eq!(rt;
+            is_alone_between(rt.alloc(), "nop ; a comment\niadd v0, v1 nop", from, end),
+            found,
+            "at {from}"
+        );
+    }
+}
+
 #[test]
 fn refuses_words_by_what_stands_before(rt: HostRuntime) {
     for (text, opening, why) in [

@@ -49,6 +49,7 @@ pub fn any_type(reader: &mut Reader<'_>) -> Result<Ty, Stop>
 #[tactic(auto, unfolding(crate::specs::Types::suffix_at))]
 pub(crate) fn suffix(reader: &mut Reader<'_>) -> Result<Ty, Stop>
     ensures is { Gives same reader.new result (spec.suffix_at reader.old) }
+    ensures no_memory { IfErr result (λ e. e ≢ NoMemory) }
     ensures shorter { IfOk result (λ _. length reader.new < length reader.old) }
 {
     reader.take(Class::Dot)?;
@@ -59,6 +60,7 @@ pub(crate) fn suffix(reader: &mut Reader<'_>) -> Result<Ty, Stop>
 #[tactic(auto, unfolding(crate::specs::Types::opt_suffix_at))]
 pub(crate) fn opt_suffix(reader: &mut Reader<'_>) -> Result<Option<Ty>, Stop>
     ensures is { Gives same reader.new result (spec.opt_suffix_at reader.old) }
+    ensures no_memory { IfErr result (λ e. e ≢ NoMemory) }
     ensures shorter { IfOk result (λ _. length reader.new ≤ length reader.old) }
 {
     if reader.next_is(Class::Dot) {
@@ -72,6 +74,7 @@ pub(crate) fn opt_suffix(reader: &mut Reader<'_>) -> Result<Option<Ty>, Stop>
 #[tactic(auto, unfolding(crate::specs::Types::i64_at))]
 pub(crate) fn i64_type(reader: &mut Reader<'_>) -> Result<RawName, Stop>
     ensures is { Gives same reader.new result (spec.i64_at reader.old) }
+    ensures no_memory { IfErr result (λ e. e ≢ NoMemory) }
     ensures shorter { IfOk result (λ _. length reader.new < length reader.old) }
 {
     if reader.next_is(Class::TyI64) {
@@ -89,6 +92,7 @@ pub(crate) fn i64_type(reader: &mut Reader<'_>) -> Result<RawName, Stop>
 #[tactic(auto, unfolding(crate::specs::Types::suffix_i64_at))]
 pub(crate) fn suffix_i64(reader: &mut Reader<'_>) -> Result<RawName, Stop>
     ensures is { Gives same reader.new result (spec.suffix_i64_at reader.old) }
+    ensures no_memory { IfErr result (λ e. e ≢ NoMemory) }
     ensures shorter { IfOk result (λ _. length reader.new < length reader.old) }
 {
     reader.take(Class::Dot)?;
@@ -99,6 +103,7 @@ pub(crate) fn suffix_i64(reader: &mut Reader<'_>) -> Result<RawName, Stop>
 #[tactic(auto, unfolding(crate::specs::Types::opt_suffix_i64_at))]
 pub(crate) fn opt_suffix_i64(reader: &mut Reader<'_>) -> Result<Option<RawName>, Stop>
     ensures is { Gives same reader.new result (spec.opt_suffix_i64_at reader.old) }
+    ensures no_memory { IfErr result (λ e. e ≢ NoMemory) }
     ensures shorter { IfOk result (λ _. length reader.new ≤ length reader.old) }
 {
     if reader.next_is(Class::Dot) {

@@ -14,9 +14,8 @@ use Rattle.clif_insts.specs.declared.raw.RawInst.{RawInst}
 use Rattle.clif_read.specs.declared.raw.RawTag.{RawTag}
 use Rattle.clif_read.specs.declared.raw.RawLine.{RawLine}
 use Rattle.clif_read.specs.declared.raw.RawLine.TheVariants as raw_lines
-use Rattle.clif_read.specs.declared.lines.LinePart.TheVariants.{Whole, Values}
 use Rattle.clif_read.specs.ModuleGrammar.{debug_tags, made, named, named_or_values, tagged, located, other_line, line, line_or_values}
-use Rattle.clif_read.specs.LineValues.{made_value, debug_tags_value, values_from, named_by, named_value, tagged_by, tagged_value, located_value, other_line_value, line_value, named_or_values_value, line_or_values_value}
+use Rattle.clif_read.specs.LineValues.{Whole, Values, made_value, debug_tags_value, values_from, named_by, named_value, tagged_by, tagged_value, located_value, other_line_value, line_value, named_or_values_value, line_or_values_value}
 use Rattle.clif_read.specs.Lines.{returns, is_return}
 use Rattle.clif_read.proofs.Ends.{Ends, never_ends, token_ends, either_ends, refused_ends, then_ends, also_ends}
 

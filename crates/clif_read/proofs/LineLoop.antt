@@ -1,15 +1,14 @@
 -- The loop over the lines of a block.
 use Rattle.std.proofs.Common.{◌≡◌, ℕ, zero, suc, ◌+◌, ◌≤◌, ◌<◌, Bool, true, false, List, [], ◌∷◌, length, Ok, Err, slice_index_or, slice_set, ap, sym, ◌∙◌, arith, refl}
-use Rattle.grammar.specs.Rules.{Lexeme, Kind, Syntax, UnknownOpcode, Unsupported, Out, heads, firsts}
+use Rattle.grammar.specs.Rules.{Lexeme, Kind, Syntax, UnknownOpcode, Unsupported, Out, heads, firsts, ◌>>=◌}
 use Rattle.clif_insts.specs.declared.stop.Stop.{Stop}
 use Rattle.clif_insts.specs.declared.stop.Stop.TheVariants as stops
 use Rattle.clif_insts.specs.Reading.{Stops}
 use Rattle.clif_insts.specs.declared.raw.RawName.{RawName}
 use Rattle.clif_read.specs.declared.raw.RawLine.{RawLine}
-use Rattle.clif_read.specs.declared.lines.LinePart.{LinePart}
 use Rattle.clif_read.specs.ModuleGrammar.{line}
-use Rattle.clif_read.specs.LineValues.{with_values}
-use Rattle.clif_read.specs.Lines.{line_at, is_return, to_last, add_part, more_lines_at}
+use Rattle.clif_read.specs.LineValues.{LinePart, with_values}
+use Rattle.clif_read.specs.Lines.{line_at, is_return, to_last, add_part, adding, more_lines_at}
 
 -- What the loop keeps: the lines so far, and what is still read, are what is read in all. Enough turns are left.
 abbrev pub KeepsLines : List RawLine → Bool → List Lexeme → Out (List RawLine) → Type 0
@@ -19,25 +18,33 @@ some_left : (cs : List ℕ) (ts : List Lexeme) → heads cs ts ≡ true → 1 �
 some_left cs [] h = absurd cc
 some_left cs (x ∷ xs) h = omega arith
 
-pub goes_on : (before now : List RawLine) (after_return next : Bool) (ts after : List Lexeme) (part : LinePart) (total : Out (List RawLine))
-    → heads (firsts line) ts ≡ true → line_at after_return ts ≡ Ok (part, after) → length after < length ts → now ≡ add_part before part → next ≡ is_return part
+-- the lines behind a part
+abbrev behind : ℕ → (List RawLine × Bool) × List Lexeme → Out (List RawLine)
+behind n x = more_lines_at n x.0.0 x.0.1 x.1
+
+one_by_one : (n : ℕ) (before : List RawLine) (o : Out LinePart) → (o >>= λ part. more_lines_at n (add_part before part.0) (is_return part.0) part.1) ≡ (adding before o >>= behind n)
+one_by_one n before (Ok x) = refl
+one_by_one n before (Err e) = refl
+
+pub goes_on : (before now : List RawLine) (after_return next : Bool) (ts after : List Lexeme) (total : Out (List RawLine))
+    → heads (firsts line) ts ≡ true → adding before (line_at after_return ts) ≡ Ok ((now, next), after) → length after < length ts
     → KeepsLines before after_return ts total → KeepsLines now next after total
 unfolding more_lines_at
-goes_on before now after_return next ts after part total h e less f g (zero, le, so_far) = absurd (let k = some_left (firsts line) ts h in omega arith)
-goes_on before now after_return next ts after part total h e less f g (suc n, le, so_far) =
-    let one : more_lines_at (suc n) before after_return ts ≡ more_lines_at n now next after = rw (h, e, f, g) refl in
+goes_on before now after_return next ts after total h e less (zero, le, so_far) = absurd (let k = some_left (firsts line) ts h in omega arith)
+goes_on before now after_return next ts after total h e less (suc n, le, so_far) =
+    let one : more_lines_at (suc n) before after_return ts ≡ more_lines_at n now next after = rw h (one_by_one n before (line_at after_return ts) ∙ ap (λ o. o >>= behind n) e) in
     (n, omega arith, sym one ∙ so_far)
 
 fails_as : (before : List RawLine) (after_return : Bool) (ts now : List Lexeme) (k : Kind) (total : Out (List RawLine))
-    → heads (firsts line) ts ≡ true → line_at after_return ts ≡ Err (k, now) → KeepsLines before after_return ts total → total ≡ Err (k, now)
+    → heads (firsts line) ts ≡ true → adding before (line_at after_return ts) ≡ Err (k, now) → KeepsLines before after_return ts total → total ≡ Err (k, now)
 unfolding more_lines_at
 fails_as before after_return ts now k total h e (zero, le, so_far) = absurd (let s = some_left (firsts line) ts h in omega arith)
 fails_as before after_return ts now k total h e (suc n, le, so_far) =
-    let one : more_lines_at (suc n) before after_return ts ≡ Err (k, now) = rw (h, e) refl in
+    let one : more_lines_at (suc n) before after_return ts ≡ Err (k, now) = rw h (one_by_one n before (line_at after_return ts) ∙ ap (λ o. o >>= behind n) e) in
     sym so_far ∙ one
 
 pub fails : (before : List RawLine) (after_return : Bool) (ts now : List Lexeme) (stop : Stop) (total : Out (List RawLine))
-    → heads (firsts line) ts ≡ true → Stops now stop (line_at after_return ts) → KeepsLines before after_return ts total → Stops now stop total
+    → heads (firsts line) ts ≡ true → Stops now stop (adding before (line_at after_return ts)) → KeepsLines before after_return ts total → Stops now stop total
 fails before after_return ts now stops.NoMemory total h e k = tt
 fails before after_return ts now stops.Syntax total h e k = fails_as before after_return ts now Syntax total h e k
 fails before after_return ts now stops.UnknownOpcode total h e k = fails_as before after_return ts now UnknownOpcode total h e k

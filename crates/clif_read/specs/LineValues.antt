@@ -14,9 +14,12 @@ use Rattle.clif_read.specs.declared.raw.RawTag.{RawTag}
 use Rattle.clif_read.specs.declared.raw.RawTag.TheVariants as tag_kinds
 use Rattle.clif_read.specs.declared.raw.RawLine.{RawLine}
 use Rattle.clif_read.specs.declared.raw.RawLine.TheVariants as raw_lines
-use Rattle.clif_read.specs.declared.lines.LinePart.{LinePart}
-use Rattle.clif_read.specs.declared.lines.LinePart.TheVariants.{Whole, Values}
 use Rattle.clif_read.specs.ModuleGrammar.{debug_tag, debug_tags, made, named, named_or_values, tagged, located, other_line, line, line_or_values, lines}
+
+-- what stands where a line may begin: a line, or behind a `return` its values
+pub data LinePart : Type 0 where
+  Whole : RawLine → LinePart
+  Values : List RawName → LinePart
 
 abbrev pub made_value : Value made → RawInst
 made_value v = inst_value [] v.1

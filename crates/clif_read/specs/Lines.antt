@@ -1,5 +1,5 @@
 -- The lines of a block, read from left to right.
-use Rattle.std.specs.Prelude.{ℕ, zero, suc, Bool, true, false, if◌then◌else◌, List, [], ◌∷◌, ◌++◌, length, Option, Some, None, Ok}
+use Rattle.std.specs.Prelude.{ℕ, zero, suc, Bool, true, false, if◌then◌else◌, List, [], ◌∷◌, ◌++◌, length, Option, Some, None, Result, Ok}
 use Rattle.grammar.specs.Rules.{Lexeme, Out, heads, firsts, ◌>>=◌}
 use Rattle.clif_words.specs.declared.class.Class.TheVariants as classes
 use Rattle.clif_insts.specs.declared.opening.Opening.{Opening}
@@ -8,16 +8,15 @@ use Rattle.clif_insts.specs.declared.raw.RawName.{RawName}
 use Rattle.clif_insts.specs.declared.raw.RawInst.{RawInst}
 use Rattle.clif_insts.specs.declared.raw.RawOperands.{RawOperands}
 use Rattle.clif_insts.specs.declared.raw.RawOperands.TheVariants as operands
-use Rattle.clif_insts.specs.Reading.{next_is, name_at}
+use Rattle.clif_insts.specs.declared.stop.Stop.{Stop}
+use Rattle.clif_insts.specs.Reading.{Gives, next_is, name_at}
 use Rattle.clif_insts.specs.Arguments.{more_values_at, values_at}
 use Rattle.clif_insts.specs.Forms.{inst_at}
 use Rattle.clif_read.specs.declared.raw.RawTag.{RawTag}
 use Rattle.clif_read.specs.declared.raw.RawLine.{RawLine}
 use Rattle.clif_read.specs.declared.raw.RawLine.TheVariants as raw_lines
-use Rattle.clif_read.specs.declared.lines.LinePart.{LinePart}
-use Rattle.clif_read.specs.declared.lines.LinePart.TheVariants.{Whole, Values}
 use Rattle.clif_read.specs.ModuleGrammar.{line}
-use Rattle.clif_read.specs.LineValues.{with_values}
+use Rattle.clif_read.specs.LineValues.{LinePart, Whole, Values, with_values}
 use Rattle.clif_read.specs.Tags.{debug_tags_at}
 
 -- an instruction behind the `=` of its results
@@ -123,6 +122,18 @@ to_last values (l ∷ next ∷ more) = l ∷ to_last values (next ∷ more)
 abbrev pub add_part : List RawLine → LinePart → List RawLine
 add_part before (Whole l) = before ++ l ∷ []
 add_part before (Values values) = to_last values before
+
+-- a line that is read is a part
+abbrev pub whole : Out RawLine → Out LinePart
+whole given = given >>= λ l. Ok (Whole l.0, l.1)
+
+-- Lines with the part that is read behind them, and whether it is a `return`.
+abbrev pub adding : List RawLine → Out LinePart → Out (List RawLine × Bool)
+adding before given = given >>= λ p. Ok ((add_part before p.0, is_return p.0), p.1)
+
+-- What a reader that adds to lines left of them, and what it returned, are what reading gives.
+abbrev pub Adds : List RawLine → List RawLine → List Lexeme → Result Bool Stop → Out LinePart → Type 0
+Adds before after now result given = Gives (λ flag. (after, flag)) now result (adding before given)
 
 -- at most n lines behind those before
 unfoldable pub more_lines_at : ℕ → List RawLine → Bool → List Lexeme → Out (List RawLine)

@@ -1,23 +1,29 @@
-use Rattle.std.proofs.Common.{◌<◌, length, drop, sym, ap, ◌∙◌, arith}
+use Rattle.std.proofs.Common.{take, drop, sym, ap, ◌∙◌, arith}
 use Rattle.std.proofs.lemmas.Grind.{common_steps}
-use Rattle.clif_insts.proofs.Views.{some_at, some_next, takes, upcoming_not}
+use Rattle.clif_insts.proofs.Ends.{next_within, some_taken}
+use Rattle.clif_insts.proofs.Shown.{shown_not}
+use Rattle.clif_insts.proofs.Views.{some_at, takes}
 use Rattle.clif_insts.proofs.reader.Reader.advance.Goals as goal
 
-pub settle-at-requires-clause-within : goal.settle-at-requires-clause-within
-settle-at-requires-clause-within c =
+pub find-requires-clause-ordered : goal.find-requires-clause-ordered
+find-requires-clause-ordered c =
     let i = c.self.inside in
-    let less : i.at < length i.tokens.now = some_next i.text.now i.tokens.now i.at (rw (c.self.view_is) c.requires) in
-    omega (arith, c.len-end.ensures)
+    let within = next_within i.text.now i.tokens.now i.next.at i.«end» (rw (c.self.view_is) c.requires) in
+    let less = within.0 in
+    omega arith
 
-pub overflow_add-self-inside : goal.overflow_add-self-inside
-overflow_add-self-inside c =
+pub overflow_add-behind : goal.overflow_add-behind
+overflow_add-behind c =
     let i = c.self.inside in
-    let less : i.at < length i.tokens.now = some_next i.text.now i.tokens.now i.at (rw (c.self.view_is) c.requires) in
+    let within = next_within i.text.now i.tokens.now i.next.at i.«end» (rw (c.self.view_is) c.requires) in
+    let less = within.0 in
     grind (arith, common_steps)
 
 pub returns : goal.returns
 returns c =
     let i = c.self.inside in
-    let less : i.at < length i.tokens.now = some_next i.text.now i.tokens.now i.at (rw (c.self.view_is) c.requires) in
-    let t = some_at i.tokens.now i.at less in
-    c.settle-at.ensures.same ∙ sym (ap (drop 1) (sym c.self.view_is ∙ takes i.text.now i.tokens.now i.at t.0 t.1 (upcoming_not i.text.now i.tokens.now i.at t.0 i.next t.1 c.self.invariant.2)))
+    let ts = take i.«end» i.tokens.now in
+    let within = next_within i.text.now i.tokens.now i.next.at i.«end» (rw (c.self.view_is) c.requires) in
+    let t = some_at i.tokens.now i.next.at within.1 in
+    let kept = some_taken i.tokens.now i.next.at i.«end» t.0 within.0 t.1 in
+    c.find.ensures.same ∙ sym (ap (drop 1) (sym c.self.view_is ∙ takes i.text.now ts i.next.at t.0 kept (shown_not i.text.now ts i.next.at t.0 i.next kept c.self.invariant.3)))

@@ -1,15 +1,11 @@
-use Rattle.std.proofs.Common.{}
-use Rattle.clif_insts.proofs.Views.{heads_among, heads_none_among}
+use Rattle.std.proofs.Common.{sym, ◌∙◌}
+use Rattle.clif_words.specs.Words.{means}
+use Rattle.clif_insts.proofs.Shown.{shown_some}
+use Rattle.clif_insts.proofs.Views.{heads_among}
 use Rattle.clif_insts.proofs.reader.Reader.next_class.Goals as goal
 
-pub returns-in-Some : goal.returns-in-Some
-returns-in-Some c = λ codes.
+pub returns-then-is_left : goal.returns-then-is_left
+returns-then-is_left c = λ codes.
     let i = c.self.inside in
-    let up = c.self.invariant.2 in
-    rw (← c.self.view_is) (heads_among i.text.now _ c.in-Some.next codes (rw (c.in-Some.is) at up))
-
-pub returns-in-None : goal.returns-in-None
-returns-in-None c = λ codes.
-    let i = c.self.inside in
-    let up = c.self.invariant.2 in
-    rw (← c.self.view_is) (heads_none_among i.text.now _ codes (rw (c.in-None.is) at up))
+    let up = shown_some i.text.now _ i.next c.self.invariant.3 (rw (c.self.view_is) (sym c.is_left.ensures ∙ c.if-is_left.true)) in
+    rw (← c.self.view_is) (heads_among i.text.now _ (means i.next.class i.next.number) codes up)

@@ -1,20 +1,8 @@
-use Rattle.clif_insts.proofs.Next.{there, spot_some, spot_none}
+use Rattle.std.proofs.Common.{sym, ◌∙◌}
+use Rattle.clif_insts.proofs.Shown.{spot_shown}
 use Rattle.clif_insts.proofs.reader.Reader.spot_or.Goals as goal
 
-pub get-requires : goal.get-requires
-get-requires c =
+pub returns-then-is_left : goal.returns-then-is_left
+returns-then-is_left c =
     let i = c.self.inside in
-    let up = c.self.invariant.2 in
-    there i.text.now i.tokens.now i.at c.in-Some.field-0 (rw (c.in-Some.is) at up)
-
-pub returns-in-Some : goal.returns-in-Some
-returns-in-Some c =
-    let i = c.self.inside in
-    let up = c.self.invariant.2 in
-    rw (← c.self.view_is) (spot_some i.text.now i.tokens.now i.at c.get.result c.in-Some.field-0 c.args.«end» c.get.ensures (rw (c.in-Some.is) at up))
-
-pub returns-in-None : goal.returns-in-None
-returns-in-None c =
-    let i = c.self.inside in
-    let up = c.self.invariant.2 in
-    rw (← c.self.view_is) (spot_none i.text.now _ c.args.«end» (rw (c.in-None.is) at up))
+    rw (← c.self.view_is) (spot_shown i.text.now _ i.next c.args.«end» c.self.invariant.3 (rw (c.self.view_is) (sym c.is_left.ensures ∙ c.if-is_left.true)))

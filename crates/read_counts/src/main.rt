@@ -29,7 +29,7 @@ enum Step {
 
 /// How much was found.
 #[derive(Clone, Copy)]
-enum Count {
+enum Found {
     Bytes(usize),
     Tokens(usize),
     Lines { functions: usize, lines: usize },
@@ -56,7 +56,7 @@ fn workers_of(word: Option<&String>) -> Option<usize> {
 
 /// The functions of a module, and the lines of their blocks. The module stays in memory: the program ends here, and
 /// reading alone is measured.
-fn lines_of(found: RawModule) -> Count {
+fn lines_of(found: RawModule) -> Found {
     let mut lines: usize = 0;
     for function in found.functions.as_slice() {
         for block in function.blocks.as_slice() {
@@ -65,20 +65,20 @@ fn lines_of(found: RawModule) -> Count {
     }
     let functions = found.functions.as_slice().len();
     forget(found);
-    Count::Lines { functions, lines }
+    Found::Lines { functions, lines }
 }
 
-/// What the step finds in a text.
-fn count<R: Threads + Sync>(
+/// What a text has, as far as the step reads it.
+fn read<R: Threads + Sync>(
     rt: &R,
     alloc: Global,
     text: &[u8],
     step: Step,
     workers: usize,
-) -> Result<Count, TextErr> {
+) -> Result<Found, TextErr> {
     match step {
-        Step::Bytes => Ok(Count::Bytes(text.len())),
-        Step::Tokens => Ok(Count::Tokens(tokens(alloc, text)?.len())),
+        Step::Bytes => Ok(Found::Bytes(text.len())),
+        Step::Tokens => Ok(Found::Tokens(tokens(alloc, text)?.len())),
         Step::Raw => {
             let list = tokens(alloc, text)?;
             let found = read_raw(rt, alloc, text, &list, workers)?;
@@ -104,13 +104,13 @@ fn main(rt: HostRuntime) -> ExitCode {
     let Ok(bytes) = read_whole(rt.alloc(), &mut StdSource::new(rt.stdin()), LIMIT) else {
         return ExitCode::FAILURE;
     };
-    let Ok(count) = count(&rt, rt.alloc(), bytes.as_slice(), step, workers) else {
+    let Ok(found) = read(&rt, rt.alloc(), bytes.as_slice(), step, workers) else {
         return ExitCode::FAILURE;
     };
-    let written = match count {
-        Count::Bytes(bytes) => println!(rt; "{bytes} bytes"),
-        Count::Tokens(tokens) => println!(rt; "{tokens} tokens"),
-        Count::Lines { functions, lines } => println!(rt; "{functions} functions, {lines} lines"),
+    let written = match found {
+        Found::Bytes(bytes) => println!(rt; "{bytes} bytes"),
+        Found::Tokens(tokens) => println!(rt; "{tokens} tokens"),
+        Found::Lines { functions, lines } => println!(rt; "{functions} functions, {lines} lines"),
     };
     match written {
         Ok(()) => ExitCode::SUCCESS,

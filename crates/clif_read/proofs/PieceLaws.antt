@@ -1,13 +1,14 @@
 -- What stands in the pieces of a text stands in the text.
-use Rattle.std.proofs.Common.{◌≡◌, ℕ, ◌≤◌, true, false, not, Bool, cond, List, [], ◌∷◌, ◌++◌, length, map, Ok, Err, refl, sym, ap, subst, ◌∙◌, arith, inl}
-use Rattle.std.proofs.lemmas.List.{append-nil, map-append}
+use Rattle.std.proofs.Common.{◌≡◌, ℕ, ◌+◌, ◌-◌, ◌≤◌, true, false, not, Bool, cond, List, [], ◌∷◌, ◌++◌, length, map, take, drop, slice_range, take-add, drop-drop, Ok, Err, refl, sym, ap, subst, ◌∙◌, arith, inl}
+use Rattle.std.proofs.lemmas.List.{append-nil, map-append, take_rest}
 use Rattle.grammar.specs.Rules.{Lexeme, Many, Value, Derives, Out, heads_any, read}
 use Rattle.grammar.proofs.Binds.{ok_is}
 use Rattle.grammar.proofs.Laws.{sound, complete}
 use Rattle.grammar.proofs.Joins.{each_join, seq_join}
 use Rattle.clif_lex.specs.declared.spans.Token.{Token}
+use Rattle.clif_lex.specs.Lexing.{tokens_of}
 use Rattle.clif_lex.specs.Pieces.{IsCut, IsPiece, piece_tokens, preamble_after}
-use Rattle.clif_lex.proofs.Pieces.{pieces_join, whole_piece, empty_piece}
+use Rattle.clif_lex.proofs.Pieces.{pieces_join, whole_piece, empty_piece, tokens_are_in}
 use Rattle.clif_words.specs.Lexemes.{lexeme, lexemes, is_comment}
 use Rattle.clif_words.specs.Terminals.{header}
 use Rattle.clif_insts.specs.Values.{seen}
@@ -17,7 +18,7 @@ use Rattle.clif_read.specs.ModuleGrammar.{function, module_rule}
 use Rattle.clif_read.specs.ModuleValues.{function_value, module_value}
 use Rattle.clif_read.specs.Modules.{functions_at, whole_module_at}
 use Rattle.clif_read.specs.Texts.{IsModule}
-use Rattle.clif_read.specs.Pieces.{IsModuleText, IsRange, AreFunctions, IsFront, with_functions}
+use Rattle.clif_read.specs.Pieces.{IsModuleText, IsShare, IsRange, Functions, AreFunctions, AreListed, IsFront, with_functions}
 use Rattle.clif_read.proofs.ModuleLaws.{functions_is}
 use Rattle.clif_read.proofs.Whole.{found_at}
 
@@ -33,16 +34,10 @@ lexemes-append text (t ∷ ts) us =
 
 -- ---- what reading gives
 
--- the tokens are these functions, and no other token is left
-pub record ReadWhole (ts : List Lexeme) (fs : List RawFunction) : Type 0 where
-  pub trees : List (Value function)
-  pub derived : Derives (Many function) ts trees
-  pub meant : fs ≡ map function_value trees
-
-pub functions_read : (ts : List Lexeme) (fs : List RawFunction) → functions_at ts ≡ Ok (fs, []) → ReadWhole ts fs
+pub functions_read : (ts : List Lexeme) (fs : List RawFunction) → functions_at ts ≡ Ok (fs, []) → Functions ts fs
 functions_read ts fs e = go (read (Many function) ts) refl (sym (functions_is.same ts) ∙ e)
   where
-    go : (o : Out (List (Value function))) → read (Many function) ts ≡ o → seen (map function_value) o ≡ Ok (fs, []) → ReadWhole ts fs
+    go : (o : Out (List (Value function))) → read (Many function) ts ≡ o → seen (map function_value) o ≡ Ok (fs, []) → Functions ts fs
     go (Ok x) r h =
         let same = ok_is (map function_value x.0, x.1) (fs, []) h in
         let took = sound (Many function) ts x r in
@@ -57,32 +52,86 @@ is_module ts v d = (v, d, refl, λ w e. ap (λ p. p.0) (ok_is (w, []) (v, []) (s
     reads : (w : Value module_rule) → Derives module_rule ts w → read module_rule ts ≡ Ok (w, [])
     reads w e = ap (read module_rule) (sym (append-nil ts)) ∙ complete module_rule refl ts w [] e refl
 
+-- ---- one list of tokens, and another behind it
+
+none : Functions [] []
+none = record { trees = []; derived = refl; meant = refl }
+
+both : (ts us : List Lexeme) (fs gs : List RawFunction) → Functions ts fs → Functions us gs → Functions (ts ++ us) (fs ++ gs)
+both ts us fs gs f g = record {
+  trees = f.trees ++ g.trees;
+  derived = each_join (Derives function) ts us f.trees g.trees f.derived g.derived;
+  meant = rw (f.meant, g.meant, map-append function_value f.trees g.trees) refl;
+}
+
+more_of_module : (ts us : List Lexeme) (m : RawModule) (fs : List RawFunction) → IsModule ts m → Functions us fs → IsModule (ts ++ us) (with_functions m fs)
+more_of_module ts us m fs (tree, derived, meant, only) f =
+    let all : Value module_rule = (tree.0, tree.1 ++ f.trees) in
+    subst (IsModule (ts ++ us)) (rw (meant, f.meant, map-append function_value tree.1 f.trees) refl)
+    (is_module (ts ++ us) all (seq_join (Many header) function ts us tree.0 tree.1 f.trees derived f.derived))
+
 -- ---- pieces
 
 pub no_functions : (text : List ℕ) (at : ℕ) → IsCut text at → AreFunctions text at at []
 unfolding lexemes
-no_functions text at cut = record { tokens = []; piece = empty_piece text false at cut.0; trees = []; derived = refl; meant = refl }
+no_functions text at cut = record { tokens = []; piece = empty_piece text false at cut.0; read = none }
 
 pub more_functions : (text : List ℕ) (a b c : ℕ) (fs gs : List RawFunction) → IsCut text b → AreFunctions text a b fs → AreFunctions text b c gs → AreFunctions text a c (fs ++ gs)
 more_functions text a b c fs gs cut f g = record {
   tokens = f.tokens ++ g.tokens;
   piece = pieces_join text false a b c f.tokens g.tokens f.piece cut g.piece;
-  trees = f.trees ++ g.trees;
-  derived = subst (λ (ts : List Lexeme). Derives (Many function) ts (f.trees ++ g.trees)) (sym (lexemes-append text f.tokens g.tokens))
-      (each_join (Derives function) (lexemes text f.tokens) (lexemes text g.tokens) f.trees g.trees f.derived g.derived);
-  meant = rw (f.meant, g.meant, map-append function_value f.trees g.trees) refl;
+  read = subst (λ (ts : List Lexeme). Functions ts (fs ++ gs)) (sym (lexemes-append text f.tokens g.tokens))
+      (both (lexemes text f.tokens) (lexemes text g.tokens) fs gs f.read g.read);
 }
 
 pub whole_text : (text : List ℕ) (at : ℕ) (m : RawModule) (fs : List RawFunction) → IsCut text at → IsFront text at m → AreFunctions text at (length text) fs → IsModuleText text (with_functions m fs)
 whole_text text at m fs cut front more =
-    let tokens = front.tokens ++ more.tokens in
     let behind = subst (λ (p : Bool). IsPiece text p at (length text) more.tokens) (sym front.no_headers) more.piece in
     let piece = pieces_join text true 0 at (length text) front.tokens more.tokens front.piece cut behind in
-    let tree : Value module_rule = (front.tree.0, front.tree.1 ++ more.trees) in
-    let derived : Derives module_rule (lexemes text tokens) tree =
-    subst (λ (ts : List Lexeme). Derives module_rule ts tree) (sym (lexemes-append text front.tokens more.tokens))
-    (seq_join (Many header) function (lexemes text front.tokens) (lexemes text more.tokens) front.tree.0 front.tree.1 more.trees front.derived more.derived) in
-    record { tokens = tokens; lexed = whole_piece text tokens piece; read = subst (IsModule (lexemes text tokens)) (rw (front.meant, more.meant, map-append function_value front.tree.1 more.trees) refl) (is_module (lexemes text tokens) tree derived) }
+    record {
+      tokens = front.tokens ++ more.tokens;
+      lexed = whole_piece text (front.tokens ++ more.tokens) piece;
+      read = subst (λ (ts : List Lexeme). IsModule ts (with_functions m fs)) (sym (lexemes-append text front.tokens more.tokens))
+          (more_of_module (lexemes text front.tokens) (lexemes text more.tokens) m fs front.read more.read);
+    }
+
+-- ---- shares of a list
+
+lexemes-between : (text : List ℕ) (ts : List Token) (a b c : ℕ) → a ≤ b → b ≤ c → lexemes text (slice_range ts a c) ≡ lexemes text (slice_range ts a b) ++ lexemes text (slice_range ts b c)
+lexemes-between text ts a b c ab bc =
+    let size : c - a ≡ (b - a) + (c - b) = omega arith in
+    let place : a + (b - a) ≡ b = omega arith in
+    let halves : slice_range ts a c ≡ slice_range ts a b ++ slice_range ts b c =
+    ap (λ n. take n (drop a ts)) size ∙ take-add (b - a) (c - b) (drop a ts)
+    ∙ ap (λ us. slice_range ts a b ++ take (c - b) us) (drop-drop (b - a) a ts ∙ ap (λ n. drop n ts) place) in
+    ap (lexemes text) halves ∙ lexemes-append text (slice_range ts a b) (slice_range ts b c)
+
+pub whole_share : (text : List ℕ) (ts : List Token) (size : ℕ) → tokens_of text ≡ Ok ts → size ≡ length ts → IsShare text ts 0 size
+whole_share text ts size lexed all = record { ordered = omega arith; within = omega (arith, all); inside = tokens_are_in text ts lexed }
+
+-- a share that is empty, and one with the next behind it
+pub no_share : (text : List ℕ) (ts : List Token) (a b : ℕ) → IsShare text ts a b → IsShare text ts a a
+no_share text ts a b s = record { ordered = omega arith; within = omega (arith, s.ordered, s.within); inside = s.inside }
+
+pub more_share : (text : List ℕ) (ts : List Token) (a b c : ℕ) → IsShare text ts a b → IsShare text ts b c → IsShare text ts a c
+more_share text ts a b c s t = record { ordered = omega (arith, s.ordered, t.ordered); within = t.within; inside = s.inside }
+
+pub none_listed : (text : List ℕ) (ts : List Token) (at : ℕ) → AreListed text ts at at []
+unfolding lexemes
+none_listed text ts at =
+    let nothing : at - at ≡ 0 = omega arith in
+    subst (λ n. Functions (lexemes text (take n (drop at ts))) []) (sym nothing) none
+
+pub more_listed : (text : List ℕ) (ts : List Token) (a b c : ℕ) (fs gs : List RawFunction) → a ≤ b → b ≤ c → AreListed text ts a b fs → AreListed text ts b c gs → AreListed text ts a c (fs ++ gs)
+more_listed text ts a b c fs gs ab bc f g =
+    subst (λ (us : List Lexeme). Functions us (fs ++ gs)) (sym (lexemes-between text ts a b c ab bc))
+    (both (lexemes text (slice_range ts a b)) (lexemes text (slice_range ts b c)) fs gs f g)
+
+pub whole_list : (text : List ℕ) (ts : List Token) (at size : ℕ) (m : RawModule) (fs : List RawFunction) → size ≡ length ts → at ≤ size → IsModule (lexemes text (slice_range ts 0 at)) m → AreListed text ts at size fs → IsModule (lexemes text ts) (with_functions m fs)
+whole_list text ts at size m fs all le front more =
+    let whole : slice_range ts 0 size ≡ ts = ap (slice_range ts 0) all ∙ take_rest ts 0 in
+    subst (λ (us : List Lexeme). IsModule us (with_functions m fs)) (sym (lexemes-between text ts 0 at size (omega arith) le) ∙ ap (lexemes text) whole)
+    (more_of_module (lexemes text (slice_range ts 0 at)) (lexemes text (slice_range ts at size)) m fs front more)
 
 -- ---- what the calls answer
 
@@ -90,18 +139,18 @@ nothing_left : (rest : List Lexeme) → not (heads_any rest) ≡ true → rest �
 nothing_left [] e = refl
 nothing_left (x ∷ xs) e = absurd cc
 
-pub piece_read : (text : List ℕ) (from to : ℕ) (ts : List Token) (given rest : List Lexeme) (fs : List RawFunction)
-    → from ≤ to → to ≤ length text → piece_tokens text false from to ≡ Ok ts → given ≡ lexemes text ts → functions_at given ≡ Ok (fs, rest) → not (heads_any rest) ≡ true → AreFunctions text from to fs
-piece_read text from to ts given rest fs ordered within lexed same read last =
-    let all : functions_at (lexemes text ts) ≡ Ok (fs, []) = ap functions_at (sym same) ∙ read ∙ ap (λ (l : List Lexeme). Ok (fs, l)) (nothing_left rest last) in
-    let whole = functions_read (lexemes text ts) fs all in
-    record { tokens = ts; piece = record { ordered = ordered; within = within; lexed = lexed }; trees = whole.trees; derived = whole.derived; meant = whole.meant }
+pub all_read : (given rest : List Lexeme) (fs : List RawFunction) → functions_at given ≡ Ok (fs, rest) → not (heads_any rest) ≡ true → Functions given fs
+all_read given rest fs read last = functions_read given fs (read ∙ ap (λ (l : List Lexeme). Ok (fs, l)) (nothing_left rest last))
+
+pub piece_read : (text : List ℕ) (from to : ℕ) (ts : List Token) (given : List Lexeme) (fs : List RawFunction)
+    → from ≤ to → to ≤ length text → piece_tokens text false from to ≡ Ok ts → given ≡ lexemes text ts → Functions given fs → AreFunctions text from to fs
+piece_read text from to ts given fs ordered within lexed same read =
+    record { tokens = ts; piece = record { ordered = ordered; within = within; lexed = lexed }; read = subst (λ (us : List Lexeme). Functions us fs) same read }
 
 pub front_read : (text : List ℕ) (to : ℕ) (ts : List Token) (given rest : List Lexeme) (m : RawModule)
     → to ≤ length text → piece_tokens text true 0 to ≡ Ok ts → given ≡ lexemes text ts → whole_module_at given ≡ Ok (m, rest) → preamble_after true ts ≡ false → IsFront text to m
 front_read text to ts given rest m within lexed same read no_headers =
-    let found = found_at (lexemes text ts) given rest 0 m same read in
-    record { tokens = ts; piece = record { ordered = omega arith; within = within; lexed = lexed }; tree = found.0; derived = found.1; meant = found.2; no_headers = no_headers }
+    record { tokens = ts; piece = record { ordered = omega arith; within = within; lexed = lexed }; read = found_at (lexemes text ts) given rest 0 m same read; no_headers = no_headers }
 
 -- the whole text is a range, from any cut on
 pub range_of_rest : (text : List ℕ) (at : ℕ) → IsCut text at → IsRange text at (length text)

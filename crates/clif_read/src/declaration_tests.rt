@@ -39,7 +39,11 @@ fn names_the_first_fault_of_a_declaration(rt: HostRuntime) {
         ("function %f() {\nblock0(v0: i64,):", "Syntax", 2, 16),
         ("function %f() {\nblock0 cold cold:", "Syntax", 2, 13),
     ] {
-        assert_eq!(rt; fault(rt.alloc(), text), (kind, row, column), "at {text}");
+        assert_eq!(rt;
+            fault(&rt, rt.alloc(), text),
+            (kind, row, column),
+            "at {text}"
+        );
     }
 }
 
@@ -141,7 +145,7 @@ fn has_declarations(function: &RawFunction) -> bool {
 
 #[test]
 fn reads_declarations(rt: HostRuntime) {
-    match read(rt.alloc(), DECLARED) {
+    match read(&rt, rt.alloc(), DECLARED) {
         Err(_) => assert!(rt; false, "no module"),
         Ok(found) => match found.functions.as_slice() {
             [function] => {

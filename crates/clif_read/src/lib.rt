@@ -15,6 +15,7 @@ mod pieces;
 mod ranges;
 mod raw;
 mod room;
+mod shares;
 mod signatures;
 mod simple;
 mod tags;
@@ -27,5 +28,5 @@ pub use raw::{
     RawAttribute, RawBlock, RawBlockParam, RawCalleeSig, RawDecl, RawFuncName, RawFunction,
     RawLine, RawModule, RawParam, RawSignature, RawTag,
 };
+pub use shares::read_raw;
 pub use simple::{SimpleErr, read_simple, read_simple_text};
-pub use texts::read_raw;

@@ -1,8 +1,9 @@
 //! Blocks, functions and modules.
 
-ghost use Rattle.std.specs.Prelude.{◌<◌, ◌≤◌, length, IfOk};
+ghost use Rattle.std.specs.Prelude.{◌<◌, ◌≤◌, length, IfOk, IfSome};
 ghost use Rattle.clif_insts.specs.Reading.{Gives, same};
 ghost use Rattle.clif_read.specs.Modules as spec;
+ghost use Rattle.clif_read.specs.Pieces.{Functions};
 
 use crate::declarations::{decls, func_name};
 use crate::heads::{block_params, headers};
@@ -111,6 +112,19 @@ pub(crate) fn functions(alloc: Global, reader: &mut Reader<'_>) -> Result<Vec<Ra
         list.push(item)?;
     }
     Ok(list)
+}
+
+/// The functions of all the tokens that are left. None where anything else stands there, or memory runs out.
+pub(crate) fn all_functions(alloc: Global, reader: &mut Reader<'_>) -> Option<Vec<RawFunction>>
+    ensures { IfSome result (λ found. Functions reader.old found.items) }
+{
+    let Ok(found) = functions(alloc, reader) else {
+        return None;
+    };
+    if !reader.is_at_end() {
+        return None;
+    }
+    Some(found)
 }
 
 /// Header lines, and functions.

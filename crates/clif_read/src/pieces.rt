@@ -6,11 +6,11 @@ ghost use Rattle.clif_lex.specs.Lexing as lexing;
 ghost use Rattle.clif_lex.specs.Pieces.{IsCut, preamble_after};
 ghost use Rattle.clif_read.specs.Pieces.{AreFunctions, IsFaultOf, IsFront, IsModuleText, IsRange, with_functions};
 
-use crate::modules::{functions, whole_module};
+use crate::modules::{all_functions, whole_module};
 use crate::ranges::{PIECE, piece_end};
 use crate::raw::{RawFunction, RawModule};
 use crate::room::make_room;
-use crate::texts::read_raw;
+use crate::texts::read_alone;
 use clif_insts::Reader;
 use clif_lex::{TextErr, TokenKind, Tokens, next_line_with, tokens, tokens_between};
 use ir_core::List;
@@ -27,14 +27,7 @@ fn read_piece(alloc: Global, text: &[u8], from: usize, end: usize) -> Option<Vec
         return None;
     };
     let mut reader = Reader::new(text, &tokens, 0);
-    let Ok(found) = functions(alloc, &mut reader) else {
-        return None;
-    };
-    if reader.is_at_end() {
-        Some(found)
-    } else {
-        None
-    }
+    all_functions(alloc, &mut reader)
 }
 
 /// The functions of a range, read piece by piece. None where anything else stands there, or memory runs out.
@@ -61,7 +54,10 @@ fn read_range(
 }
 
 /// The functions of one range and those of the next. None where memory runs out.
-fn joined(mut found: Vec<RawFunction>, mut more: Vec<RawFunction>) -> Option<Vec<RawFunction>>
+pub(crate) fn joined(
+    mut found: Vec<RawFunction>,
+    mut more: Vec<RawFunction>,
+) -> Option<Vec<RawFunction>>
     ensures { IfSome result (λ all. all.items ≡ found.items ++ more.items) }
 {
     match found.append(&mut more) {
@@ -144,7 +140,7 @@ fn read_front(alloc: Global, text: &[u8], end: usize) -> Option<RawModule>
 }
 
 /// A module with further functions behind its own. None where memory runs out.
-fn extended(front: RawModule, more: Vec<RawFunction>) -> Option<RawModule>
+pub(crate) fn extended(front: RawModule, more: Vec<RawFunction>) -> Option<RawModule>
     ensures { IfSome result (λ found. found ≡ with_functions front more.items) }
 {
     let functions = joined(front.functions.into_vec(), more)?;
@@ -176,7 +172,7 @@ fn read_at_once(alloc: Global, text: &[u8]) -> Result<RawModule, TextErr>
     ensures fault { IfErr result (λ e. IsFaultOf text.now e) }
 {
     let tokens = tokens(alloc, text)?;
-    read_raw(alloc, text, &tokens)
+    read_alone(alloc, text, &tokens)
 }
 
 /// As `read_text`, by pieces of this size.

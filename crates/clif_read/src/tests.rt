@@ -4,17 +4,26 @@ use crate::{RawLine, RawModule, read_raw};
 use clif_insts::RawOperands;
 use clif_lex::{TextErr, TextKind, place, tokens};
 use std::alloc::{AllocError, Global};
+use std::thread::Threads;
 
 /// The module of a text, or its first fault.
-pub(crate) fn read(alloc: Global, text: &str) -> Result<RawModule, TextErr> {
+pub(crate) fn read<R: Threads + Sync>(
+    rt: &R,
+    alloc: Global,
+    text: &str,
+) -> Result<RawModule, TextErr> {
     let bytes = text.as_bytes();
     let list = tokens(alloc, bytes)?;
-    read_raw(alloc, bytes, &list)
+    read_raw(rt, alloc, bytes, &list, 1)
 }
 
 /// Where a text's first fault is: its kind, line and column. Line 0 says that there is none.
-pub(crate) fn fault(alloc: Global, text: &str) -> (&'static str, u32, u32) {
-    match read(alloc, text) {
+pub(crate) fn fault<R: Threads + Sync>(
+    rt: &R,
+    alloc: Global,
+    text: &str,
+) -> (&'static str, u32, u32) {
+    match read(rt, alloc, text) {
         Ok(_) => ("", 0, 0),
         Err(TextErr::NoMemory) => ("NoMemory", 0, 0),
         Err(TextErr::Fault { kind, spot }) => {
@@ -96,7 +105,11 @@ fn names_the_first_fault_of_a_line(rt: HostRuntime) -> Result<(), AllocError> {
         ),
     ] {
         let text = with_line(rt.alloc(), line)?;
-        assert_eq!(rt; fault(rt.alloc(), &text), (kind, row, column), "at {line}");
+        assert_eq!(rt;
+            fault(&rt, rt.alloc(), &text),
+            (kind, row, column),
+            "at {line}"
+        );
     }
     Ok(())
 }
@@ -141,7 +154,7 @@ fn reads_lines(rt: HostRuntime) -> Result<(), AllocError> {
         ),
     ] {
         let text = with_line(rt.alloc(), line)?;
-        match read(rt.alloc(), &text) {
+        match read(&rt, rt.alloc(), &text) {
             Err(_) => assert!(rt; false, "no module at {line}"),
             Ok(found) => match found.functions.as_slice() {
                 [function] => match function.blocks.as_slice() {
@@ -204,7 +217,11 @@ fn names_the_first_fault_of_a_text(rt: HostRuntime) {
             42,
         ),
     ] {
-        assert_eq!(rt; fault(rt.alloc(), text), (kind, row, column), "at {text}");
+        assert_eq!(rt;
+            fault(&rt, rt.alloc(), text),
+            (kind, row, column),
+            "at {text}"
+        );
     }
 }
 
@@ -244,7 +261,7 @@ fn names_the_end_of_a_cut_text(rt: HostRuntime) {
                 let cut = &bytes[..end];
                 match tokens(rt.alloc(), cut) {
                     Err(_) => assert!(rt; false, "at {end}"),
-                    Ok(list) => match read_raw(rt.alloc(), cut, &list) {
+                    Ok(list) => match read_raw(&rt, rt.alloc(), cut, &list, 1) {
                         Ok(_) => modules = modules.saturating_add(1),
                         Err(err) => {
                             let want = TextErr::Fault {
@@ -422,7 +439,7 @@ fn counts(lines: &[RawLine]) -> (usize, usize, usize, usize) {
 
 #[test]
 fn reads_every_form(rt: HostRuntime) {
-    match read(rt.alloc(), EVERYTHING) {
+    match read(&rt, rt.alloc(), EVERYTHING) {
         Err(_) => assert!(rt; false, "no module"),
         Ok(found) => {
             assert_eq!(rt; found.headers.as_slice().len(), 3);

@@ -25,13 +25,8 @@ fn error_at(stop: Stop, spot: usize) -> TextErr
     TextErr::Fault { kind, spot }
 }
 
-/// The module that a text is, from the text's tokens.
-///
-/// # Errors
-///
-/// At the first token with which the text begins no module, or at its end:
-/// `UnknownOpcode` at a word in the place of an opcode, `Unsupported` at a word of CLIF that is left out here, else `Syntax`.
-pub fn read_raw(alloc: Global, text: &[u8], tokens: &Tokens) -> Result<RawModule, TextErr>
+/// The module that a text is, from the text's tokens, read by the calling thread alone; or the error that `read_raw` gives.
+pub(crate) fn read_alone(alloc: Global, text: &[u8], tokens: &Tokens) -> Result<RawModule, TextErr>
     requires whole { tokens_of text.now ≡ Ok tokens.now }
     ensures found { IfOk result (λ m. IsModule (lexemes text.now tokens.now) m) }
     ensures stop { IfErr result (λ e. Stopped (lexemes text.now tokens.now) (length text.now) e) }

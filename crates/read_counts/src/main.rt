@@ -64,7 +64,7 @@ fn main(rt: HostRuntime) -> ExitCode {
             Err(_) => ExitCode::FAILURE,
         };
     }
-    let Ok(found) = read_raw(rt.alloc(), bytes.as_slice(), &list) else {
+    let Ok(found) = read_raw(&rt, rt.alloc(), bytes.as_slice(), &list, 1) else {
         return ExitCode::FAILURE;
     };
     let (functions, lines) = counts(&found);

@@ -1,0 +1,17 @@
+use Rattle.std.proofs.Common.{sym, subst}
+use Rattle.std.proofs.lemmas.Option.{IfSome_then}
+use Rattle.clif_words.specs.Lexemes.{lexemes}
+use Rattle.clif_read.specs.Texts.{IsModule}
+use Rattle.clif_read.proofs.PieceLaws.{whole_share, whole_list}
+use Rattle.clif_read.proofs.shares.read_in_shares.Goals as goal
+
+pub next_function-first-requires : goal.next_function-first-requires
+next_function-first-requires g c = whole_share c.args.text.now c.args.tokens.now c.len-end.result c.requires.whole c.len-end.ensures
+
+pub returns : goal.returns
+returns g c =
+    let text = c.args.text.now in
+    let tokens = c.args.tokens.now in
+    IfSome_then c.extended.result c.extended.ensures
+    (λ found e. subst (IsModule (lexemes text tokens)) (sym e)
+    (whole_list text tokens c.next_function-first.result c.len-end.result c.in_ok-front.front c.in_ok-rest.rest.items c.len-end.ensures c.next_function-first.ensures.behind.ordered c.in_ok-front.ensures c.in_ok-rest.ensures))

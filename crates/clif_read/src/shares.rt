@@ -1,0 +1,198 @@
+//! Modules read from the list of a text's tokens, by several workers at once.
+
+ghost use Rattle.std.specs.Prelude.{◌≡◌, ◌<◌, ◌≤◌, length, slice_range, Ok, IfOk, IfErr, IfSome};
+ghost use Rattle.std.specs.Thread.{IsSync};
+ghost use Rattle.clif_lex.specs.Lexing.{tokens_of};
+ghost use Rattle.clif_words.specs.Lexemes.{lexemes};
+ghost use Rattle.clif_read.specs.Pieces.{AreListed, IsShare};
+ghost use Rattle.clif_read.specs.Texts.{IsModule, Stopped};
+
+use crate::modules::{all_functions, whole_module};
+use crate::pieces::{extended, joined};
+use crate::raw::{RawFunction, RawModule};
+use crate::room::make_room;
+use crate::texts::read_alone;
+use clif_insts::Reader;
+use clif_lex::{TextErr, Tokens};
+use clif_words::{Class, token_meaning};
+use std::alloc::Global;
+use std::thread::{Threads, join};
+
+/// How many tokens a piece takes at least.
+const SHARE: usize = 16_384;
+
+/// The next place of a range of tokens at which the word `function` stands, or the range's end.
+fn next_function(text: &[u8], tokens: &Tokens, from: usize, end: usize) -> usize
+    requires { IsShare text.now tokens.now from end }
+    ensures before { IsShare text.now tokens.now from result }
+    ensures behind { IsShare text.now tokens.now result end }
+{
+    let mut at = from;
+    'tokens: while at < end {
+        if let Class::Function = token_meaning(text, tokens, at).class {
+            return at;
+        }
+        at += 1;
+    }
+    at
+}
+
+/// Where a piece of a range of tokens ends: behind so many tokens and one more at the next function, or at the range's end.
+fn share_end(text: &[u8], tokens: &Tokens, from: usize, end: usize, size: usize) -> usize
+    requires { IsShare text.now tokens.now from end }
+    ensures piece { IsShare text.now tokens.now from result }
+    ensures rest { IsShare text.now tokens.now result end }
+    ensures forward { from < end → from < result }
+{
+    if end - from <= size {
+        return end;
+    }
+    next_function(text, tokens, from + size + 1, end)
+}
+
+/// The functions that stand between two places of the list. None where anything else stands there, or memory runs out.
+fn read_piece(
+    alloc: Global,
+    text: &[u8],
+    tokens: &Tokens,
+    from: usize,
+    end: usize,
+) -> Option<Vec<RawFunction>>
+    requires { IsShare text.now tokens.now from end }
+    ensures { IfSome result (λ found. AreListed text.now tokens.now from end found.items) }
+{
+    let mut reader = Reader::between(text, tokens, from, end);
+    all_functions(alloc, &mut reader)
+}
+
+/// The functions of a range of tokens, read piece by piece. None where anything else stands there, or memory runs out.
+fn read_share(
+    alloc: Global,
+    text: &[u8],
+    tokens: &Tokens,
+    from: usize,
+    end: usize,
+    size: usize,
+) -> Option<Vec<RawFunction>>
+    requires { IsShare text.now tokens.now from end }
+    ensures { IfSome result (λ found. AreListed text.now tokens.now from end found.items) }
+{
+    let mut found = Vec::new(alloc);
+    let mut at = from;
+    'pieces: while at < end {
+        let next = share_end(text, tokens, at, end, size);
+        make_room(alloc);
+        let more = read_piece(alloc, text, tokens, at, next)?;
+        found = joined(found, more)?;
+        at = next;
+    }
+    Some(found)
+}
+
+/// The functions of a range of tokens, read by so many workers at once. None where anything else stands there, or memory runs out.
+#[cycle(shares)]
+fn read_shares<R: Threads + Sync>(
+    rt: &R,
+    alloc: Global,
+    text: &[u8],
+    tokens: &Tokens,
+    from: usize,
+    end: usize,
+    workers: usize,
+    size: usize,
+) -> Option<Vec<RawFunction>>
+    requires { IsShare text.now tokens.now from end }
+    ensures { IfSome result (λ found. AreListed text.now tokens.now from end found.items) }
+{
+    if workers <= 1 || end - from <= size {
+        return read_share(alloc, text, tokens, from, end, size);
+    }
+    let few = workers / 2;
+    let others = workers - few;
+    let share = (end - from) / workers;
+    let middle = share_end(text, tokens, from, end, share.saturating_mul(few));
+    let low = || -> Option<Vec<RawFunction>>
+        requires { IsSync R.row × IsShare text.now tokens.now from middle }
+        ensures { IfSome result (λ found. AreListed text.entry.now tokens.entry.now from middle found.items) }
+    { read_shares(rt, alloc, text, tokens, from, middle, few, size) };
+    let high = || -> Option<Vec<RawFunction>>
+        requires { IsSync R.row × IsShare text.now tokens.now middle end }
+        ensures { IfSome result (λ found. AreListed text.entry.now tokens.entry.now middle end found.items) }
+    { read_shares(rt, alloc, text, tokens, middle, end, others, size) };
+    let (front, rest) = join(rt, low, high);
+    joined(front?, rest?)
+}
+
+/// The module that stands before a place of the list. None where it is none, or memory runs out.
+fn read_front(alloc: Global, text: &[u8], tokens: &Tokens, end: usize) -> Option<RawModule>
+    requires { IsShare text.now tokens.now 0 end }
+    ensures { IfSome result (λ found. IsModule (lexemes text.now (slice_range tokens.now 0 «end»)) found) }
+{
+    let mut reader = Reader::between(text, tokens, 0, end);
+    match whole_module(alloc, &mut reader) {
+        Ok(found) => Some(found),
+        Err(_) => None,
+    }
+}
+
+/// The module that a text is, from the text's tokens, read by so many workers at once. None where it is none, or cannot be read so.
+pub(crate) fn read_in_shares<R: Threads + Sync>(
+    rt: &R,
+    alloc: Global,
+    text: &[u8],
+    tokens: &Tokens,
+    workers: usize,
+    size: usize,
+) -> Option<RawModule>
+    requires whole { tokens_of text.now ≡ Ok tokens.now }
+    ensures { IfSome result (λ found. IsModule (lexemes text.now tokens.now) found) }
+{
+    let end = tokens.len();
+    let first = next_function(text, tokens, 0, end);
+    let front = read_front(alloc, text, tokens, first)?;
+    let rest = read_shares(rt, alloc, text, tokens, first, end, workers, size)?;
+    extended(front, rest)
+}
+
+/// As `read_raw`, by pieces of so many tokens.
+pub(crate) fn read_raw_by<R: Threads + Sync>(
+    rt: &R,
+    alloc: Global,
+    text: &[u8],
+    tokens: &Tokens,
+    workers: usize,
+    size: usize,
+) -> Result<RawModule, TextErr>
+    requires whole { tokens_of text.now ≡ Ok tokens.now }
+    ensures found { IfOk result (λ m. IsModule (lexemes text.now tokens.now) m) }
+    ensures stop { IfErr result (λ e. Stopped (lexemes text.now tokens.now) (length text.now) e) }
+{
+    match read_in_shares(rt, alloc, text, tokens, workers, size) {
+        Some(found) => Ok(found),
+        None => read_alone(alloc, text, tokens),
+    }
+}
+
+/// The module that a text is, from the text's tokens, read by so many workers at once.
+/// One worker, and a text of few tokens, is read by the calling thread alone.
+///
+/// # Errors
+///
+/// At the first token with which the text begins no module, or at its end:
+/// `UnknownOpcode` at a word in the place of an opcode, `Unsupported` at a word of CLIF that is left out here, else `Syntax`.
+pub fn read_raw<R: Threads + Sync>(
+    rt: &R,
+    alloc: Global,
+    text: &[u8],
+    tokens: &Tokens,
+    workers: usize,
+) -> Result<RawModule, TextErr>
+    requires whole { tokens_of text.now ≡ Ok tokens.now }
+    ensures found { IfOk result (λ m. IsModule (lexemes text.now tokens.now) m) }
+    ensures stop { IfErr result (λ e. Stopped (lexemes text.now tokens.now) (length text.now) e) }
+{
+    if workers <= 1 || tokens.len() / 2 < SHARE {
+        return read_alone(alloc, text, tokens);
+    }
+    read_raw_by(rt, alloc, text, tokens, workers, SHARE)
+}

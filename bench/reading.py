@@ -3,10 +3,11 @@
 
     python3 bench/reading.py PATH/read_counts [MEGABYTES]
 
-The program reads standard input and stops behind the bytes, the tokens or the raw module. A step's time is the least of
-five runs, less that of reading the bytes alone, and is the processor's time (user and system), since a machine is seldom
-idle; that of the raw module includes its tokens. The step `text` is the raw module read in pieces by four workers: its
-time is the clock's, as is that of the bytes then. Memory is the most that a run held, a byte of text.
+The program reads standard input and stops behind the bytes, the tokens, or the raw module: `raw` is read from the list of
+the tokens, `text` from the bytes, each by as many workers as are asked for. A step's time is the least of five runs, less
+that of reading the bytes alone; that of the raw module includes its tokens. With one worker it is the processor's time
+(user and system), since a machine is seldom idle, with several it is the clock's, as is that of the bytes then. Memory is
+the most that a run held, a byte of text.
 
 First a text of about 60 MB whose bodies have all forms. Then texts of one shape each, once and half as large: twice the
 text should take at most 2.2 times the time."""
@@ -18,6 +19,16 @@ import tempfile
 import time
 
 TURNS = 5
+
+# each step's words for the program, and whether several workers read
+STEPS = {
+    'bytes': (['bytes'], False),
+    'tokens': (['tokens'], False),
+    'raw, four workers': (['raw', '4'], True),
+    'raw, one worker': (['raw', '1'], False),
+    'text, four workers': (['text', '4'], True),
+}
+SHOWN = [step for step in STEPS if step != 'bytes']
 
 BINARY = 'iadd isub imul band bor bxor smin umax udiv srem ishl rotr'.split()
 UNARY = 'ineg bnot iabs clz popcnt bswap'.split()
@@ -128,7 +139,7 @@ def run(words, path):
 def least(program, texts):
     """For each text the least times and the memory of each step, and of `wc -w`. The texts take turns, so that what
     disturbs the machine for a while disturbs them alike."""
-    steps = {step: [program, step] for step in ('bytes', 'tokens', 'raw', 'text')} | {'wc': ['wc', '-w']}
+    steps = {step: [program] + words for step, (words, _) in STEPS.items()} | {'wc': ['wc', '-w']}
     found = [{step: [] for step in steps} for _ in texts]
     with tempfile.TemporaryDirectory() as folder:
         paths = [os.path.join(folder, str(number)) for number in range(len(texts))]
@@ -144,7 +155,7 @@ def least(program, texts):
 
 def net(found, step):
     """A step's seconds, less those of reading the bytes: the processor's, or the clock's where several workers read."""
-    watch = 1 if step == 'text' else 0
+    watch = 1 if STEPS[step][1] else 0
     return max(found[step][watch] - found['bytes'][watch], 1e-3)
 
 
@@ -155,16 +166,16 @@ def main():
     [found] = least(program, [text])
     length = len(text)
     print('%.1f MB with all forms' % (length / 1e6))
-    for step in ('tokens', 'raw', 'text'):
+    for step in SHOWN:
         seconds = net(found, step)
-        print('  %-7s %.3f s, %4.0f MB/s, %.1f bytes a byte of text' % (step, seconds, length / 1e6 / seconds, found[step][2] / length))
-    print('  wc -w   %.3f s, %4.0f MB/s' % (found['wc'][0], length / 1e6 / found['wc'][0]))
+        print('  %-18s %.3f s, %4.0f MB/s, %.1f bytes a byte of text' % (step, seconds, length / 1e6 / seconds, found[step][2] / length))
+    print('  wc -w              %.3f s, %4.0f MB/s' % (found['wc'][0], length / 1e6 / found['wc'][0]))
     for name, (count, make) in SHAPES.items():
         half = make(count // 2)
         full = make(count)
         first, second = least(program, [half, full])
         print('%d %s (%.1f MB):' % (count, name, len(full) / 1e6), end=' ')
-        print(', '.join('%s %.3f s, %.2f times the half' % (step, net(second, step), net(second, step) / net(first, step)) for step in ('tokens', 'raw', 'text')))
+        print(', '.join('%s %.3f s, %.2f times the half' % (step, net(second, step), net(second, step) / net(first, step)) for step in SHOWN))
 
 
 if __name__ == '__main__':

@@ -18,6 +18,9 @@ use clif_words::Class;
 use ir_core::List;
 use std::alloc::Global;
 
+/// For how many lines the list of a block has room at first: most blocks have no more. What is left over is given back.
+const FIRST_ROOM: usize = 32;
+
 /// An instruction behind the `=` of its results.
 #[tactic(auto, unfolding(crate::specs::Lines::made_at))]
 fn made(alloc: Global, reader: &mut Reader<'_>) -> Result<RawInst, Stop>
@@ -66,11 +69,12 @@ fn alias(
 {
     reader.take(Class::Arrow)?;
     let value = reader.take(Class::Value)?;
-    lines.push(RawLine::Alias {
+    lines.reserve(1)?;
+    lines.push_reserved(RawLine::Alias {
         location,
         alias,
         value,
-    })?;
+    });
     Ok(false)
 }
 
@@ -89,12 +93,13 @@ fn results(
     let results = more_names(alloc, reader, first)?;
     let inst = made(alloc, reader)?;
     let returns = is_return(&inst);
-    lines.push(RawLine::Inst {
+    lines.reserve(1)?;
+    lines.push_reserved(RawLine::Inst {
         location,
         tags: List::from_vec(Vec::new(alloc)),
         results,
         inst,
-    })?;
+    });
     Ok(returns)
 }
 
@@ -132,12 +137,13 @@ fn plain(
 {
     let inst = any_inst(alloc, reader, opening)?;
     let returns = is_return(&inst);
-    lines.push(RawLine::Inst {
+    lines.reserve(1)?;
+    lines.push_reserved(RawLine::Inst {
         location,
         tags,
         results: RawNames::from_vec(Vec::new(alloc)),
         inst,
-    })?;
+    });
     Ok(returns)
 }
 
@@ -157,12 +163,13 @@ fn tagged_results(
     let results = more_names(alloc, reader, first)?;
     let inst = made(alloc, reader)?;
     let returns = is_return(&inst);
-    lines.push(RawLine::Inst {
+    lines.reserve(1)?;
+    lines.push_reserved(RawLine::Inst {
         location,
         tags,
         results,
         inst,
-    })?;
+    });
     Ok(returns)
 }
 
@@ -241,12 +248,13 @@ fn opt_made(
     if reader.next_is(Class::Equals) {
         let inst = made(alloc, reader)?;
         let returns = is_return(&inst);
-        lines.push(RawLine::Inst {
+        lines.reserve(1)?;
+        lines.push_reserved(RawLine::Inst {
             location: None,
             tags: List::from_vec(Vec::new(alloc)),
             results: RawNames::from_vec(values.into_vec()),
             inst,
-        })?;
+        });
         Ok(returns)
     } else {
         give_to_last(lines, values);
@@ -331,7 +339,7 @@ pub(crate) fn block_lines(alloc: Global, reader: &mut Reader<'_>) -> Result<Vec<
     ensures is { Gives (λ x. x.items) reader.new result (spec.lines_at reader.old) }
     ensures shorter { IfOk result (λ _. length reader.new ≤ length reader.old) }
 {
-    let mut list = Vec::new(alloc);
+    let mut list = Vec::with_capacity(alloc, FIRST_ROOM)?;
     let mut after_return = false;
     'lines: while begins_line(reader) {
         after_return = line(alloc, reader, &mut list, after_return)?;

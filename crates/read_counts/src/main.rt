@@ -1,29 +1,91 @@
-//! Reads a text from standard input as far as the one word of the command line says, `bytes`, `tokens` or `raw`, and
-//! writes how much it found. With the word `text` several workers read the raw module in pieces. bench/reading.py
-//! measures it.
+//! Reads a text from standard input as far as the first word of the command line says, and writes how much it found:
+//! `bytes`, `tokens`, `raw`, the raw module from the list of its tokens, or `text`, the raw module from the bytes. The
+//! second word is how many workers read the raw module; four where there is none. bench/reading.py measures it.
 #![tactic(auto)]
 
-use clif_lex::tokens;
+use clif_lex::{TextErr, tokens};
 use clif_read::{RawModule, read_raw, read_text};
 use clk_flow::{StdSource, read_whole};
+use std::alloc::Global;
 use std::env;
+use std::mem::forget;
 use std::process::ExitCode;
+use std::thread::Threads;
 
 /// The most bytes that are read.
 const LIMIT: usize = 134_217_728;
 
-/// How many workers read a text in pieces.
+/// How many workers read where the words say nothing of it.
 const WORKERS: usize = 4;
 
-/// The functions of a module, and the lines of their blocks.
-fn counts(found: &RawModule) -> (usize, usize) {
+/// How far a text is read.
+#[derive(Clone, Copy)]
+enum Step {
+    Bytes,
+    Tokens,
+    Raw,
+    Text,
+}
+
+/// How much was found.
+#[derive(Clone, Copy)]
+enum Found {
+    Bytes(usize),
+    Tokens(usize),
+    Lines { functions: usize, lines: usize },
+}
+
+/// The step that a word names.
+fn step_of(word: &str) -> Option<Step> {
+    match word {
+        "bytes" => Some(Step::Bytes),
+        "tokens" => Some(Step::Tokens),
+        "raw" => Some(Step::Raw),
+        "text" => Some(Step::Text),
+        _ => None,
+    }
+}
+
+/// The number of workers that a word writes, if there is one.
+fn workers_of(word: Option<&String>) -> Option<usize> {
+    match word {
+        Some(word) => word.as_str().parse::<usize>().ok(),
+        None => Some(WORKERS),
+    }
+}
+
+/// The functions of a module, and the lines of their blocks. The module stays in memory: the program ends here, and
+/// reading alone is measured.
+fn lines_of(found: RawModule) -> Found {
     let mut lines: usize = 0;
     for function in found.functions.as_slice() {
         for block in function.blocks.as_slice() {
             lines = lines.saturating_add(block.lines.as_slice().len());
         }
     }
-    (found.functions.as_slice().len(), lines)
+    let functions = found.functions.as_slice().len();
+    forget(found);
+    Found::Lines { functions, lines }
+}
+
+/// What a text has, as far as the step reads it.
+fn read<R: Threads + Sync>(
+    rt: &R,
+    alloc: Global,
+    text: &[u8],
+    step: Step,
+    workers: usize,
+) -> Result<Found, TextErr> {
+    match step {
+        Step::Bytes => Ok(Found::Bytes(text.len())),
+        Step::Tokens => Ok(Found::Tokens(tokens(alloc, text)?.len())),
+        Step::Raw => {
+            let list = tokens(alloc, text)?;
+            let found = read_raw(rt, alloc, text, &list, workers)?;
+            Ok(lines_of(found))
+        }
+        Step::Text => Ok(lines_of(read_text(rt, alloc, text, workers)?)),
+    }
 }
 
 fn main(rt: HostRuntime) -> ExitCode {
@@ -33,45 +95,24 @@ fn main(rt: HostRuntime) -> ExitCode {
     let Ok(words) = args.collect::<Vec<String>>(rt.alloc()) else {
         return ExitCode::FAILURE;
     };
-    let Some(word) = words.last() else {
+    let Some(step) = words.get(1).and_then(|word| step_of(word.as_str())) else {
+        return ExitCode::FAILURE;
+    };
+    let Some(workers) = workers_of(words.get(2)) else {
         return ExitCode::FAILURE;
     };
     let Ok(bytes) = read_whole(rt.alloc(), &mut StdSource::new(rt.stdin()), LIMIT) else {
         return ExitCode::FAILURE;
     };
-    if word.as_str() == "bytes" {
-        return match println!(rt; "{} bytes", bytes.len()) {
-            Ok(()) => ExitCode::SUCCESS,
-            Err(_) => ExitCode::FAILURE,
-        };
-    }
-    if word.as_str() == "text" {
-        let Ok(found) = read_text(&rt, rt.alloc(), bytes.as_slice(), WORKERS) else {
-            return ExitCode::FAILURE;
-        };
-        let (functions, lines) = counts(&found);
-        return match println!(rt; "{functions} functions, {lines} lines") {
-            Ok(()) => ExitCode::SUCCESS,
-            Err(_) => ExitCode::FAILURE,
-        };
-    }
-    let Ok(list) = tokens(rt.alloc(), bytes.as_slice()) else {
+    let Ok(found) = read(&rt, rt.alloc(), bytes.as_slice(), step, workers) else {
         return ExitCode::FAILURE;
     };
-    if word.as_str() == "tokens" {
-        return match println!(rt; "{} tokens", list.len()) {
-            Ok(()) => ExitCode::SUCCESS,
-            Err(_) => ExitCode::FAILURE,
-        };
-    }
-    let Ok(found) = read_raw(&rt, rt.alloc(), bytes.as_slice(), &list, 1) else {
-        return ExitCode::FAILURE;
+    let written = match found {
+        Found::Bytes(bytes) => println!(rt; "{bytes} bytes"),
+        Found::Tokens(tokens) => println!(rt; "{tokens} tokens"),
+        Found::Lines { functions, lines } => println!(rt; "{functions} functions, {lines} lines"),
     };
-    let (functions, lines) = counts(&found);
-    match println!(rt;
-        "{} tokens, {functions} functions, {lines} lines",
-        list.len()
-    ) {
+    match written {
         Ok(()) => ExitCode::SUCCESS,
         Err(_) => ExitCode::FAILURE,
     }

@@ -13,12 +13,11 @@ use crate::sharing::{Ranges, read_shares};
 use crate::texts::read_alone;
 use clif_insts::Reader;
 use clif_lex::{TextErr, Tokens};
-use clif_words::{Class, token_meaning};
 use std::alloc::Global;
 use std::thread::Threads;
 
 /// How many tokens a piece takes at least.
-const SHARE: usize = 16_384;
+const PIECE: usize = 16_384;
 
 /// The next place of a range of tokens at which the word `function` stands, or the range's end.
 fn next_function(text: &[u8], tokens: &Tokens, from: usize, end: usize) -> usize
@@ -28,7 +27,7 @@ fn next_function(text: &[u8], tokens: &Tokens, from: usize, end: usize) -> usize
 {
     let mut at = from;
     'tokens: while at < end {
-        if let Class::Function = token_meaning(text, tokens, at).class {
+        if tokens.spelling(text, at) == b"function".as_slice() {
             return at;
         }
         at += 1;
@@ -142,8 +141,8 @@ pub fn read_raw<R: Threads + Sync>(
     ensures found { IfOk result (λ m. IsModule (lexemes text.now tokens.now) m) }
     ensures stop { IfErr result (λ e. Stopped (lexemes text.now tokens.now) (length text.now) e) }
 {
-    if workers <= 1 || tokens.len() / 2 < SHARE {
+    if workers <= 1 || tokens.len() / 2 < PIECE {
         return read_alone(alloc, text, tokens);
     }
-    read_raw_by(rt, alloc, text, tokens, workers, SHARE)
+    read_raw_by(rt, alloc, text, tokens, workers, PIECE)
 }

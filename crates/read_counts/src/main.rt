@@ -1,6 +1,7 @@
 //! Reads a text from standard input as far as the first word of the command line says, and writes how much it found:
-//! `bytes`, `tokens`, `raw`, the raw module from the list of its tokens, or `text`, the raw module from the bytes. The
-//! second word is how many workers read the raw module; four where there is none. bench/reading.py measures it.
+//! `bytes`, `tokens`, `raw`, the raw module from the list of its tokens, or `text`, the raw module from the bytes; `raw`
+//! where there is none. The second word is how many workers read the raw module; four where there is none.
+//! bench/reading.py measures it.
 #![tactic(auto)]
 
 use clif_lex::{TextErr, tokens};
@@ -35,9 +36,12 @@ enum Found {
     Lines { functions: usize, lines: usize },
 }
 
-/// The step that a word names.
-fn step_of(word: &str) -> Option<Step> {
-    match word {
+/// The step that a word names; without a word, reading the raw module from the list of its tokens.
+fn step_of(word: Option<&String>) -> Option<Step> {
+    let Some(word) = word else {
+        return Some(Step::Raw);
+    };
+    match word.as_str() {
         "bytes" => Some(Step::Bytes),
         "tokens" => Some(Step::Tokens),
         "raw" => Some(Step::Raw),
@@ -95,7 +99,7 @@ fn main(rt: HostRuntime) -> ExitCode {
     let Ok(words) = args.collect::<Vec<String>>(rt.alloc()) else {
         return ExitCode::FAILURE;
     };
-    let Some(step) = words.get(1).and_then(|word| step_of(word.as_str())) else {
+    let Some(step) = step_of(words.get(1)) else {
         return ExitCode::FAILURE;
     };
     let Some(workers) = workers_of(words.get(2)) else {

@@ -4,21 +4,22 @@
     python3 bench/reading.py PATH/read_counts [MEGABYTES]
 
 The program reads standard input and stops behind the bytes, the tokens, or the raw module: `raw` is read from the list of
-the tokens, `text` from the bytes, each by as many workers as are asked for. A step's time is the least of five runs, less
+the tokens, `text` from the bytes, each by as many workers as are asked for. A step's time is the median of nine runs, less
 that of reading the bytes alone; that of the raw module includes its tokens. With one worker it is the processor's time
 (user and system), since a machine is seldom idle, with several it is the clock's, as is that of the bytes then. Memory is
 the most that a run held, a byte of text.
 
-First a text of about 60 MB whose bodies have all forms. Then texts of one shape each, once and half as large: twice the
+First a text of about 60 MB whose bodies have all forms. Then texts of one shape each, once and twice as large: twice the
 text should take at most 2.2 times the time."""
 import os
 import random
+import statistics
 import subprocess
 import sys
 import tempfile
 import time
 
-TURNS = 5
+TURNS = 9
 
 # each step's words for the program, and whether several workers read
 STEPS = {
@@ -136,8 +137,8 @@ def run(words, path):
     return usage.ru_utime + usage.ru_stime, clock, usage.ru_maxrss * 1024
 
 
-def least(program, texts):
-    """For each text the least times and the memory of each step, and of `wc -w`. The texts take turns, so that what
+def measured(program, texts):
+    """For each text the median times and the memory of each step, and of `wc -w`. The texts take turns, so that what
     disturbs the machine for a while disturbs them alike."""
     steps = {step: [program] + words for step, (words, _) in STEPS.items()} | {'wc': ['wc', '-w']}
     found = [{step: [] for step in steps} for _ in texts]
@@ -150,7 +151,12 @@ def least(program, texts):
             for path, runs in zip(paths, found):
                 for step, words in steps.items():
                     runs[step].append(run(words, path))
-    return [{step: (min(it)[0], min(clock for _, clock, _ in it), max(memory for _, _, memory in it)) for step, it in runs.items()} for runs in found]
+    return [{step: summary(it) for step, it in runs.items()} for runs in found]
+
+
+def summary(runs):
+    """The median of the processor's seconds and of the clock's, and the most memory, of some runs."""
+    return statistics.median(run[0] for run in runs), statistics.median(run[1] for run in runs), max(run[2] for run in runs)
 
 
 def net(found, step):
@@ -163,7 +169,7 @@ def main():
     program = sys.argv[1]
     size = int(float(sys.argv[2]) * 1e6) if len(sys.argv) > 2 else 60_000_000
     text = mixed(size)
-    [found] = least(program, [text])
+    [found] = measured(program, [text])
     length = len(text)
     print('%.1f MB with all forms' % (length / 1e6))
     for step in SHOWN:
@@ -171,11 +177,10 @@ def main():
         print('  %-18s %.3f s, %4.0f MB/s, %.1f bytes a byte of text' % (step, seconds, length / 1e6 / seconds, found[step][2] / length))
     print('  wc -w              %.3f s, %4.0f MB/s' % (found['wc'][0], length / 1e6 / found['wc'][0]))
     for name, (count, make) in SHAPES.items():
-        half = make(count // 2)
-        full = make(count)
-        first, second = least(program, [half, full])
-        print('%d %s (%.1f MB):' % (count, name, len(full) / 1e6), end=' ')
-        print(', '.join('%s %.3f s, %.2f times the half' % (step, net(second, step), net(second, step) / net(first, step)) for step in SHOWN))
+        once, twice = make(count), make(2 * count)
+        first, second = measured(program, [once, twice])
+        print('%d %s (%.1f MB):' % (count, name, len(once) / 1e6), end=' ')
+        print(', '.join('%s %.3f s, twice %.2f times' % (step, net(first, step), net(second, step) / net(first, step)) for step in SHOWN))
 
 
 if __name__ == '__main__':

@@ -3,11 +3,11 @@
 
     python3 bench/reading.py PATH/read_counts [MEGABYTES]
 
-The program reads standard input and stops behind the bytes, the tokens, or the raw module: `raw` is read from the list of
-the tokens, `text` from the bytes, each by as many workers as are asked for. A step's time is the median of nine runs, less
-that of reading the bytes alone; that of the raw module includes its tokens. With one worker it is the processor's time
-(user and system), since a machine is seldom idle, with several it is the clock's, as is that of the bytes then. Memory is
-the most that a run held, a byte of text.
+`rt run` in crates/read_counts builds the program and leaves it in out/. It reads standard input and stops behind the
+bytes, the tokens, or the raw module: `raw` is read from the list of the tokens, `text` from the bytes, each by as many
+workers as are asked for. A step's time is the median of nine runs, less that of reading the bytes alone; that of the
+raw module includes its tokens. With one worker it is the processor's time (user and system), since a machine is seldom
+idle, with several it is the clock's, as is that of the bytes then. Memory is the most that a run held, a byte of text.
 
 First a text of about 60 MB whose bodies have all forms. Then texts of one shape each, once and twice as large: twice the
 text should take at most 2.2 times the time."""

@@ -5,7 +5,7 @@ use Rattle.std.specs.Prelude.{ℕ, zero, suc, List, [], ◌∷◌, ◌++◌, len
 use Rattle.ir_core.specs.declared.names.FuncName.{FuncName}
 use Rattle.ir_core.specs.Module.{Line, Block, Function, Module}
 use Rattle.ir_core.specs.Lookup.{and_then, same_name, find_function}
-use Rattle.ir_core.specs.Site.{callee_of}
+use Rattle.ir_core.specs.Uses.{callee_of}
 
 -- the name that a line calls directly
 abbrev pub called_name : Function → Line → Option FuncName

@@ -2,7 +2,7 @@
 use Rattle.std.proofs.Common.{◌≡◌, ℕ, zero, suc, ◌+◌, List, [], ◌∷◌, drop, Some, sym, ap, ◌∙◌, arith}
 use Rattle.std.specs.List.{slice_get}
 use Rattle.ir_core.specs.Module.{Function, Module}
-use Rattle.ir_core.specs.Numbering.{Numbering, numbering_of, numberings_of}
+use Rattle.ir_text.specs.Numbering.{Numbering, numbering_of, numberings_of}
 
 pub next_left : {A : Type 0} (xs : List A) (i : ℕ) (x : A) → slice_get xs i ≡ Some x → drop i xs ≡ x ∷ drop (i + 1) xs
 next_left [] i x e = absurd cc

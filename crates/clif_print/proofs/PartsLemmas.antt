@@ -5,8 +5,8 @@ use Rattle.std.proofs.lemmas.List.{append-nil, length-map, get_or_append_left, g
 use Rattle.std.specs.List.{slice_get, flat_map}
 use Rattle.std.specs.Prelude.{slice_index}
 use Rattle.ir_core.specs.Module.{Function, Module}
-use Rattle.ir_core.specs.Pieces.{spelled}
-use Rattle.ir_core.specs.Text.{more_functions, text_of, function_text_of}
+use Rattle.ir_text.specs.Pieces.{spelled}
+use Rattle.ir_text.specs.Text.{more_functions, text_of, function_text_of}
 use Rattle.clif_print.specs.Output.{Start, Puts}
 use Rattle.clif_print.specs.Parts.{IsPart, PutsPart, before_function, AreCuts}
 use Rattle.clif_print.proofs.Puts.{nothing, ◌▸◌}

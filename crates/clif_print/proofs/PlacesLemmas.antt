@@ -4,7 +4,7 @@ use Rattle.std.proofs.lemmas.List.{take_more, take-append-drop, length-take-le}
 use Rattle.std.specs.Prelude.{if◌then◌else◌}
 use Rattle.std.proofs.lemmas.Bool.{eqb-true}
 use Rattle.ir_core.specs.Lists.{In, Different, Below}
-use Rattle.ir_core.specs.Numbering.{place}
+use Rattle.ir_text.specs.Numbering.{place}
 
 -- the place of n, counted from k, and d where n is not there
 abbrev pub place_from : ℕ → ℕ → List ℕ → ℕ → ℕ

@@ -19,7 +19,7 @@ use Rattle.ir_core.specs.declared.signatures.Ty.{Ty}
 use Rattle.ir_core.specs.declared.signatures.Ty.TheVariants.{I8, I16, I32, I64, I128}
 use Rattle.ir_core.specs.Module.{Instruction, Line, Block, Function}
 use Rattle.ir_core.specs.Module.{Const, Pure, PureImm, Load, Store, StackStore, Nop, Trap, Jump, BrTable, Direct, Indirect, Plain, Branches, Return, Call}
-use Rattle.ir_core.specs.Text.{text_of}
+use Rattle.ir_text.specs.Text.{text_of}
 use Rattle.ir_core.specs.Calling.{inlined}
 
 -- ---- short ways to write a module down

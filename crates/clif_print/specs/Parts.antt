@@ -1,7 +1,7 @@
 -- A module whose text is written in parts.
 use Rattle.std.specs.Prelude.{◌≡◌, ℕ, zero, suc, ◌+◌, ◌<◌, ◌≤◌, List, [], ◌∷◌, ◌++◌, length, take, slice_index}
 use Rattle.ir_core.specs.Module.{Module}
-use Rattle.ir_core.specs.Text.{text_of}
+use Rattle.ir_text.specs.Text.{text_of}
 use Rattle.clif_print.specs.Output.{Start, Puts}
 
 -- The part of the module's text that begins with a function and ends before another: with the text of the functions before

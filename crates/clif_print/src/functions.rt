@@ -3,9 +3,9 @@ ghost use Rattle.std.specs.Prelude.{◌≡◌, ℕ, ◌+◌, ◌<◌, ◌^◌, L
 ghost use Rattle.ir_core.specs.Edits.{params_of, lines_of};
 ghost use Rattle.ir_core.specs.Lists.{In};
 ghost use Rattle.ir_core.specs.Lookup.{block_numbers, definitions, line_definitions};
-ghost use Rattle.ir_core.specs.Numbering.{Numbering, numbering_of};
-ghost use Rattle.ir_core.specs.Pieces.{Text, spelled, more};
-ghost use Rattle.ir_core.specs.Text.{results, line, lines, type_text, block_parameter, block_parameters, block, next_after, more_blocks, blocks, after_declarations, canonical_function};
+ghost use Rattle.ir_text.specs.Numbering.{Numbering, numbering_of};
+ghost use Rattle.ir_text.specs.Pieces.{Text, spelled, more};
+ghost use Rattle.ir_text.specs.Text.{results, line, lines, type_text, block_parameter, block_parameters, block, next_after, more_blocks, blocks, after_declarations, canonical_function};
 ghost use Rattle.ir_core.specs.Viewed.{line_of};
 ghost use Rattle.clif_print.specs.Output.{Start, Puts};
 ghost use Rattle.clif_print.specs.Walk.{block_at, blocks_at};

@@ -1,7 +1,7 @@
 //! Canonical numbers: values in order of definition in the text, blocks by their place.
 ghost use Rattle.std.specs.Prelude.{◌≡◌, ◌<◌, ◌++◌, List, IfOk, OnOk, Some, length, map, slice_get};
 ghost use Rattle.ir_core.specs.Lookup.{block_numbers, definitions, line_definitions};
-ghost use Rattle.ir_core.specs.Numbering.{Numbering, numbering_of, numberings_of, place};
+ghost use Rattle.ir_text.specs.Numbering.{Numbering, numbering_of, numberings_of, place};
 ghost use Rattle.ir_core.specs.Sound.{IsWhole};
 ghost use Rattle.ir_core.specs.Viewed.{line_of};
 
@@ -18,7 +18,7 @@ pub(crate) struct FuncNumbers {
 }
 
 impl Model for FuncNumbers {
-    ghost use Rattle.ir_core.specs.Numbering.{Numbering};
+    ghost use Rattle.ir_text.specs.Numbering.{Numbering};
 
     ghost Value = { Numbering };
 
@@ -49,7 +49,7 @@ pub struct Numbers {
 
 impl Model for Numbers {
     ghost use Rattle.std.specs.Prelude.{List};
-    ghost use Rattle.ir_core.specs.Numbering.{Numbering};
+    ghost use Rattle.ir_text.specs.Numbering.{Numbering};
 
     ghost Value = { List Numbering };
 

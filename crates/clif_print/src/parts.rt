@@ -4,7 +4,7 @@ ghost use Rattle.std.specs.Io.KnownBytes.{Appends};
 ghost use Rattle.clk_flow.specs.Faults.{Rose, HasCause};
 ghost use Rattle.clk_flow.specs.Whole.{AppendsPrefix};
 ghost use Rattle.ir_core.specs.Sound.{IsWhole};
-ghost use Rattle.ir_core.specs.Text.{text_of, function_text_of};
+ghost use Rattle.ir_text.specs.Text.{text_of, function_text_of};
 ghost use Rattle.clif_print.specs.Output.{Start, Puts};
 ghost use Rattle.clif_print.specs.Parts.{AreCuts, IsPart, PutsPart, before_function};
 ghost use Rattle.clif_print.specs.declared.parts.PrintErr.TheVariants as why;

@@ -1,7 +1,7 @@
 //! The places of numbers in a list.
 ghost use Rattle.std.specs.Prelude.{◌≡◌, ◌+◌, ◌<◌, ◌^◌, IfOk, length};
 ghost use Rattle.ir_core.specs.Lists.{Below, Different};
-ghost use Rattle.ir_core.specs.Numbering.{place};
+ghost use Rattle.ir_text.specs.Numbering.{place};
 
 use std::alloc::{AllocError, Global};
 use std::marker::Model;

@@ -1,8 +1,8 @@
 //! Which suffix an opcode is printed with.
 ghost use Rattle.std.specs.Prelude.{◌≡◌, ℕ, ◌<◌, List, Option};
 ghost use Rattle.ir_core.specs.Lookup.{type_of};
-ghost use Rattle.ir_core.specs.Numbering.{Numbering};
-ghost use Rattle.ir_core.specs.Text.{has_type, same_type, is_known, shown_suffix, typing_operand, op_operand, first_value, second_value};
+ghost use Rattle.ir_text.specs.Numbering.{Numbering};
+ghost use Rattle.ir_text.specs.Text.{has_type, same_type, is_known, shown_suffix, typing_operand, op_operand, first_value, second_value};
 ghost use Rattle.ir_core.specs.Viewed.{instruction_of};
 
 use crate::numbers::FuncNumbers;

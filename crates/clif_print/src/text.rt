@@ -3,8 +3,8 @@ ghost use Rattle.std.specs.Prelude.{◌≡◌, ◌^◌, ◌-◌, ◌<◌, IfOk, 
 ghost use Rattle.std.specs.Io.KnownBytes.{Appends};
 ghost use Rattle.clk_flow.specs.Faults.{HasCause};
 ghost use Rattle.clk_flow.specs.Whole.{AppendsPrefix};
-ghost use Rattle.ir_core.specs.Numbering.{numberings_of};
-ghost use Rattle.ir_core.specs.Text.{text_of, function_text_of};
+ghost use Rattle.ir_text.specs.Numbering.{numberings_of};
+ghost use Rattle.ir_text.specs.Text.{text_of, function_text_of};
 ghost use Rattle.clif_print.specs.Output.{Start, Puts};
 
 use crate::functions::put_function;

@@ -1,6 +1,6 @@
 //! The words.
 ghost use Rattle.std.specs.Prelude.{◌≡◌};
-ghost use Rattle.ir_core.specs.Words.{op_word, condition_word, type_word, type_of_width, convention_word};
+ghost use Rattle.ir_text.specs.Words.{op_word, condition_word, type_word, type_of_width, convention_word};
 
 use clk_num::{Cc, Op, Width};
 use ir_core::{Conv, Ty};

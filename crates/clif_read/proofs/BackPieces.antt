@@ -16,7 +16,7 @@ use Rattle.clif_lex.specs.Bytes.{is_blank, is_letter, is_word_byte, is_mark, fir
 use Rattle.clif_lex.specs.Lexing.{◌>>=◌, is_header_word, token, tokens_from, tokens_of}
 use Rattle.clif_lex.specs.Spans.{spelling}
 use Rattle.clif_lex.proofs.Runs.{with_front}
-use Rattle.ir_core.specs.Pieces.{Text, Nothing, Blanks, Word, Numbered, Name, Number, Signed, Offset, Mark, Arrow, Then, spelled, with_sign}
+use Rattle.ir_text.specs.Pieces.{Text, Nothing, Blanks, Word, Numbered, Name, Number, Signed, Offset, Mark, Arrow, Then, spelled, with_sign}
 use Rattle.clif_read.proofs.BackDecimals.{decimal_digits, decimal_some}
 use Rattle.clif_read.proofs.BackFronts.{blanks_then, word_then, name_then, mark_then, arrow_then, first_of, letter_some, all_wider, digit_word}
 use Rattle.clif_read.proofs.BackNumbers.{is_64_bits, below, number_then, signed_number_then, offset_then}

@@ -6,8 +6,8 @@ use Rattle.std.proofs.lemmas.Bool.{and_parts, and_from}
 use Rattle.std.proofs.lemmas.Bool.Decides.{nat_tests}
 use Rattle.clif_lex.specs.Bytes.{is_word_byte, first}
 use Rattle.ir_core.specs.declared.signatures.Param.{Param}
-use Rattle.ir_core.specs.Pieces.{Text, Nothing, ◌▹◌, more, separated}
-use Rattle.ir_core.specs.Text as text
+use Rattle.ir_text.specs.Pieces.{Text, Nothing, ◌▹◌, more, separated}
+use Rattle.ir_text.specs.Text as text
 use Rattle.clif_read.specs.declared.simple.written.Assignment.{Assignment}
 use Rattle.clif_read.specs.declared.simple.written.Computation.{Computation}
 use Rattle.clif_read.specs.declared.simple.written.Computation.TheVariants.{Iconst, Iadd}

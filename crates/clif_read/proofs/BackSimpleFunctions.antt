@@ -7,8 +7,8 @@ use Rattle.std.proofs.lemmas.List.{append-nil}
 use Rattle.std.specs.Fmt.{decimal}
 use Rattle.clif_lex.specs.declared.spans.TokenKind.TheVariants as kind
 use Rattle.grammar.specs.Rules.{Lexeme, Rule, Alt, Many, Value}
-use Rattle.ir_core.specs.Pieces.{Text, Nothing, Word, Numbered, Name, Mark, ◌▹◌, spelled, line_end, equals}
-use Rattle.ir_core.specs.Text as text
+use Rattle.ir_text.specs.Pieces.{Text, Nothing, Word, Numbered, Name, Mark, ◌▹◌, spelled, line_end, equals}
+use Rattle.ir_text.specs.Text as text
 use Rattle.clif_read.specs.declared.simple.lexemes.Class.TheVariants as class
 use Rattle.clif_read.specs.declared.simple.written.Assignment.{Assignment}
 use Rattle.clif_read.specs.declared.simple.written.Computation.{Computation}

@@ -8,7 +8,7 @@ use Rattle.std.proofs.lemmas.Fmt.{decimal_by_steps, decimal_digit}
 use Rattle.clif_lex.specs.declared.spans.Token.{Token}
 use Rattle.clif_lex.specs.Bytes.{first}
 use Rattle.grammar.specs.Rules.{Lexeme}
-use Rattle.ir_core.specs.Pieces.{Text, Nothing, Blanks, Word, Numbered, Name, Number, Signed, Offset, Mark, Arrow, Then, spelled}
+use Rattle.ir_text.specs.Pieces.{Text, Nothing, Blanks, Word, Numbered, Name, Number, Signed, Offset, Mark, Arrow, Then, spelled}
 use Rattle.clif_read.specs.declared.simple.lexemes.Class.TheVariants as class
 use Rattle.clif_read.specs.SimpleWords.{is_shortest, entity_number, word, lexeme_as, lexeme_in, is_comment, lexemes}
 use Rattle.clif_read.proofs.BackDecimals.{decimal_digits, decimal_value}

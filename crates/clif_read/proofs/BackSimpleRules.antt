@@ -6,8 +6,8 @@ use Rattle.std.proofs.lemmas.Bool.{and_parts}
 use Rattle.std.proofs.lemmas.List.{append-nil, length-map}
 use Rattle.std.proofs.Math.ListN.{length-replicate}
 use Rattle.grammar.specs.Rules.{Lexeme, Seq, Opt, Value}
-use Rattle.ir_core.specs.Pieces.{Word, Mark, spelled, separated, in_parentheses}
-use Rattle.ir_core.specs.Text as text
+use Rattle.ir_text.specs.Pieces.{Word, Mark, spelled, separated, in_parentheses}
+use Rattle.ir_text.specs.Text as text
 use Rattle.ir_core.specs.declared.signatures.Param.{Param}
 use Rattle.clif_read.specs.declared.simple.lexemes.Class.TheVariants as class
 use Rattle.clif_read.specs.SimpleGrammar as g

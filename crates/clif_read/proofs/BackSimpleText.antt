@@ -10,9 +10,9 @@ use Rattle.ir_core.specs.declared.signatures.Ty.{Ty}
 use Rattle.ir_core.specs.declared.signatures.Ty.TheVariants.{I64}
 use Rattle.ir_core.specs.Lookup.{type_in, type_of, line_definitions}
 use Rattle.ir_core.specs.Module.{Line, Function}
-use Rattle.ir_core.specs.Numbering.{Numbering, numbering_of, place}
-use Rattle.ir_core.specs.Pieces.{Text, Nothing, Word, Numbered, Name, Signed, Mark, ◌▹◌, space, line_end, indent, comma, colon, equals, more, separated, in_parentheses}
-use Rattle.ir_core.specs.Text as text
+use Rattle.ir_text.specs.Numbering.{Numbering, numbering_of, place}
+use Rattle.ir_text.specs.Pieces.{Text, Nothing, Word, Numbered, Name, Signed, Mark, ◌▹◌, space, line_end, indent, comma, colon, equals, more, separated, in_parentheses}
+use Rattle.ir_text.specs.Text as text
 use Rattle.clif_read.specs.declared.simple.written.Assignment.{Assignment}
 use Rattle.clif_read.specs.declared.simple.written.Computation.{Computation}
 use Rattle.clif_read.specs.declared.simple.written.Computation.TheVariants.{Iconst, Iadd}

@@ -4,7 +4,7 @@ use Rattle.std.specs.Prelude.{codes, ℤ}
 use Rattle.std.specs.Fmt.{decimal, signed_decimal}
 use Rattle.grammar.specs.Rules.{Lexeme, Rule, Tok, Seq, Opt, Many, Value, Derives}
 use Rattle.clif_lex.specs.declared.spans.TokenKind.TheVariants as kind
-use Rattle.ir_core.specs.Pieces.{Text, Word, Numbered, Name, Signed, Mark, Arrow, spelled, more, separated}
+use Rattle.ir_text.specs.Pieces.{Text, Word, Numbered, Name, Signed, Mark, Arrow, spelled, more, separated}
 use Rattle.clif_read.specs.declared.simple.lexemes.Class.{Class}
 use Rattle.clif_read.specs.declared.simple.lexemes.Class.TheVariants as class
 use Rattle.clif_read.specs.SimpleClasses.{code}

@@ -7,8 +7,8 @@ use Rattle.clif_lex.specs.declared.spans.Token.{Token}
 use Rattle.clif_lex.specs.Lexing.{tokens_of}
 use Rattle.grammar.specs.Rules.{Lexeme, Derives}
 use Rattle.ir_core.specs.Module.{Module}
-use Rattle.ir_core.specs.Pieces.{Text, ◌▹◌, spelled, line_end}
-use Rattle.ir_core.specs.Text.{canonical_text, more_functions, text_of}
+use Rattle.ir_text.specs.Pieces.{Text, ◌▹◌, spelled, line_end}
+use Rattle.ir_text.specs.Text.{canonical_text, more_functions, text_of}
 use Rattle.clif_read.specs.SimpleBack.{ReadsBack}
 use Rattle.clif_read.specs.SimpleGrammar.{OneBlock, module_rule}
 use Rattle.clif_read.specs.SimpleModule.{Means, functions, function_fits, is_named, may_follow, most_functions, functions_fit, meaning}

@@ -3,7 +3,7 @@ use Rattle.std.specs.Prelude.{ℕ, ◌+◌, List, [], ◌∷◌, codes}
 use Rattle.clk_num.specs.declared.op.Cc.TheVariants as cc
 use Rattle.clk_num.specs.declared.op.Op.TheVariants as ops
 use Rattle.clk_num.specs.declared.width.Width.TheVariants as widths
-use Rattle.ir_core.specs.Words.{op_word}
+use Rattle.ir_text.specs.Words.{op_word}
 use Rattle.clif_words.specs.declared.opcodes.Opcode.{Opcode}
 use Rattle.clif_words.specs.declared.opcodes.Opcode.TheVariants.{Iconst, Iadd, Isub, Imul, Band, Bor, Bxor, Smin, Smax, Umin, Umax, Umulhi, Smulhi, Udiv, Urem, Sdiv, Srem, Ishl, Ushr, Sshr, Rotl, Rotr, UaddOverflow, SaddOverflow, UsubOverflow, SsubOverflow, Iconcat, Ineg, Bnot, Iabs, Clz, Ctz, Popcnt, Bitrev, Bswap, Isplit, Icmp, Select, Uextend, Sextend, Ireduce, IaddImm, ImulImm, BandImm, BorImm, BxorImm, IshlImm, UshrImm, SshrImm, IcmpImm, Load, Uload8, Sload8, Uload16, Sload16, Uload32, Sload32, Store, Istore8, Istore16, Istore32, StackLoad, StackStore, FuncAddr, Nop, SequencePoint, Jump, Brif, BrTable, Return, Trap, Trapz, Trapnz, Call, ReturnCall, TryCall, CallIndirect, ReturnCallIndirect, TryCallIndirect}
 use Rattle.clif_words.specs.declared.opcodes.OpcodeRow.{OpcodeRow}

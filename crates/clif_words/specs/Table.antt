@@ -6,7 +6,7 @@ use Rattle.clk_num.specs.declared.op.Op.TheVariants as ops
 use Rattle.clk_num.specs.declared.width.Width.TheVariants as widths
 use Rattle.ir_core.specs.declared.signatures.Conv.TheVariants as conv
 use Rattle.ir_core.specs.declared.signatures.Ty.TheVariants as ty
-use Rattle.ir_core.specs.Words.{op_word, condition_word, type_word, convention_word}
+use Rattle.ir_text.specs.Words.{op_word, condition_word, type_word, convention_word}
 use Rattle.clif_words.specs.declared.class.Class.{Class}
 use Rattle.clif_words.specs.declared.class.Class.TheVariants.{Align, Big, Binary, BinaryImm, BrTable, Brif, Call, CallIndirect, Cold, Colocated, Condition, Context, Conv, Convert, Default, ExplicitSlot, Ext, Flag, FuncAddr, Function, Icmp, IcmpImm, Iconst, Jump, Little, Load, LoadWide, Nullary, RefusedDecl, RefusedOpcode, RefusedType, Return, Select, Sret, StackLoad, StackStore, Store, Trap, TrapCode, TrapIf, TryCall, TryCallIndirect, Ty, TyI64, Unary, Vmctx}
 

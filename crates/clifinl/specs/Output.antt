@@ -6,7 +6,7 @@ use Rattle.clif_lex.specs.declared.faults.TextKind.TheVariants.{Syntax}
 use Rattle.clif_read.specs.SimpleBack.{ReadsBack}
 use Rattle.clif_read.specs.SimpleModule.{Reads}
 use Rattle.ir_core.specs.Module.{Module}
-use Rattle.ir_core.specs.Text.{text_of}
+use Rattle.ir_text.specs.Text.{text_of}
 use Rattle.clifinl.specs.declared.status.Status.{Status}
 use Rattle.clifinl.specs.declared.status.Status.TheVariants.{Refused}
 use Rattle.clifinl.specs.declared.status.Refusal.TheVariants as refusal

@@ -8,16 +8,16 @@ use Rattle.ir_core.specs.declared.declarations.Callee.{Callee}
 use Rattle.ir_core.specs.Module.{CallTarget, Direct, Indirect, Instruction, Plain, Branches, SequencePoint, Return, Call, ReturnCall, TryCall, Line, Block, Function, Module}
 use Rattle.ir_core.specs.Lookup.{and_then, find_block, find_function}
 use Rattle.ir_core.specs.Lists.{In, Each}
-use Rattle.ir_core.specs.Splice.{sides, splice_with}
-use Rattle.ir_core.specs.Site.{named_callee, callee_of}
+use Rattle.ir_semantics.specs.Splice.{sides, splice_with}
+use Rattle.ir_core.specs.Uses.{named_callee, callee_of}
 use Rattle.ir_core.specs.Uses.{called_callees, callees_used}
 use Rattle.ir_core.specs.Whole.{LineWhole, BlockWhole, Whole, DifferentNames}
 use Rattle.call_graph.specs.Reach.{called_name, or_nothing, names_in, called_names, calls_of, apart}
 use Rattle.call_graph.specs.Order.{names_of}
 use Rattle.call_graph.proofs.Ranks.{call_reaches, under_of, rank, rank_falls, rank_bound}
-use Rattle.inline_body.proofs.Local.{some_same}
-use Rattle.inline_body.proofs.Places.{find_hit, find_skip}
-use Rattle.inline_body.proofs.Functions.{cases_named, function_hit, function_skip, function_name}
+use Rattle.inline_outcomes.proofs.Local.{some_same}
+use Rattle.inline_outcomes.proofs.Places.{find_hit, find_skip}
+use Rattle.inline_outcomes.proofs.Functions.{cases_named, function_hit, function_skip, function_name}
 use Rattle.inline_pass.specs.Policy.{Policy, takes}
 use Rattle.inline_pass.specs.Sites.{Place, own_sites, moved, called}
 use Rattle.inline_pass.specs.Finished.{inline_by, finish_by, body_of, finished_in, finished}

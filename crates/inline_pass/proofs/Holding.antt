@@ -6,16 +6,16 @@ use Rattle.std.proofs.lemmas.Bool.{leb-true}
 use Rattle.ir_core.specs.declared.names.FuncName.{FuncName}
 use Rattle.ir_core.specs.Module.{Function, Module}
 use Rattle.ir_core.specs.Lookup.{and_then, find_function}
-use Rattle.ir_core.specs.Splice.{sides, spliced, splice_with, replace}
+use Rattle.ir_semantics.specs.Splice.{sides, spliced, splice_with, replace}
 use Rattle.ir_core.specs.Size.{size_of}
 use Rattle.ir_core.specs.Whole.{IsModule}
-use Rattle.ir_core.specs.Accepted.{Accepted}
-use Rattle.ir_core.specs.Kept.{SpliceAccepted, SpliceWritable}
-use Rattle.ir_core.specs.Writable.{Writable}
+use Rattle.ir_semantics.specs.Accepted.{Accepted}
+use Rattle.inline_acceptance.specs.Kept.{SpliceAccepted, SpliceWritable}
+use Rattle.ir_text.specs.Writable.{Writable}
 use Rattle.ir_core.proofs.Equal.{both_true}
 use Rattle.call_graph.specs.Reach.{apart}
 use Rattle.call_graph.specs.Order.{bottom_up}
-use Rattle.inline_body.proofs.Functions.{function_name, replaced, others_stay}
+use Rattle.inline_outcomes.proofs.Functions.{function_name, replaced, others_stay}
 use Rattle.inline_pass.specs.Policy.{Policy, takes}
 use Rattle.inline_pass.specs.Sites.{Place, own_sites, moved, called}
 use Rattle.inline_pass.specs.Finished.{inline_by, body_of, passed}

@@ -6,17 +6,17 @@ use Rattle.ir_core.specs.declared.names.FuncName.{FuncName}
 use Rattle.ir_core.specs.Module.{Line, Block, Function, Module}
 use Rattle.ir_core.specs.Lookup.{and_then, same_name, find_block, find_function}
 use Rattle.ir_core.specs.Lists.{In}
-use Rattle.ir_core.specs.Splice.{sides, spliced, splice_with, replace}
+use Rattle.ir_semantics.specs.Splice.{sides, spliced, splice_with, replace}
 use Rattle.ir_core.specs.Whole.{Whole, DifferentNames, IsModule}
 use Rattle.ir_core.proofs.Equal.{equal_name}
 use Rattle.call_graph.specs.Reach.{called_names, calls_of, apart}
 use Rattle.call_graph.specs.Order.{names_of, stands, CalleesBefore, BottomUp, bottom_up}
 use Rattle.call_graph.proofs.Standing.{stands_of, not_standing}
 use Rattle.call_graph.proofs.Placing.{order_is_bottom_up}
-use Rattle.inline_body.specs.Laws.{RunsKept}
-use Rattle.inline_body.proofs.Local.{some_same}
-use Rattle.inline_body.proofs.Functions.{cases_named, function_hit, function_skip, function_name}
-use Rattle.inline_body.proofs.Linking.{map_same}
+use Rattle.inline_outcomes.specs.Laws.{RunsKept}
+use Rattle.inline_outcomes.proofs.Local.{some_same}
+use Rattle.inline_outcomes.proofs.Functions.{cases_named, function_hit, function_skip, function_name}
+use Rattle.inline_outcomes.proofs.Linking.{map_same}
 use Rattle.inline_pass.specs.Policy.{Policy, takes}
 use Rattle.inline_pass.specs.Sites.{Place, own_sites, moved, called}
 use Rattle.inline_pass.specs.Finished.{inline_by, body_of, finished_in, finished, passed}

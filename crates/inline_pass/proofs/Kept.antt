@@ -1,8 +1,8 @@
 -- The pass and finished bodies stay accepted and writable, since a splice does.
-use Rattle.inline_body.proofs.KeptModules.{splice_accepted}
-use Rattle.inline_body.proofs.KeptWritable.{splice_writable}
-use Rattle.inline_body.proofs.KeptCanon.{numbering_accepted}
-use Rattle.inline_body.proofs.KeptSizes.{numbering_writable}
+use Rattle.inline_acceptance.proofs.KeptModules.{splice_accepted}
+use Rattle.inline_acceptance.proofs.KeptWritable.{splice_writable}
+use Rattle.inline_acceptance.proofs.KeptCanon.{numbering_accepted}
+use Rattle.inline_acceptance.proofs.KeptSizes.{numbering_writable}
 use Rattle.inline_pass.specs.Finished.{passed}
 use Rattle.inline_pass.specs.Pass.{pass}
 use Rattle.inline_pass.specs.Kept.{FinishedAccepted, FinishedWritable, PassAccepted, PassWritable, RenumberedFinishedAccepted, RenumberedFinishedWritable, RenumberedPassAccepted, RenumberedPassWritable}

@@ -5,17 +5,18 @@ use Rattle.ir_core.specs.declared.names.FuncName.{FuncName}
 use Rattle.ir_core.specs.declared.declarations.Callee.{Callee}
 use Rattle.ir_core.specs.Module.{Line, Block, Function, Module}
 use Rattle.ir_core.specs.Lookup.{and_then, same_name, find_block, find_function}
-use Rattle.ir_core.specs.Splice.{Splicing, spliced, sides, splice_with, replace}
-use Rattle.ir_core.specs.Site.{callee_of, Site}
-use Rattle.ir_core.specs.Kept.{NeverStuck}
+use Rattle.ir_semantics.specs.Splice.{Splicing, spliced, sides, splice_with, replace}
+use Rattle.ir_semantics.specs.Site.{Site}
+use Rattle.ir_core.specs.Uses.{callee_of}
+use Rattle.ir_semantics.specs.Kept.{NeverStuck}
 use Rattle.call_graph.specs.Reach.{reaches, one_piece, apart}
-use Rattle.inline_body.specs.Laws.{RunsKept}
-use Rattle.inline_body.proofs.Local.{some_same}
+use Rattle.inline_outcomes.specs.Laws.{RunsKept}
+use Rattle.inline_outcomes.proofs.Local.{some_same}
 use Rattle.ir_core.proofs.Equal.{equal_name}
-use Rattle.inline_body.proofs.Functions.{function_hit, function_skip, function_name, cases_named, replaced, others_stay}
-use Rattle.inline_body.proofs.Linking.{distinct_sides, splice_runs}
-use Rattle.inline_body.proofs.Numbering.{runs_kept, kept_on}
-use Rattle.inline_body.proofs.Laws.{same_of}
+use Rattle.inline_outcomes.proofs.Functions.{function_hit, function_skip, function_name, cases_named, replaced, others_stay}
+use Rattle.inline_outcomes.proofs.Linking.{distinct_sides, splice_runs}
+use Rattle.inline_outcomes.proofs.Numbering.{runs_kept, kept_on}
+use Rattle.inline_outcomes.proofs.Keeping.{same_of}
 use Rattle.inline_pass.specs.Policy.{Policy, takes}
 use Rattle.inline_pass.specs.Sites.{Place, own_sites, moved, called}
 use Rattle.inline_pass.specs.Finished.{inline_by, body_of}

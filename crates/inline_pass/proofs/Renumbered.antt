@@ -1,7 +1,7 @@
 -- The pass under other numbers.
-use Rattle.ir_core.specs.Kept.{NeverStuck}
-use Rattle.inline_body.proofs.Laws.{same_of}
-use Rattle.inline_body.proofs.Numbering.{kept_on, numbering_keeps_runs}
+use Rattle.ir_semantics.specs.Kept.{NeverStuck}
+use Rattle.inline_outcomes.proofs.Keeping.{same_of}
+use Rattle.inline_outcomes.proofs.Numbering.{kept_on, numbering_keeps_runs}
 use Rattle.inline_pass.specs.Pass.{pass}
 use Rattle.inline_pass.specs.Laws.{RenumberedPassKeeps}
 use Rattle.inline_pass.proofs.Passing.{pass_keeps_runs}

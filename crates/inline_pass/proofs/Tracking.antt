@@ -7,15 +7,15 @@ use Rattle.ir_core.specs.declared.declarations.Callee.{Callee}
 use Rattle.ir_core.specs.Module.{CallTarget, Direct, Indirect, Instruction, Plain, Branches, SequencePoint, Return, Call, ReturnCall, TryCall, Line, Block, Function}
 use Rattle.ir_core.specs.Lookup.{find_block}
 use Rattle.ir_core.specs.Lists.{In}
-use Rattle.ir_core.specs.Renaming.{block_under, called_under, instruction_under, line_under}
-use Rattle.ir_core.specs.Splice.{Splicing, Kind, Within, Last, Tries, kind_of, body, jump_in, cut_block, after_block, after_blocks, caller_names, spliced, spliced_blocks, sides, splice_with}
-use Rattle.ir_core.specs.Site.{named_callee, callee_of}
+use Rattle.ir_semantics.specs.Renaming.{block_under, called_under, instruction_under, line_under}
+use Rattle.ir_semantics.specs.Splice.{Splicing, Kind, Within, Last, Tries, kind_of, body, jump_in, cut_block, after_block, after_blocks, caller_names, spliced, spliced_blocks, sides, splice_with}
+use Rattle.ir_core.specs.Uses.{named_callee, callee_of}
 use Rattle.ir_core.proofs.Equal.{both_true, number_equal}
-use Rattle.inline_body.proofs.Local.{some_same}
-use Rattle.inline_body.proofs.Related.{Distinct, RestF}
-use Rattle.inline_body.proofs.Places.{find_hit, find_skip, append_none, g_off, after_off, after_cut, f_found}
-use Rattle.inline_body.proofs.Merging.{own_callee}
-use Rattle.inline_body.proofs.Linking.{distinct_sides}
+use Rattle.inline_outcomes.proofs.Local.{some_same}
+use Rattle.inline_outcomes.proofs.Related.{Distinct, RestF}
+use Rattle.inline_outcomes.proofs.Places.{find_hit, find_skip, append_none, g_off, after_off, after_cut, f_found}
+use Rattle.inline_outcomes.proofs.Merging.{own_callee}
+use Rattle.inline_outcomes.proofs.Linking.{distinct_sides}
 use Rattle.inline_pass.specs.Sites.{Place, moved, called}
 use Rattle.inline_pass.proofs.Passing.{found, cut_list}
 

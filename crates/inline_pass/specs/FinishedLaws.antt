@@ -4,12 +4,12 @@ use Rattle.ir_core.specs.declared.names.FuncName.{FuncName}
 use Rattle.ir_core.specs.Module.{Function, Module}
 use Rattle.ir_core.specs.Lookup.{and_then}
 use Rattle.ir_core.specs.Lists.{In}
-use Rattle.ir_core.specs.Same.{Same}
+use Rattle.ir_semantics.specs.Same.{Same}
 use Rattle.ir_core.specs.Whole.{IsModule}
-use Rattle.ir_core.specs.Accepted.{Accepted}
-use Rattle.ir_core.specs.Canon.{SameUpToNumbering}
+use Rattle.ir_semantics.specs.Accepted.{Accepted}
+use Rattle.ir_semantics.specs.Canon.{SameUpToNumbering}
 use Rattle.call_graph.specs.Order.{BottomUp, bottom_up}
-use Rattle.inline_body.specs.Laws.{RunsKept}
+use Rattle.inline_outcomes.specs.Laws.{RunsKept}
 use Rattle.inline_pass.specs.Policy.{Policy}
 use Rattle.inline_pass.specs.Finished.{body_of, finish_by, finished, passed}
 use Rattle.inline_pass.specs.Pass.{pass}

@@ -4,9 +4,9 @@ use Rattle.std.specs.Prelude.{◌≤◌, List}
 use Rattle.ir_core.specs.declared.names.FuncName.{FuncName}
 use Rattle.ir_core.specs.Module.{Module}
 use Rattle.ir_core.specs.Whole.{IsModule}
-use Rattle.ir_core.specs.Accepted.{Accepted}
-use Rattle.ir_core.specs.Canon.{SameUpToNumbering}
-use Rattle.ir_core.specs.Writable.{Writable}
+use Rattle.ir_semantics.specs.Accepted.{Accepted}
+use Rattle.ir_semantics.specs.Canon.{SameUpToNumbering}
+use Rattle.ir_text.specs.Writable.{Writable}
 use Rattle.inline_pass.specs.Policy.{Policy}
 use Rattle.inline_pass.specs.Finished.{passed}
 use Rattle.inline_pass.specs.Pass.{pass}

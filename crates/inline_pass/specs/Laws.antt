@@ -2,11 +2,11 @@
 use Rattle.std.specs.Prelude.{List}
 use Rattle.ir_core.specs.declared.names.FuncName.{FuncName}
 use Rattle.ir_core.specs.Module.{Module}
-use Rattle.ir_core.specs.Same.{Same}
+use Rattle.ir_semantics.specs.Same.{Same}
 use Rattle.ir_core.specs.Whole.{IsModule}
-use Rattle.ir_core.specs.Accepted.{Accepted}
-use Rattle.ir_core.specs.Canon.{SameUpToNumbering}
-use Rattle.inline_body.specs.Laws.{RunsKept}
+use Rattle.ir_semantics.specs.Accepted.{Accepted}
+use Rattle.ir_semantics.specs.Canon.{SameUpToNumbering}
+use Rattle.inline_outcomes.specs.Laws.{RunsKept}
 use Rattle.inline_pass.specs.Policy.{Policy}
 use Rattle.inline_pass.specs.Pass.{pass}
 

@@ -3,7 +3,7 @@ use Rattle.std.specs.Prelude.{List, [], ◌∷◌, Some, None}
 use Rattle.ir_core.specs.declared.names.FuncName.{FuncName}
 use Rattle.ir_core.specs.Module.{Function, Module}
 use Rattle.ir_core.specs.Lookup.{find_function}
-use Rattle.ir_core.specs.Splice.{replace}
+use Rattle.ir_semantics.specs.Splice.{replace}
 use Rattle.inline_pass.specs.Policy.{Policy}
 use Rattle.inline_pass.specs.Finished.{body_of, finish_by}
 

@@ -3,8 +3,8 @@ use Rattle.std.specs.Prelude.{ℕ, suc, ◌+◌, ◌-◌, List, [], ◌∷◌, �
 use Rattle.ir_core.specs.declared.names.FuncName.{FuncName}
 use Rattle.ir_core.specs.Module.{Line, Block, Function}
 use Rattle.ir_core.specs.Lookup.{and_then, find_block}
-use Rattle.ir_core.specs.Splice.{sides}
-use Rattle.ir_core.specs.Site.{callee_of}
+use Rattle.ir_semantics.specs.Splice.{sides}
+use Rattle.ir_core.specs.Uses.{callee_of}
 
 -- a block's number and the place of a line in it
 abbrev pub Place : Type 0

@@ -23,7 +23,7 @@ pub fn pass_keeps_runs()
 pub fn pass_keeps()
     ensures { PassKeeps }
 {
-    ir_core::accepted_never_sticks();
+    ir_semantics::laws::accepted_never_sticks();
 }
 
 /// A module that is the pass of an accepted module up to the numbers of values and blocks has the outcomes of the accepted
@@ -31,7 +31,7 @@ pub fn pass_keeps()
 pub fn renumbered_pass_keeps()
     ensures { RenumberedPassKeeps }
 {
-    ir_core::accepted_never_sticks();
+    ir_semantics::laws::accepted_never_sticks();
 }
 
 /// The finished body of a function of a module is its own text, with the finished bodies of functions in other pieces at
@@ -61,7 +61,7 @@ pub fn finished_keep_runs()
 pub fn finished_keep()
     ensures { FinishedKeep }
 {
-    ir_core::accepted_never_sticks();
+    ir_semantics::laws::accepted_never_sticks();
 }
 
 /// A module that is the finished bodies of an accepted module up to the numbers of values and blocks has the outcomes of the
@@ -69,5 +69,5 @@ pub fn finished_keep()
 pub fn renumbered_finished_keep()
     ensures { RenumberedFinishedKeep }
 {
-    ir_core::accepted_never_sticks();
+    ir_semantics::laws::accepted_never_sticks();
 }

@@ -1,5 +1,5 @@
 -- What an instruction uses: values, targets, and the numbers of slots, signatures and callees.
-use Rattle.std.specs.Prelude.{ℕ, List, [], ◌∷◌, ◌++◌, map}
+use Rattle.std.specs.Prelude.{ℕ, List, [], ◌∷◌, ◌++◌, map, Option, Some, None}
 use Rattle.exn_tables.specs.declared.table.Entry.{Entry}
 use Rattle.debug_tags.specs.declared.tags.Tag.{Tag}
 use Rattle.debug_tags.specs.declared.tags.Tag.TheVariants as tag
@@ -115,3 +115,16 @@ sigs_used _ = []
 
 abbrev pub blocks_used : Instruction → List ℕ
 blocks_used i = map (λ t. t.block) (targets i)
+
+-- ---- the callee that a call names
+
+abbrev pub named_callee : CallTarget → Option ℕ
+named_callee (Direct k) = Some k
+named_callee (Indirect s a) = None
+
+-- the callee declaration that a direct call names
+abbrev pub callee_of : Instruction → Option ℕ
+callee_of (Call t args) = named_callee t
+callee_of (ReturnCall t args) = named_callee t
+callee_of (TryCall t sig args normal table) = named_callee t
+callee_of _ = None

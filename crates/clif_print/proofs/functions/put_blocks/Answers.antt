@@ -2,8 +2,8 @@ use Rattle.std.proofs.Common.{◌++◌, List, ℕ, length, ap, sym, subst, arith
 use Rattle.ir_core.specs.Edits.{params_of, lines_of}
 use Rattle.ir_core.specs.Lookup.{definitions, line_definitions}
 use Rattle.ir_core.specs.Module.{Block}
-use Rattle.ir_core.specs.Pieces.{spelled}
-use Rattle.ir_core.specs.Text.{blocks}
+use Rattle.ir_text.specs.Pieces.{spelled}
+use Rattle.ir_text.specs.Text.{blocks}
 use Rattle.clif_print.specs.Output.{Puts}
 use Rattle.clif_print.specs.Walk.{blocks_at}
 use Rattle.clif_print.proofs.Blocks.{first_block}

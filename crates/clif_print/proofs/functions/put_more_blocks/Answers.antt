@@ -1,8 +1,8 @@
 use Rattle.std.proofs.Common.{◌≡◌, ◌++◌, List, ℕ, length, ap, refl, arith, rules, length-append}
 use Rattle.ir_core.specs.Edits.{params_of, lines_of}
 use Rattle.ir_core.specs.Lookup.{definitions, line_definitions}
-use Rattle.ir_core.specs.Pieces.{spelled}
-use Rattle.ir_core.specs.Text.{more_blocks}
+use Rattle.ir_text.specs.Pieces.{spelled}
+use Rattle.ir_text.specs.Text.{more_blocks}
 use Rattle.clif_print.specs.Walk.{blocks_at}
 use Rattle.clif_print.proofs.Blocks.{first_in, rest_in}
 use Rattle.clif_print.proofs.Puts.{begins, goes, ◌▸◌}

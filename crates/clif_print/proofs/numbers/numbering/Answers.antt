@@ -1,6 +1,6 @@
 use Rattle.std.proofs.Common.{◌≡◌, ◌+◌, ◌∷◌, ◌++◌, [], List, drop, ap, sym, ◌∙◌, append_assoc}
 use Rattle.ir_core.specs.Module.{Function}
-use Rattle.ir_core.specs.Numbering.{Numbering, numbering_of, numberings_of}
+use Rattle.ir_text.specs.Numbering.{Numbering, numbering_of, numberings_of}
 use Rattle.clif_print.proofs.Left.{next_left}
 use Rattle.clif_print.proofs.numbers.numbering.Goals as goal
 

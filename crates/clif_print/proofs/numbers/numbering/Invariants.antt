@@ -1,5 +1,5 @@
 use Rattle.std.proofs.Common.{◌≡◌, ◌++◌, drop}
-use Rattle.ir_core.specs.Numbering.{numberings_of}
+use Rattle.ir_text.specs.Numbering.{numberings_of}
 use Rattle.clif_print.proofs.numbers.numbering.Given as goal
 
 abbrev pub invariant-loop-i : goal.invariant-loop-i

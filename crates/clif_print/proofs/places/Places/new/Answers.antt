@@ -1,6 +1,6 @@
 use Rattle.std.proofs.Common.{◌≡◌, ℕ, ◌+◌, ◌<◌, List, length, take, get_or, ap, sym, ◌∙◌, arith}
 use Rattle.std.proofs.lemmas.List.{take_all, length-set}
-use Rattle.ir_core.specs.Numbering.{place}
+use Rattle.ir_text.specs.Numbering.{place}
 use Rattle.clif_print.proofs.PlacesLemmas.{below_at, turn, place_from, place_is}
 use Rattle.clif_print.proofs.Ranges.{few}
 use Rattle.clif_print.proofs.places.Places.new.Goals as goal

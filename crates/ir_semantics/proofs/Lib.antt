@@ -1,0 +1,5 @@
+pub mod SafetyPlaces
+pub mod SafetyRuns
+pub mod SafetyStands
+pub mod SafetySteps
+pub mod SafetyTypes

@@ -1,0 +1,35 @@
+-- Canonical numbers of a function: values in order of definition in the text, blocks by their place. Slots, signatures and
+-- callees keep theirs. Whole functions with the same canonical form are the same up to numbering.
+use Rattle.std.specs.Prelude.{◌≡◌, ℕ, suc, List, [], ◌∷◌, ◌++◌, map, nat_eq, if◌then◌else◌}
+use Rattle.ir_core.specs.declared.signatures.Ty.{Ty}
+use Rattle.ir_core.specs.Module.{Function, Module}
+use Rattle.ir_core.specs.Lookup.{type_in, definitions, block_numbers}
+use Rattle.ir_core.specs.Lists.{Each}
+use Rattle.ir_semantics.specs.Renaming.{Renaming, block_under}
+use Rattle.ir_semantics.specs.Splice.{with_type}
+use Rattle.ir_core.specs.Whole.{Whole}
+
+-- the place of a number in a list; what is not in it comes behind
+abbrev pub place : List ℕ → ℕ → ℕ
+place [] v = v
+place (x ∷ xs) v = if nat_eq v x then 0 else suc (place xs v)
+
+abbrev pub canonical_names : Function → Renaming
+canonical_names f = record { value = place (definitions f.blocks); block = place (block_numbers f.blocks); slot = λ k. k; sig = λ s. s; callee = λ k. k }
+
+-- the types of values in the order of a list, each under its new number
+abbrev pub types_in_order : (ℕ → ℕ) → List (ℕ × Ty) → List ℕ → List (ℕ × Ty)
+types_in_order new types [] = []
+types_in_order new types (v ∷ vs) = with_type (new v) (type_in types v) ++ types_in_order new types vs
+
+abbrev pub canonical : Function → Function
+canonical f = record f { types = types_in_order (canonical_names f).value f.types (definitions f.blocks); blocks = map (block_under (canonical_names f)) f.blocks }
+
+abbrev pub canonical_module : Module → Module
+canonical_module m = map canonical m
+
+abbrev pub SameFunction : Function → Function → Type 0
+SameFunction f g = Whole f × Whole g × (canonical f ≡ canonical g)
+
+abbrev pub SameUpToNumbering : Module → Module → Type 0
+SameUpToNumbering m r = Each Whole m × Each Whole r × (canonical_module m ≡ canonical_module r)

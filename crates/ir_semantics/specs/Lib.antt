@@ -1,0 +1,15 @@
+pub mod Accepted
+pub mod Available
+pub mod Canon
+pub mod Effect
+pub mod Import
+pub mod Kept
+pub mod Machine
+pub mod Names
+pub mod Renaming
+pub mod Runs
+pub mod Same
+pub mod Site
+pub mod Splice
+pub mod Step
+pub mod Values

@@ -1,0 +1,5 @@
+pub mod Numbering
+pub mod Pieces
+pub mod Text
+pub mod Words
+pub mod Writable

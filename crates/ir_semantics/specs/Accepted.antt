@@ -25,6 +25,7 @@ use Rattle.ir_core.specs.declared.places.Item.{Item}
 use Rattle.ir_core.specs.declared.places.Item.TheVariants as item
 use Rattle.ir_core.specs.Module.{Simple, Nop, Const, Pure, PureImm, Load, Store, StackLoad, StackStore, FuncAddr, Trap, Trapz, Trapnz, Branch, Jump, Brif, BrTable, CallTarget, Direct, Indirect, Instruction, Plain, Branches, SequencePoint, Return, Call, ReturnCall, TryCall, Line, Block, Function, Module}
 use Rattle.ir_core.specs.Lookup.{and_then, find_function, find_block, type_of, signature_of, param_types, width_of, ty_of}
+use Rattle.ir_core.specs.Forms.{has_immediate, access_type, flags_form}
 use Rattle.ir_core.specs.Lists.{In, Each}
 use Rattle.ir_semantics.specs.Values.{all_of, bytes_in, slot_place}
 use Rattle.ir_semantics.specs.Splice.{first_number}

@@ -1,8 +1,9 @@
 -- A call that can be replaced by its callee's body: a direct call of a function of the module in another function.
-use Rattle.std.specs.Prelude.{◌≡◌, ℕ, ◌∷◌, ◌++◌, Option, Some, None, slice_get}
+use Rattle.std.specs.Prelude.{◌≡◌, ℕ, ◌∷◌, ◌++◌, Some, slice_get}
 use Rattle.ir_core.specs.declared.declarations.Callee.{Callee}
-use Rattle.ir_core.specs.Module.{CallTarget, Direct, Indirect, Instruction, Call, ReturnCall, TryCall, Block, Module}
+use Rattle.ir_core.specs.Module.{Block, Module}
 use Rattle.ir_core.specs.Lookup.{find_block, find_function}
+use Rattle.ir_core.specs.Uses.{callee_of}
 use Rattle.ir_semantics.specs.Splice.{Splicing}
 
 pub record Site (m : Module) (p : Splicing) : Type 0 where

@@ -3,7 +3,11 @@ use Rattle.std.specs.Prelude.{ℕ, List, codes}
 use Rattle.clif_lex.specs.declared.faults.LexErr.{LexErr}
 use Rattle.clif_lex.specs.declared.faults.LexErr.TheVariants as lex
 use Rattle.clif_lex.specs.declared.faults.TextKind.{TextKind}
-use Rattle.clif_lex.specs.declared.faults.TextKind.TheVariants.{BadChar, BadNumber, Syntax, UnknownOpcode, Unsupported, Duplicate, Undefined, NumberRange, Untyped, TooLarge, NoTerminator, EntryTarget, CountMismatch, TypeMismatch, Convention, SignatureMismatch, SlotRange, TagPlace, NotAvailable}
+use Rattle.clif_lex.specs.declared.faults.TextKind.TheVariants.{BadChar, BadNumber, Syntax, UnknownOpcode, Unsupported}
+use Rattle.clif_lex.specs.declared.faults.TextKind.TheVariants.{Duplicate, Undefined, NumberRange, Untyped, TooLarge}
+use Rattle.clif_lex.specs.declared.faults.TextKind.TheVariants.{NoTerminator, EntryTarget, CountMismatch, TypeMismatch}
+use Rattle.clif_lex.specs.declared.faults.TextKind.TheVariants.{Convention, SignatureMismatch, SlotRange, TagPlace}
+use Rattle.clif_lex.specs.declared.faults.TextKind.TheVariants.{NotAvailable}
 use Rattle.clif_lex.specs.declared.faults.TextErr.{TextErr}
 use Rattle.clif_lex.specs.declared.faults.TextErr.TheVariants as text
 

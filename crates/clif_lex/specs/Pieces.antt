@@ -1,5 +1,7 @@
--- A text is read in pieces: the tokens of a piece, where a text may be cut into pieces, and where the next piece may begin.
-use Rattle.std.specs.Prelude.{◌≡◌, ℕ, ◌-◌, ◌<◌, ◌≤◌, ◌⊎◌, Bool, true, ◌&&◌, nat_eq, List, ◌++◌, length, take, drop, slice_index, Result, Ok}
+-- A text is read in pieces: the tokens of a piece, where a text may be cut into pieces, and where the next piece may
+-- begin.
+use Rattle.std.specs.Prelude.{◌≡◌, ℕ, ◌-◌, ◌<◌, ◌≤◌, ◌⊎◌, Bool, true, ◌&&◌, nat_eq, List, ◌++◌, length, take, drop}
+use Rattle.std.specs.Prelude.{slice_index, Result, Ok}
 use Rattle.std.specs.List.{list_all, starts_with}
 use Rattle.clif_lex.specs.declared.spans.Token.{Token}
 use Rattle.clif_lex.specs.declared.faults.LexErr.{LexErr}
@@ -17,7 +19,9 @@ piece_tokens text preamble from until = tokens_from preamble 0 from (drop from (
 
 -- the tokens of a piece, and behind them those of the next one; or the first fault of either
 abbrev pub two_pieces : List ℕ → Bool → ℕ → ℕ → ℕ → Result (List Token) LexErr
-two_pieces text preamble from between until = piece_tokens text preamble from between >>= λ ts. piece_tokens text (preamble_after preamble ts) between until >>= λ us. Ok (ts ++ us)
+two_pieces text preamble from between until =
+    piece_tokens text preamble from between >>= λ ts. piece_tokens text (preamble_after preamble ts) between until
+    >>= λ us. Ok (ts ++ us)
 
 -- these are the tokens of a piece
 pub record IsPiece (text : List ℕ) (preamble : Bool) (from until : ℕ) (ts : List Token) : Type 0 where

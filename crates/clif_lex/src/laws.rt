@@ -1,4 +1,5 @@
-//! Laws that speak of the definitions alone. Each is a function that does nothing, so that a caller has the law by a call.
+//! Laws that speak of the definitions alone. Each is a function that does nothing, so that a caller has the law by a
+//! call.
 
 ghost use Rattle.std.specs.Prelude.{◌≡◌, ◌<◌, ◌≤◌, ◌++◌, ◌↔◌, ℕ, Bool, true, List, Result, IfSome, length, slice_get};
 ghost use Rattle.clif_lex.specs.declared.spans.Token.{Token};
@@ -36,14 +37,16 @@ pub fn token_in_text(text: &[u8], tokens: &Tokens, i: usize)
 /// where the text may be cut between them.
 pub fn pieces_join(text: &[u8])
     ensures { (preamble : Bool) (from between until : ℕ) (ts us : List Token) →
-        IsPiece text.now preamble from between ts → IsCut text.now between → IsPiece text.now (preamble_after preamble ts) between until us
+        IsPiece text.now preamble from between ts → IsCut text.now between
+        → IsPiece text.now (preamble_after preamble ts) between until us
         → IsPiece text.now preamble from until (ts ++ us) }
 {}
 
 /// The tokens from one place of a text to another are those up to a cut between them, and then those from there on;
 /// or the first fault of either.
 pub fn piece_by_piece(text: &[u8])
-    ensures { (preamble : Bool) (from between until : ℕ) → from ≤ between → between ≤ until → until ≤ length text.now → IsCut text.now between
+    ensures { (preamble : Bool) (from between until : ℕ) → from ≤ between → between ≤ until → until ≤ length text.now
+        → IsCut text.now between
         → piece_tokens text.now preamble from until ≡ two_pieces text.now preamble from between until }
 {}
 

@@ -1,6 +1,7 @@
 //! The tokens of a text.
 
-ghost use Rattle.std.specs.Prelude.{◌≡◌, ◌∷◌, ◌&&◌, ◌+◌, ◌<◌, ◌≤◌, ◌^◌, Bool, true, false, drop, length, slice_get, IfSome, IfOk, IfErr};
+ghost use Rattle.std.specs.Prelude.{◌≡◌, ◌∷◌, ◌&&◌, ◌+◌, ◌<◌, ◌≤◌, ◌^◌, Bool, true, false, drop, length, slice_get};
+ghost use Rattle.std.specs.Prelude.{IfSome, IfOk, IfErr};
 ghost use Rattle.std.specs.List.{prefix_len};
 ghost use Rattle.std.specs.Char.{is_ascii_digit, is_ascii_hexdigit};
 ghost use Rattle.clif_lex.specs.Bytes as bytes;
@@ -36,7 +37,8 @@ fn word_end(text: &[u8], at: usize) -> usize
 #[inline]
 fn blanks_end(text: &[u8], at: usize) -> usize
     requires { at ≤ length text.now }
-    ensures same { (preamble : Bool) → spec.tokens_from preamble 0 result (drop result text.now) ≡ spec.tokens_from preamble 0 at (drop at text.now) }
+    ensures same { (preamble : Bool) → spec.tokens_from preamble 0 result (drop result text.now)
+        ≡ spec.tokens_from preamble 0 at (drop at text.now) }
     ensures stop { bytes.is_blank (bytes.first (drop result text.now)) ≡ false }
     ensures forward { at ≤ result }
     ensures within { result ≤ length text.now }

@@ -5,7 +5,7 @@ mod cuts;
 mod declarations;
 mod functions;
 mod instructions;
-mod law;
+pub mod laws;
 mod lists;
 mod numbers;
 mod operands;
@@ -22,7 +22,6 @@ mod text;
 mod waiting;
 mod words;
 
-pub use law::worked_texts;
 pub use numbers::{Numbers, numbering};
 pub use parts::{PrintErr, print_with};
 pub use text::{func_text, print, text_len};

@@ -22,8 +22,8 @@ pub enum ReadErr {
 /// The most bytes that are asked for at once.
 const CHUNK: usize = 65_536;
 
-/// All bytes of the source up to its end, where they are no more than `limit`. After a refusal the bytes that were taken
-/// are gone; they are at most `limit + 1`.
+/// All bytes of the source up to its end, where they are no more than `limit`. After a refusal the bytes that were
+/// taken are gone; they are at most `limit + 1`.
 pub fn read_whole<S: Source>(
     alloc: Global,
     source: &mut S,

@@ -1,5 +1,5 @@
 use Rattle.clk_num.proofs.Examples.{worked_rows, worked_arithmetic, worked_division, worked_bits, worked_shifts, worked_conversions, worked_refusals}
-use Rattle.clk_num.proofs.law.worked_examples.Goals as goal
+use Rattle.clk_num.proofs.laws.worked_examples.Goals as goal
 
 pub returns : goal.returns
 returns c = record {

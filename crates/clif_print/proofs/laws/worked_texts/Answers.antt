@@ -1,7 +1,7 @@
 use Rattle.std.proofs.Common.{refl}
 use Rattle.std.specs.Fmt.{digits}
 use Rattle.clk_num.specs.Numbers.{signed}
-use Rattle.clif_print.proofs.law.worked_texts.Goals as goal
+use Rattle.clif_print.proofs.laws.worked_texts.Goals as goal
 
 pub returns : goal.returns
 unfolding digits signed

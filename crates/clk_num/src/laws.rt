@@ -1,7 +1,8 @@
 //! Laws of the definitions: functions without a body, each of which has its law as its contract.
 ghost use Rattle.std.specs.Prelude.{List};
 ghost use Rattle.clk_num.specs.declared.op.Op.{Op};
-ghost use Rattle.clk_num.specs.Examples.{WorkedRows, WorkedArithmetic, WorkedDivision, WorkedBits, WorkedShifts, WorkedConversions, WorkedRefusals};
+ghost use Rattle.clk_num.specs.Examples.{WorkedRows, WorkedArithmetic, WorkedDivision, WorkedBits, WorkedShifts};
+ghost use Rattle.clk_num.specs.Examples.{WorkedConversions, WorkedRefusals};
 ghost use Rattle.clk_num.specs.Operations.{DataValue};
 ghost use Rattle.clk_num.specs.Results.{KeepsRow};
 

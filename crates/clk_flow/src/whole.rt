@@ -36,7 +36,8 @@ pub fn read_whole<S: Source>(
         × Consumes (S.left source.old) (S.left source.new) bytes × (length bytes ≡ limit + 1)) }
     // Where the source tells what it has left: that is too long where it is longer than the limit, and nowhere else.
     ensures told_whole { IfOk result (λ v. IfSome (S.left source.old) (λ bytes. v.items ≡ bytes)) }
-    ensures told_long { IfErr result (λ e. e ≡ why.TooLong → IfSome (S.left source.old) (λ bytes. limit < length bytes)) }
+    ensures told_long { IfErr result
+        (λ e. e ≡ why.TooLong → IfSome (S.left source.old) (λ bytes. limit < length bytes)) }
     ensures gone { OnErr result (ConsumesAtMost (S.left source.old) (S.left source.new) (limit + 1)) }
     ensures later { S.faults source.old ≤ S.faults source.new }
 {

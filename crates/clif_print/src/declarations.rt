@@ -1,7 +1,7 @@
 //! Declarations, each on a line.
 ghost use Rattle.std.specs.Prelude.{ℕ, List};
 ghost use Rattle.ir_text.specs.Pieces.{Text, spelled};
-ghost use Rattle.ir_text.specs.Text.{alignment, colocation, slot_line, signature_line, callee_line, declarations};
+ghost use Rattle.ir_text.specs.TextDeclarations.{alignment, colocation, slot_line, signature_line, callee_line, declarations};
 ghost use Rattle.clif_print.specs.Output.{Start, Puts};
 
 use crate::numbers::FuncNumbers;

@@ -2,7 +2,7 @@
 ghost use Rattle.std.specs.Prelude.{ℕ, List};
 ghost use Rattle.ir_text.specs.Numbering.{Numbering};
 ghost use Rattle.ir_text.specs.Pieces.{Text, spelled, comma, ◌▹◌};
-ghost use Rattle.ir_text.specs.Text.{instruction, value, address, slot_address, signature_reference, target, exception_table, op_suffix, condition, suffix_but_i64, extending_suffix, load_opcode, store_opcode};
+ghost use Rattle.ir_text.specs.TextInstructions.{instruction, value, address, slot_address, signature_reference, target, exception_table, op_suffix, condition, suffix_but_i64, extending_suffix, load_opcode, store_opcode};
 ghost use Rattle.ir_core.specs.Viewed.{instruction_of};
 ghost use Rattle.ir_core.specs.declared.instructions.Inst.TheVariants as form;
 ghost use Rattle.clif_print.specs.Output.{Start, Puts};

@@ -2,7 +2,7 @@
 ghost use Rattle.std.specs.Prelude.{ℕ, List};
 ghost use Rattle.ir_text.specs.Numbering.{Numbering};
 ghost use Rattle.ir_text.specs.Pieces.{Text, spelled};
-ghost use Rattle.ir_text.specs.Text.{function_name, extension, purpose_text, parameter, signature_results, signature};
+ghost use Rattle.ir_text.specs.TextDeclarations.{function_name, extension, purpose_text, parameter, signature_results, signature};
 ghost use Rattle.clif_print.specs.Output.{Start, Puts};
 
 use crate::lists::{Item, put_in_parentheses, put_list};

@@ -2,7 +2,7 @@
 ghost use Rattle.std.specs.Prelude.{◌≡◌, ℕ, ◌<◌, List, Option};
 ghost use Rattle.ir_core.specs.Lookup.{type_of};
 ghost use Rattle.ir_text.specs.Numbering.{Numbering};
-ghost use Rattle.ir_text.specs.Text.{has_type, is_known, shown_suffix, typing_operand};
+ghost use Rattle.ir_text.specs.TextInstructions.{has_type, is_known, shown_suffix, typing_operand};
 ghost use Rattle.ir_core.specs.Forms.{controlling};
 ghost use Rattle.ir_core.specs.Signatures.{same_type};
 ghost use Rattle.ir_core.specs.Viewed.{instruction_of};

@@ -7,6 +7,7 @@ use Rattle.std.proofs.lemmas.Bool.Decides.{nat_tests}
 use Rattle.clif_lex.specs.Bytes.{is_word_byte, first}
 use Rattle.ir_core.specs.declared.signatures.Param.{Param}
 use Rattle.ir_text.specs.Pieces.{Text, Nothing, ◌▹◌, more, separated}
+use Rattle.ir_text.specs.TextDeclarations as text_declarations
 use Rattle.ir_text.specs.Text as text
 use Rattle.clif_read.specs.declared.simple.written.Assignment.{Assignment}
 use Rattle.clif_read.specs.declared.simple.written.Computation.{Computation}
@@ -76,23 +77,23 @@ each_small s one (v ∷ vs) h = let a = and_parts (small v) (list_all small vs) 
 
 -- ---- signatures
 
-type_clear : Apart (text.parameter i64_param)
+type_clear : Apart (text_declarations.parameter i64_param)
 type_clear b e = rw e refl
 
-each_type : (n : ℕ) → Each (λ (p : Param). Apart (text.parameter p)) (replicate n i64_param)
+each_type : (n : ℕ) → Each (λ (p : Param). Apart (text_declarations.parameter p)) (replicate n i64_param)
 each_type zero = tt
 each_type (suc n) = (type_clear, each_type n)
 
-results_clear : (n : ℕ) → Apart (text.signature_results (replicate n i64_param))
+results_clear : (n : ℕ) → Apart (text_declarations.signature_results (replicate n i64_param))
 results_clear zero b e = refl
-results_clear (suc n) b e = separated_clear text.parameter (i64_param ∷ replicate n i64_param) (each_type (suc n)) b e
+results_clear (suc n) b e = separated_clear text_declarations.parameter (i64_param ∷ replicate n i64_param) (each_type (suc n)) b e
 
-results_front : (n : ℕ) → is_word_byte (front (text.signature_results (replicate n i64_param)) 32) ≡ false
+results_front : (n : ℕ) → is_word_byte (front (text_declarations.signature_results (replicate n i64_param)) 32) ≡ false
 results_front zero = refl
 results_front (suc n) = refl
 
-signature_clear : (f : OneBlock) → Apart (text.signature (signature f))
-signature_clear f b e = rw (separated_clear text.parameter (replicate f.params i64_param) (each_type f.params) 41 refl, results_clear f.results 32 refl, e) refl
+signature_clear : (f : OneBlock) → Apart (text_declarations.signature (signature f))
+signature_clear f b e = rw (separated_clear text_declarations.parameter (replicate f.params i64_param) (each_type f.params) 41 refl, results_clear f.results 32 refl, e) refl
 
 -- ---- blocks
 

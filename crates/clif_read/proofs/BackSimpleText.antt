@@ -12,6 +12,8 @@ use Rattle.ir_core.specs.Lookup.{type_in, type_of, line_definitions, place}
 use Rattle.ir_core.specs.Module.{Line, Function}
 use Rattle.ir_text.specs.Numbering.{Numbering, numbering_of}
 use Rattle.ir_text.specs.Pieces.{Text, Nothing, Word, Numbered, Name, Signed, Mark, ◌▹◌, space, line_end, indent, comma, colon, equals, more, separated, in_parentheses}
+use Rattle.ir_text.specs.TextDeclarations as text_declarations
+use Rattle.ir_text.specs.TextInstructions as text_instructions
 use Rattle.ir_text.specs.Text as text
 use Rattle.clif_read.specs.declared.simple.written.Assignment.{Assignment}
 use Rattle.clif_read.specs.declared.simple.written.Computation.{Computation}
@@ -58,7 +60,7 @@ written_block f = Numbered (codes "block") 0 ▹ written_params f.block_params �
 
 abbrev pub written : OneBlock → Text
 written f =
-    Word (codes "function") ▹ space ▹ Name f.name ▹ text.signature (signature f) ▹ space ▹ Mark 123 ▹ line_end
+    Word (codes "function") ▹ space ▹ Name f.name ▹ text_declarations.signature (signature f) ▹ space ▹ Mark 123 ▹ line_end
     ▹ Nothing ▹ Nothing ▹ Nothing ▹ Nothing
     ▹ (written_block f ▹ Nothing) ▹ Mark 125 ▹ line_end
 
@@ -89,7 +91,7 @@ separated_same s t c same (v ∷ vs) h =
     ap₂ (λ (x y : Text). x ▹ y) (same v (below_is v c a.0)) (more_same s t c same vs a.1)
 
 module _ (f : Function) (n : Numbering) (c : ℕ) (known : Known f n c) where
-  value_same : (v : ℕ) → v < c → text.value n v ≡ value_text v
+  value_same : (v : ℕ) → v < c → text_instructions.value n v ≡ value_text v
   value_same v h = ap (Numbered (codes "v")) (known.value v h)
 
   param_same : (v : ℕ) → v < c → text.block_parameter f n v ≡ param_text v
@@ -99,9 +101,9 @@ module _ (f : Function) (n : Numbering) (c : ℕ) (known : Known f n c) where
   params_same [] h = refl
   params_same (v ∷ vs) h = ap in_parentheses (separated_same (text.block_parameter f n) param_text c param_same (v ∷ vs) h)
 
-  operands_same : (vs : List ℕ) → are_below c vs ≡ true → text.operands n vs ≡ written_operands vs
+  operands_same : (vs : List ℕ) → are_below c vs ≡ true → text_instructions.operands n vs ≡ written_operands vs
   operands_same [] h = refl
-  operands_same (v ∷ vs) h = ap (λ (z : Text). space ▹ z) (separated_same (text.value n) value_text c value_same (v ∷ vs) h)
+  operands_same (v ∷ vs) h = ap (λ (z : Text). space ▹ z) (separated_same (text_instructions.value n) value_text c value_same (v ∷ vs) h)
 
   line_same : (ws : List ℕ) (r : ℕ) (e : Computation) → may_compute ws e ≡ true → length ws < c
       → text.line f n (length ws) (line_after ws (record { result = r; computation = e })) ≡ written_line (record { result = length ws; computation = recomputed ws e })
@@ -189,5 +191,5 @@ known_itself f = record {
 
 pub function_same : (f : OneBlock) → function_fits f ≡ true → text.canonical_function (meaning f) ≡ written (renumbered f)
 function_same f h =
-    ap (λ (z : Text). Word (codes "function") ▹ space ▹ Name f.name ▹ text.signature (signature f) ▹ space ▹ Mark 123 ▹ line_end ▹ Nothing ▹ Nothing ▹ Nothing ▹ Nothing ▹ (z ▹ Nothing) ▹ Mark 125 ▹ line_end)
+    ap (λ (z : Text). Word (codes "function") ▹ space ▹ Name f.name ▹ text_declarations.signature (signature f) ▹ space ▹ Mark 123 ▹ line_end ▹ Nothing ▹ Nothing ▹ Nothing ▹ Nothing ▹ (z ▹ Nothing) ▹ Mark 125 ▹ line_end)
     (block_same f (numbering_of (meaning f)) (known_itself f) h)

@@ -8,7 +8,7 @@ use Rattle.ir_core.specs.declared.instructions.Access.TheVariants as access
 use Rattle.ir_core.specs.Module.{CallTarget, Instruction}
 use Rattle.ir_core.specs.Module as insts
 use Rattle.ir_text.specs.Pieces.{spelled, ◌▹◌, space, comma}
-use Rattle.ir_text.specs.Text.{op_suffix, suffix_if, condition, operands, value, constant, extending_suffix, flags, address}
+use Rattle.ir_text.specs.TextInstructions.{op_suffix, suffix_if, condition, operands, value, constant, extending_suffix, flags, address}
 use Rattle.ir_text.specs.Words.{op_word}
 use Rattle.clif_words.specs.declared.opcodes.Opcode.{Opcode}
 use Rattle.clif_words.specs.declared.opcodes.Opcode.TheVariants as opcodes

@@ -9,7 +9,7 @@ use Rattle.ir_core.specs.Module.{Simple, Branch, CallTarget, Instruction}
 use Rattle.ir_core.specs.Module as insts
 use Rattle.ir_text.specs.Numbering.{Numbering}
 use Rattle.ir_text.specs.Pieces.{spelled}
-use Rattle.ir_text.specs.Text.{instruction}
+use Rattle.ir_text.specs.TextInstructions.{instruction}
 use Rattle.clif_words.specs.declared.opcodes.Opcode.{Opcode}
 use Rattle.clif_words.specs.declared.opcodes.Opcode.TheVariants.{Iconst, Iadd, Isub, Imul, Band, Bor, Bxor, Smin, Smax, Umin, Umax, Umulhi, Smulhi, Udiv, Urem, Sdiv, Srem, Ishl, Ushr, Sshr, Rotl, Rotr, UaddOverflow, SaddOverflow, UsubOverflow, SsubOverflow, Iconcat, Ineg, Bnot, Iabs, Clz, Ctz, Popcnt, Bitrev, Bswap, Isplit, Icmp, Select, Uextend, Sextend, Ireduce, IaddImm, ImulImm, BandImm, BorImm, BxorImm, IshlImm, UshrImm, SshrImm, IcmpImm, Load, Uload8, Sload8, Uload16, Sload16, Uload32, Sload32, Store, Istore8, Istore16, Istore32, StackLoad, StackStore, FuncAddr, Nop, SequencePoint, Jump, Brif, BrTable, Return, Trap, Trapz, Trapnz, Call, ReturnCall, TryCall, CallIndirect, ReturnCallIndirect, TryCallIndirect}
 use Rattle.clif_words.specs.Opcodes.{word}

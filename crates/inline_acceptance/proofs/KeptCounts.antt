@@ -9,7 +9,7 @@ use Rattle.ir_core.specs.declared.instructions.BlockCall.{BlockCall}
 use Rattle.ir_core.specs.Module.{Branches, Call, Instruction, Line, Block, Plain, Return, ReturnCall, SequencePoint, TryCall}
 use Rattle.ir_core.specs.Lookup.{type_in, definitions, line_definitions}
 use Rattle.ir_core.specs.Lists.{In, Different}
-use Rattle.ir_semantics.specs.Accepted.{types_of, each_some}
+use Rattle.ir_semantics.specs.TypeRules.{types_of, each_some}
 use Rattle.ir_semantics.specs.Renaming.{Renaming, line_under, block_under}
 use Rattle.ir_semantics.specs.Splice.{Kind, Last, Piece, Splicing, Tries, Within, body, from, kind_of, line_types, new_results, new_types, new_types_by, piece, piece_by, tries_piece, typed_results, with_type, within_piece}
 use Rattle.inline_outcomes.proofs.Local.{Injective}

@@ -17,7 +17,7 @@ use Rattle.ir_core.specs.Module.{Simple, Nop, Const, Pure, PureImm, Load, Store,
 use Rattle.ir_core.specs.Lookup.{type_of, signature_of, param_types, ty_of}
 use Rattle.ir_core.specs.Lists.{Each}
 use Rattle.ir_core.specs.Uses.{branch_targets}
-use Rattle.ir_semantics.specs.Accepted.{HaveTypes, types_of, each_some}
+use Rattle.ir_semantics.specs.TypeRules.{HaveTypes, types_of, each_some}
 use Rattle.ir_core.specs.Forms.{access_type}
 use Rattle.ir_semantics.specs.Renaming.{Renaming, arg_under, target_under, simple_under, branch_under, called_under, entry_under, instruction_under, tag_under}
 use Rattle.ir_semantics.specs.Splice.{tags_before}

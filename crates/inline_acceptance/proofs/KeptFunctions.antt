@@ -10,7 +10,9 @@ use Rattle.ir_core.specs.Module.{Function, Module, Branches, Call, Instruction, 
 use Rattle.ir_core.specs.Lookup.{same_name, find_block, find_function, signature_of}
 use Rattle.ir_core.specs.Lists.{In, Each}
 use Rattle.ir_core.specs.Uses.{targets, table_targets}
-use Rattle.ir_semantics.specs.Accepted.{InstructionCounts, TargetCounts, types_of, FunctionAccepted, Accepted, Rule, no_terminator, entry_target, count_mismatch, type_mismatch, convention, signature_mismatch, slot_range, tag_place, not_available, KeptAtLine, KeptAtBlock, KeptAtCallee, IsFirst}
+use Rattle.ir_semantics.specs.Accepted.{FunctionAccepted, Accepted, Rule, no_terminator, entry_target, count_mismatch, type_mismatch, convention, signature_mismatch, slot_range, tag_place, not_available, KeptAtLine, KeptAtBlock, KeptAtCallee, IsFirst}
+use Rattle.ir_semantics.specs.CountRules.{InstructionCounts, TargetCounts}
+use Rattle.ir_semantics.specs.TypeRules.{types_of}
 use Rattle.ir_core.specs.Whole.{Whole}
 use Rattle.ir_semantics.specs.Import.{with_item, with_items, sigs_after, callee_with, callees_with, callees_after, same_callee}
 use Rattle.ir_semantics.specs.Renaming.{line_under}

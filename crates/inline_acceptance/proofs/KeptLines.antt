@@ -16,7 +16,10 @@ use Rattle.ir_core.specs.Lookup.{and_then, find_block, type_of, signature_of, pa
 use Rattle.ir_core.specs.Lists.{Each}
 use Rattle.ir_core.specs.Uses.{table_targets, values_used, targets_used, called_used, arg_values_used}
 use Rattle.ir_semantics.specs.Available.{Available}
-use Rattle.ir_semantics.specs.Accepted.{FunctionAccepted, InstructionTags, CallCounts, CallTypes, TargetCounts, ArgCounts, TargetTypes, arg_type, HaveTypes, types_of, each_some}
+use Rattle.ir_semantics.specs.Accepted.{FunctionAccepted}
+use Rattle.ir_semantics.specs.CallRules.{InstructionTags}
+use Rattle.ir_semantics.specs.CountRules.{CallCounts, TargetCounts, ArgCounts}
+use Rattle.ir_semantics.specs.TypeRules.{CallTypes, TargetTypes, arg_type, HaveTypes, types_of, each_some}
 use Rattle.ir_core.specs.Whole.{Whole}
 use Rattle.ir_semantics.specs.Import.{callees_after}
 use Rattle.ir_semantics.specs.Renaming.{Renaming, entry_under, called_under, instruction_under}

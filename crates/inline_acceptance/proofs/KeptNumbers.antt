@@ -12,7 +12,9 @@ use Rattle.ir_core.specs.Lookup.{find_block, find_function, type_in, type_of, pa
 use Rattle.ir_core.specs.Lists.{In}
 use Rattle.ir_core.specs.Uses.{targets}
 use Rattle.ir_semantics.specs.Available.{terminates, Reach, begin, next, branch, Available}
-use Rattle.ir_semantics.specs.Accepted.{FunctionAccepted, Rule, no_terminator, entry_target, count_mismatch, type_mismatch, convention, signature_mismatch, slot_range, tag_place, not_available, KeptAtLine, KeptAtBlock, KeptAtCallee, IsFirst, types_of, each_some, EntryIsNoTarget}
+use Rattle.ir_semantics.specs.Accepted.{FunctionAccepted, Rule, no_terminator, entry_target, count_mismatch, type_mismatch, convention, signature_mismatch, slot_range, tag_place, not_available, KeptAtLine, KeptAtBlock, KeptAtCallee, IsFirst}
+use Rattle.ir_semantics.specs.TypeRules.{types_of, each_some}
+use Rattle.ir_semantics.specs.EndRules.{EntryIsNoTarget}
 use Rattle.ir_semantics.specs.Canon.{canonical_names, canonical, types_in_order}
 use Rattle.ir_core.specs.Whole.{Whole}
 use Rattle.ir_semantics.specs.Renaming.{Renaming, block_under, line_under, tag_under}

@@ -22,7 +22,10 @@ use Rattle.ir_core.specs.Lists.{Each}
 use Rattle.ir_semantics.specs.Values.{cons_some, slot_place, place_in, bytes_in}
 use Rattle.ir_core.specs.Uses.{targets, table_targets, values_used, operands, simple_used, called_used, targets_used, arg_values_used}
 use Rattle.ir_semantics.specs.Renaming.{Renaming, arg_under, target_under, simple_under, branch_under, called_under, entry_under, instruction_under, try_target_under}
-use Rattle.ir_semantics.specs.Accepted.{TargetCounts, ArgCounts, CallCounts, InstructionCounts, simple_results, types_of, each_some, HaveTypes, TargetTypes, arg_type, type_at, widths_of_values, OpTypes, SimpleTypes, BranchTypes, CalledTypes, CallTypes, InstructionTypes, InstructionConvention, InstructionSignature, SimpleSlot, InstructionSlot, store_form}
+use Rattle.ir_semantics.specs.CountRules.{TargetCounts, ArgCounts, CallCounts, InstructionCounts, simple_results}
+use Rattle.ir_semantics.specs.TypeRules.{types_of, each_some, HaveTypes, TargetTypes, arg_type, type_at, widths_of_values, OpTypes, SimpleTypes, BranchTypes, CalledTypes, CallTypes, InstructionTypes, store_form}
+use Rattle.ir_semantics.specs.CallRules.{InstructionConvention, InstructionSignature}
+use Rattle.ir_semantics.specs.SlotRules.{SimpleSlot, InstructionSlot}
 use Rattle.ir_core.specs.Forms.{access_type, controlling}
 use Rattle.inline_outcomes.proofs.Frames.{Embeds}
 use Rattle.inline_acceptance.proofs.KeptLists.{some_and, and_some, each_map, length_map, table_under, targets_under}

@@ -19,7 +19,11 @@ use Rattle.ir_core.specs.Lookup.{and_then, find_block, type_in, type_of, signatu
 use Rattle.ir_core.specs.Lists.{In, Each}
 use Rattle.ir_core.specs.Uses.{table_targets, values_used, targets_used, called_used}
 use Rattle.ir_semantics.specs.Available.{Available}
-use Rattle.ir_semantics.specs.Accepted.{FunctionAccepted, Rule, count_mismatch, type_mismatch, convention, signature_mismatch, slot_range, tag_place, not_available, KeptAtLine, Counts, Types, Convention, Signature, SlotRange, TagPlace, UsesAvailable, InstructionCounts, InstructionTypes, InstructionConvention, InstructionTags, TargetCounts, ArgCounts, TargetTypes, arg_type, HaveTypes, types_of}
+use Rattle.ir_semantics.specs.Accepted.{FunctionAccepted, Rule, count_mismatch, type_mismatch, convention, signature_mismatch, slot_range, tag_place, not_available, KeptAtLine, UsesAvailable}
+use Rattle.ir_semantics.specs.CountRules.{Counts, InstructionCounts, TargetCounts, ArgCounts}
+use Rattle.ir_semantics.specs.TypeRules.{Types, InstructionTypes, TargetTypes, arg_type, HaveTypes, types_of}
+use Rattle.ir_semantics.specs.CallRules.{Convention, Signature, TagPlace, InstructionConvention, InstructionTags}
+use Rattle.ir_semantics.specs.SlotRules.{SlotRange}
 use Rattle.ir_core.specs.Whole.{Whole}
 use Rattle.ir_semantics.specs.Site.{Site}
 use Rattle.ir_core.specs.Uses.{callee_of, named_callee}

@@ -18,7 +18,11 @@ use Rattle.ir_core.specs.Lookup.{find_block, type_of, signature_of, param_types}
 use Rattle.ir_core.specs.Lists.{In, Each}
 use Rattle.ir_core.specs.Uses.{targets, table_targets, values_used, targets_used, called_used, arg_values_used}
 use Rattle.ir_semantics.specs.Available.{Available}
-use Rattle.ir_semantics.specs.Accepted.{InstructionCounts, InstructionTypes, InstructionSignature, InstructionTags, TargetCounts, TargetTypes, HaveTypes, types_of, each_some, type_mismatch, EntryTypes, EntryIsNoTarget, entry_target}
+use Rattle.ir_semantics.specs.Accepted.{type_mismatch, entry_target}
+use Rattle.ir_semantics.specs.CountRules.{InstructionCounts, TargetCounts}
+use Rattle.ir_semantics.specs.TypeRules.{InstructionTypes, TargetTypes, HaveTypes, types_of, each_some, EntryTypes}
+use Rattle.ir_semantics.specs.CallRules.{InstructionSignature, InstructionTags}
+use Rattle.ir_semantics.specs.EndRules.{EntryIsNoTarget}
 use Rattle.ir_semantics.specs.Import.{sig_after}
 use Rattle.ir_semantics.specs.Renaming.{Renaming, entry_under, called_under, instruction_under, tag_under, target_under, try_target_under}
 use Rattle.ir_semantics.specs.Splice.{Kind, Last, Splicing, Tries, Within, after_block, args_of, callee_line, callee_names, caller_names, first_number, from, joined_tags, kind_of, line_with, named_sig, new_results, piece, piece_by, spliced, tags_before, to_normal, tries_piece, try_target}

@@ -9,7 +9,9 @@ use Rattle.ir_core.specs.Module.{Module, Function, Branches, Call, Instruction, 
 use Rattle.ir_core.specs.Lookup.{find_block, signature_of, param_types, definitions, line_definitions, block_numbers}
 use Rattle.ir_core.specs.Lists.{In, Each, Different}
 use Rattle.ir_core.specs.Uses.{table_targets}
-use Rattle.ir_semantics.specs.Accepted.{InstructionCounts, TargetCounts, count_mismatch, types_of, each_some}
+use Rattle.ir_semantics.specs.Accepted.{count_mismatch}
+use Rattle.ir_semantics.specs.CountRules.{InstructionCounts, TargetCounts}
+use Rattle.ir_semantics.specs.TypeRules.{types_of, each_some}
 use Rattle.ir_core.specs.Whole.{Whole, declared}
 use Rattle.ir_semantics.specs.Renaming.{Renaming, typed_under, line_under, block_under}
 use Rattle.ir_semantics.specs.Splice.{Kind, Last, Splicing, Tries, Within, after_blocks, body, caller_names, callee_names, cut_block, from, jump_in, kind_of, line_types, new_types, new_types_by, spliced, spliced_blocks, typed_results}

@@ -16,7 +16,10 @@ use Rattle.ir_core.specs.Lookup.{and_then, find_block, type_in, type_of, signatu
 use Rattle.ir_core.specs.Lists.{In, Each}
 use Rattle.ir_semantics.specs.Values.{cons_some, slot_place, place_in, bytes_in}
 use Rattle.ir_core.specs.Uses.{targets, table_targets, values_used, simple_used, targets_used, called_used, arg_values_used, slots_used, sigs_used, called_sigs, blocks_used}
-use Rattle.ir_semantics.specs.Accepted.{InstructionCounts, InstructionTypes, InstructionSignature, InstructionSlot, SimpleTypes, TargetCounts, TargetTypes, HaveTypes, arg_type, types_of, each_some, widths_of_values, OpTypes, CalledTypes, store_form}
+use Rattle.ir_semantics.specs.CountRules.{InstructionCounts, TargetCounts}
+use Rattle.ir_semantics.specs.TypeRules.{InstructionTypes, SimpleTypes, TargetTypes, HaveTypes, arg_type, types_of, each_some, widths_of_values, OpTypes, CalledTypes, store_form}
+use Rattle.ir_semantics.specs.CallRules.{InstructionSignature}
+use Rattle.ir_semantics.specs.SlotRules.{InstructionSlot}
 use Rattle.inline_outcomes.proofs.Linking.{get_below}
 use Rattle.inline_acceptance.proofs.KeptLists.{some_and, in_each, each_append, map_in}
 use Rattle.inline_acceptance.proofs.Points.{in_numbers}

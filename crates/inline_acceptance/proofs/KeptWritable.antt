@@ -10,7 +10,8 @@ use Rattle.ir_core.specs.declared.instructions.BlockCall.{BlockCall}
 use Rattle.ir_core.specs.Module.{CallTarget, Function, Module, Branches, Call, Instruction, Line, Block, Plain, Return, ReturnCall, SequencePoint, TryCall}
 use Rattle.ir_core.specs.Lookup.{find_block, same_name, signature_of, param_types, type_of}
 use Rattle.ir_core.specs.Lists.{In, Each}
-use Rattle.ir_semantics.specs.Accepted.{InstructionTypes, CallTypes, HaveTypes, ArgCounts}
+use Rattle.ir_semantics.specs.TypeRules.{InstructionTypes, CallTypes, HaveTypes}
+use Rattle.ir_semantics.specs.CountRules.{ArgCounts}
 use Rattle.ir_semantics.specs.Import.{callees_with, callees_after, same_callee, sigs_after}
 use Rattle.ir_semantics.specs.Renaming.{called_under, entry_under, line_under, tag_under}
 use Rattle.ir_core.specs.Size.{size_of, block_size, line_size, total}

@@ -11,7 +11,7 @@ use Rattle.ir_core.specs.Lists.{In, Different}
 use Rattle.ir_semantics.specs.Renaming.{Renaming, called_under, entry_under, instruction_under, simple_under, block_under, target_under, try_target_under}
 use Rattle.ir_semantics.specs.Import.{sig_after}
 use Rattle.ir_semantics.specs.Available.{terminates, simple_terminates}
-use Rattle.ir_semantics.specs.Accepted.{EndsRightly}
+use Rattle.ir_semantics.specs.EndRules.{EndsRightly}
 use Rattle.ir_semantics.specs.Splice.{Kind, Last, Piece, Splicing, Tries, Within, after_block, after_blocks, body, callee_line, callee_names, caller_names, cut_block, from, front, kind_of, line_with, named_sig, new_results, piece, piece_by, spliced_blocks, to_after, to_normal, tries_piece, try_with, within_piece, try_target}
 use Rattle.inline_outcomes.proofs.Local.{some_same}
 use Rattle.inline_outcomes.proofs.Related.{Distinct}

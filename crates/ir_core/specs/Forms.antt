@@ -1,5 +1,5 @@
--- What an instruction's own words say of its form: which operations have a form with an immediate, which numbers a type has,
--- the operand that gives the type, the type that an access names, and which flags stand together.
+-- What an instruction's own words say of its form: which operations have a form with an immediate, which numbers a type
+-- has, the operand that gives the type, the type that an access names, and which flags stand together.
 use Rattle.std.specs.Prelude.{ℕ, ◌<◌, ◌^◌, List, Option, None, Bool, true, false, not, ◌&&◌, slice_get}
 use Rattle.clk_num.specs.Width.{bits_of}
 use Rattle.clk_num.specs.Operations.{DataValue}

@@ -60,7 +60,8 @@ pub data Instruction : Type 0 where
   Call : CallTarget → (args : List ℕ) → Instruction
   ReturnCall : CallTarget → (args : List ℕ) → Instruction
   -- with the signature that it names, its normal target and its exception table
-  TryCall : TryTarget → (sig : ℕ) → (args : List ℕ) → (normal : BlockCall) → (table : List (Entry BlockCall)) → Instruction
+  TryCall : TryTarget → (sig : ℕ) → (args : List ℕ) → (normal : BlockCall) → (table : List (Entry BlockCall))
+      → Instruction
 
 -- an instruction with its controlling type, where its form may leave the suffix out, its results and its debug tags
 pub record Line : Type 0 where

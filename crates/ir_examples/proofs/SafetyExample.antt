@@ -20,7 +20,8 @@ use Rattle.ir_semantics.specs.Available.{Reach, begin, next, branch}
 use Rattle.ir_semantics.specs.Splice.{Splicing, sides}
 use Rattle.ir_semantics.specs.Site.{Site}
 use Rattle.ir_core.specs.Whole.{Whole, IsModule}
-use Rattle.ir_semantics.specs.Accepted.{Rule, no_terminator, entry_target, count_mismatch, type_mismatch, convention, signature_mismatch, slot_range, tag_place, not_available, KeptAtLine, KeptAtBlock, KeptAtCallee, Declared, FunctionAccepted, Accepted}
+use Rattle.ir_semantics.specs.Accepted.{Rule, no_terminator, entry_target, count_mismatch, type_mismatch, convention, signature_mismatch, slot_range, tag_place, not_available, KeptAtLine, KeptAtBlock, KeptAtCallee, FunctionAccepted, Accepted}
+use Rattle.ir_semantics.specs.CallRules.{Declared}
 use Rattle.ir_semantics.proofs.SafetyTypes.{some_same, head_same}
 use Rattle.ir_semantics.proofs.Written.{signature, declares, f, g}
 

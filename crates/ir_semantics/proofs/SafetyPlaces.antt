@@ -18,7 +18,7 @@ use Rattle.ir_semantics.specs.Values.{cons_some}
 use Rattle.ir_semantics.specs.Step.{numbers}
 use Rattle.ir_core.specs.Uses.{arg_values_used, targets_used}
 use Rattle.ir_core.specs.Whole.{declared, LineWhole, BlockWhole, Whole}
-use Rattle.ir_semantics.specs.Accepted.{types_of}
+use Rattle.ir_semantics.specs.TypeRules.{types_of}
 use Rattle.ir_core.proofs.Equal.{cases_name, equal_name, name_equal}
 use Rattle.ir_semantics.proofs.SafetyTypes.{some_same, EachSome}
 

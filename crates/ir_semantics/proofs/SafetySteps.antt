@@ -28,7 +28,11 @@ use Rattle.ir_semantics.specs.Available.{terminates, next}
 use Rattle.ir_semantics.specs.Machine.{Frame, Wait, Shown, Host, Point, HostAct, Returns, HostTraps, Throws, Reply, World, End, Trapped, Unwritten, BadReply, Stuck, On, Over}
 use Rattle.ir_semantics.specs.Effect.{Called, ByName, ByAddress, Effect, Go, Enter, Give, Do, Stop, need, arg_values, evaluated, choose, simple, go_to, target_at, branch, called, calls, effect}
 use Rattle.ir_semantics.specs.Step.{with_event, resume, shown, writes_fit, written, answer, reply, Found, Inside, Outside, Nowhere, Missing, by_name, by_address, or_missing, at_name, found, invoke, numbers, act}
-use Rattle.ir_semantics.specs.Accepted.{each_some, types_of, HaveTypes, TargetTypes, widths_of_values, OpTypes, SimpleTypes, InstructionTypes, simple_results, InstructionCounts, SimpleSlot, InstructionSlot, InstructionTags, Declared, count_mismatch, signature_mismatch, slot_range, tag_place}
+use Rattle.ir_semantics.specs.Accepted.{count_mismatch, signature_mismatch, slot_range, tag_place}
+use Rattle.ir_semantics.specs.TypeRules.{each_some, types_of, HaveTypes, TargetTypes, widths_of_values, OpTypes, SimpleTypes, InstructionTypes}
+use Rattle.ir_semantics.specs.CountRules.{simple_results, InstructionCounts}
+use Rattle.ir_semantics.specs.SlotRules.{SimpleSlot, InstructionSlot}
+use Rattle.ir_semantics.specs.CallRules.{InstructionTags, Declared}
 use Rattle.ir_core.specs.Forms.{access_type}
 use Rattle.ir_core.proofs.Equal.{sig_equal}
 use Rattle.ir_semantics.proofs.SafetyTypes.{some_same, then_some, Has, FitsOne, FitAll, There, all_there, width_ty, no_values_fit, widths_fit, operand_widths, host_values_fit}

@@ -16,7 +16,7 @@ use Rattle.ir_core.specs.Lists.{In}
 use Rattle.ir_core.specs.Uses.{arg_values_used}
 use Rattle.ir_semantics.specs.Values.{Env, cons_some, all_of, put, bind, value_for, values_for}
 use Rattle.ir_semantics.specs.Effect.{arg_value}
-use Rattle.ir_semantics.specs.Accepted.{types_of, each_some, arg_type, HaveTypes, width_at, widths_of_values}
+use Rattle.ir_semantics.specs.TypeRules.{types_of, each_some, arg_type, HaveTypes, width_at, widths_of_values}
 use Rattle.ir_semantics.specs.Runs.{HaveTypes as TypesOfAll}
 
 pub some_same : {A : Type 0} {x y : A} → Some x ≡ Some y → x ≡ y

@@ -1,7 +1,10 @@
 pub mod Accepted
 pub mod Available
+pub mod CallRules
 pub mod Canon
+pub mod CountRules
 pub mod Effect
+pub mod EndRules
 pub mod Import
 pub mod Kept
 pub mod Machine
@@ -10,6 +13,8 @@ pub mod Renaming
 pub mod Runs
 pub mod Same
 pub mod Site
+pub mod SlotRules
 pub mod Splice
 pub mod Step
+pub mod TypeRules
 pub mod Values

@@ -1,5 +1,5 @@
--- The canonical numbers of a function: values are numbered from 0 in order of definition in the text, parameters of a block
--- before the results of its instructions, and blocks by their place.
+-- The canonical numbers of a function: values are numbered from 0 in order of definition in the text, parameters of a
+-- block before the results of its instructions, and blocks by their place.
 use Rattle.std.specs.Prelude.{ℕ, List, map}
 use Rattle.ir_core.specs.Module.{Function, Module}
 use Rattle.ir_core.specs.Lookup.{definitions, block_numbers}

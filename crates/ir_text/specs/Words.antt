@@ -3,7 +3,11 @@ use Rattle.std.specs.Prelude.{ℕ, List, codes}
 use Rattle.clk_num.specs.declared.op.Cc.{Cc}
 use Rattle.clk_num.specs.declared.op.Cc.TheVariants.{Eq, Ne, Slt, Sge, Sgt, Sle, Ult, Uge, Ugt, Ule}
 use Rattle.clk_num.specs.declared.op.Op.{Op}
-use Rattle.clk_num.specs.declared.op.Op.TheVariants.{Iadd, Isub, Imul, Band, Bor, Bxor, Smin, Smax, Umin, Umax, Umulhi, Smulhi, Udiv, Urem, Sdiv, Srem, Ineg, Bnot, Iabs, Clz, Ctz, Popcnt, Bitrev, Bswap, Ishl, Ushr, Sshr, Rotl, Rotr, Icmp, Select, Uextend, Sextend, Ireduce, UaddOverflow, SaddOverflow, UsubOverflow, SsubOverflow, Iconcat, Isplit}
+use Rattle.clk_num.specs.declared.op.Op.TheVariants.{Iadd, Isub, Imul, Band, Bor, Bxor, Smin, Smax, Umin, Umax, Umulhi}
+use Rattle.clk_num.specs.declared.op.Op.TheVariants.{Smulhi, Udiv, Urem, Sdiv, Srem, Ineg, Bnot, Iabs, Clz, Ctz, Popcnt}
+use Rattle.clk_num.specs.declared.op.Op.TheVariants.{Bitrev, Bswap, Ishl, Ushr, Sshr, Rotl, Rotr, Icmp, Select, Uextend}
+use Rattle.clk_num.specs.declared.op.Op.TheVariants.{Sextend, Ireduce, UaddOverflow, SaddOverflow, UsubOverflow}
+use Rattle.clk_num.specs.declared.op.Op.TheVariants.{SsubOverflow, Iconcat, Isplit}
 use Rattle.ir_core.specs.declared.signatures.Conv.{Conv}
 use Rattle.ir_core.specs.declared.signatures.Conv.TheVariants as conv
 use Rattle.ir_core.specs.declared.signatures.Ty.{Ty}

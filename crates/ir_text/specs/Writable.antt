@@ -1,7 +1,8 @@
--- Which modules have a text that reads as the module again: names spelled by the rules of tokens, numbers and sizes within
--- the limits, each instruction of a form of the CLIF reference with results of the types that the form gives, and numbers of
--- constants and immediates that are of their types and that a literal can give.
-use Rattle.std.specs.Prelude.{◌≡◌, ◌≢◌, ◌<◌, ◌≤◌, ◌^◌, ⊤, ℕ, List, [], ◌∷◌, length, Option, Some, None, Bool, true, false, ◌&&◌, ◌||◌, nat_le, ◌==◌, IsTrue, IsSome, IsSomeAnd, ℤ, pos, neg_ℤ, ◌≤ℤ◌, ◌<ℤ◌}
+-- Which modules have a text that reads as the module again: names spelled by the rules of tokens, numbers and sizes
+-- within the limits, each instruction of a form of the CLIF reference with results of the types that the form gives,
+-- and numbers of constants and immediates that are of their types and that a literal can give.
+use Rattle.std.specs.Prelude.{◌≡◌, ◌≢◌, ◌<◌, ◌≤◌, ◌^◌, ⊤, ℕ, List, [], ◌∷◌, length, Option, Some, None, Bool, true}
+use Rattle.std.specs.Prelude.{false, ◌&&◌, ◌||◌, nat_le, ◌==◌, IsTrue, IsSome, IsSomeAnd, ℤ, pos, neg_ℤ, ◌≤ℤ◌, ◌<ℤ◌}
 use Rattle.exn_tables.specs.declared.table.Entry.{Entry}
 use Rattle.debug_tags.specs.declared.tags.Tag.{Tag}
 use Rattle.debug_tags.specs.declared.tags.Tag.TheVariants as tag
@@ -25,7 +26,9 @@ use Rattle.ir_core.specs.declared.instructions.Arg.TheVariants as arg
 use Rattle.ir_core.specs.declared.instructions.BlockCall.{BlockCall}
 use Rattle.ir_core.specs.declared.instructions.Access.{Access}
 use Rattle.ir_core.specs.declared.instructions.Access.TheVariants.{Full, Uload, Sload}
-use Rattle.ir_core.specs.Module.{Simple, Nop, Const, Pure, PureImm, Load, Store, StackLoad, StackStore, FuncAddr, Trap, Trapz, Trapnz, Branch, Jump, Brif, BrTable, Instruction, Plain, Branches, SequencePoint, Return, Call, ReturnCall, TryCall, Line, Block, Function, Module}
+use Rattle.ir_core.specs.Module.{Simple, Nop, Const, Pure, PureImm, Load, Store, StackLoad, StackStore, FuncAddr, Trap}
+use Rattle.ir_core.specs.Module.{Trapz, Trapnz, Branch, Jump, Brif, BrTable, Instruction, Plain, Branches}
+use Rattle.ir_core.specs.Module.{SequencePoint, Return, Call, ReturnCall, TryCall, Line, Block, Function, Module}
 use Rattle.ir_core.specs.Lookup.{type_of, signature_of, param_types, width_of, ty_of}
 use Rattle.ir_core.specs.Lists.{Each}
 use Rattle.ir_core.specs.Uses.{branch_targets}
@@ -190,9 +193,13 @@ abbrev pub SimpleForm : Function → Line → Simple → Type 0
 SimpleForm f l Nop = (l.ty ≡ None) × ResultTypes f l.results []
 SimpleForm f l (Const x) = (l.ty ≡ None) × ConstantWritable x × ResultTypes f l.results (ty_of x.width ∷ [])
 SimpleForm f l (Pure o args) = (length args ≡ op_operands o) × OpForm f l o (conversion o)
-SimpleForm f l (PureImm o a imm) = IsTrue (has_immediate o) × ImmediateWritable o imm × (l.ty ≡ Some (ty_of imm.width)) × OpForm f l o None
-SimpleForm f l (Load access flags a offset) = IsTrue (flags_form flags) × OffsetWritable offset × AccessForm l access × ResultTypes f l.results (access_type access ∷ [])
-SimpleForm f l (Store narrow flags v a offset) = IsTrue (flags_form flags) × OffsetWritable offset × StoreForm narrow × IsSome l.ty × ResultTypes f l.results []
+SimpleForm f l (PureImm o a imm) =
+    IsTrue (has_immediate o) × ImmediateWritable o imm × (l.ty ≡ Some (ty_of imm.width)) × OpForm f l o None
+SimpleForm f l (Load access flags a offset) =
+    IsTrue (flags_form flags) × OffsetWritable offset × AccessForm l access
+    × ResultTypes f l.results (access_type access ∷ [])
+SimpleForm f l (Store narrow flags v a offset) =
+    IsTrue (flags_form flags) × OffsetWritable offset × StoreForm narrow × IsSome l.ty × ResultTypes f l.results []
 SimpleForm f l (StackLoad t k offset) = OffsetWritable offset × (l.ty ≡ None) × ResultTypes f l.results (t ∷ [])
 SimpleForm f l (StackStore v k offset) = OffsetWritable offset × IsSome l.ty × ResultTypes f l.results []
 SimpleForm f l (FuncAddr k) = (l.ty ≡ None) × ResultTypes f l.results (I64 ∷ [])
@@ -207,12 +214,15 @@ BranchForm l (BrTable v default ts) = l.ty ≡ None
 
 abbrev pub InstructionForm : Function → Line → Instruction → Type 0
 InstructionForm f l (Plain p) = SimpleForm f l p
-InstructionForm f l (Branches b) = BranchForm l b × Each (TargetWritable ValueArg) (branch_targets b) × ResultTypes f l.results []
+InstructionForm f l (Branches b) =
+    BranchForm l b × Each (TargetWritable ValueArg) (branch_targets b) × ResultTypes f l.results []
 InstructionForm f l SequencePoint = (l.ty ≡ None) × ResultTypes f l.results []
 InstructionForm f l (Return vs) = (l.ty ≡ None) × ResultTypes f l.results []
-InstructionForm f l (Call t args) = (l.ty ≡ None) × IsSomeAnd (signature_of f t) (λ s. ResultTypes f l.results (param_types s.results))
+InstructionForm f l (Call t args) =
+    (l.ty ≡ None) × IsSomeAnd (signature_of f t) (λ s. ResultTypes f l.results (param_types s.results))
 InstructionForm f l (ReturnCall t args) = (l.ty ≡ None) × ResultTypes f l.results []
-InstructionForm f l (TryCall t sig args normal table) = (l.ty ≡ None) × TargetWritable NormalArg normal × Each TableWritable table × ResultTypes f l.results []
+InstructionForm f l (TryCall t sig args normal table) =
+    (l.ty ≡ None) × TargetWritable NormalArg normal × Each TableWritable table × ResultTypes f l.results []
 
 abbrev pub LineWritable : Function → Line → Type 0
 LineWritable f l = InstructionForm f l l.inst × Each TagWritable l.tags

@@ -1,0 +1,38 @@
+//! Laws of numbers: functions without a body, each of which has its law as its contract.
+ghost use Rattle.inline_numbering.specs.Renamed.{CanonicalIsSame, CanonicalModuleIsSame, NumberingKeepsText, RenamedIsSame, SameIsRenamed};
+ghost use Rattle.inline_numbering.specs.Laws.{SidesCarry, SpliceCarried};
+
+/// A function under other numbers of values and blocks, where the numbers differ, has the same canonical form.
+pub fn renamed_is_same()
+    ensures { RenamedIsSame }
+{}
+
+/// Functions that are the same up to numbering are one another under other numbers.
+pub fn same_is_renamed()
+    ensures { SameIsRenamed }
+{}
+
+/// The blocks of a splice under other numbers are those of the splice of caller and callee under other numbers.
+pub fn splice_carried()
+    ensures { SpliceCarried }
+{}
+
+/// Whatever numbers a splice is given, those of the definition are carried to them.
+pub fn sides_carry()
+    ensures { SidesCarry }
+{}
+
+/// Modules that are the same up to numbering have one canonical text.
+pub fn numbering_keeps_text()
+    ensures { NumberingKeepsText }
+{}
+
+/// A whole function is the same as its canonical form.
+pub fn canonical_is_same()
+    ensures { CanonicalIsSame }
+{}
+
+/// So is a module of whole functions.
+pub fn canonical_module_is_same()
+    ensures { CanonicalModuleIsSame }
+{}

@@ -21,7 +21,7 @@ use Rattle.ir_core.specs.Uses.{table_targets, values_used, targets_used, called_
 use Rattle.ir_semantics.specs.Available.{Available}
 use Rattle.ir_semantics.specs.Accepted.{FunctionAccepted, Rule, count_mismatch, type_mismatch, convention, signature_mismatch, slot_range, tag_place, not_available, KeptAtLine, Counts, Types, Convention, Signature, SlotRange, TagPlace, UsesAvailable, InstructionCounts, InstructionTypes, InstructionConvention, InstructionTags, TargetCounts, ArgCounts, TargetTypes, arg_type, HaveTypes, types_of}
 use Rattle.ir_core.specs.Whole.{Whole}
-use Rattle.ir_semantics.specs.Site.{Site}
+use Rattle.inline_acceptance.specs.Alone.{CallSite}
 use Rattle.ir_core.specs.Uses.{callee_of, named_callee}
 use Rattle.ir_semantics.specs.Splice.{Kind, Last, Splicing, Tries, Within, args_of, kind_of}
 use Rattle.inline_outcomes.proofs.Local.{some_same}
@@ -98,13 +98,13 @@ table_counts f whole payloads n r (x ∷ ts) c t =
 
 -- ---- the site
 
-module _ (m : Module) (S : Splicing) (site : Site m S) (fa : FunctionAccepted m S.caller) where
+module _ (m : Module) (S : Splicing) (site : CallSite S) (fa : FunctionAccepted m S.caller) where
   pub site_kept : LineKept S.caller S.at (length S.before) S.site
   site_kept = line_kept_at m S.caller fa S.at site.block (length S.before) S.site site.block_found (ap (λ ls. slice_get ls (length S.before)) site.lines ∙ get_site S.before S.site S.behind)
 
   -- the callee's declaration states its signature
   pub declared_sig : slice_get S.caller.sigs site.declared.sig ≡ Some S.callee.sig
-  declared_sig = fa (item.Callee site.callee) signature_mismatch site.declared site.declared_found S.callee site.callee_found
+  declared_sig = site.signature
 
   pub called_sig : (t : CallTarget) → named_callee t ≡ Some site.callee → signature_of S.caller t ≡ Some S.callee.sig
   called_sig (Indirect s a) q = cc

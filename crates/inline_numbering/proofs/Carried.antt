@@ -26,11 +26,11 @@ map_square : (h u w x : ℕ → ℕ) (vs : List ℕ) → ((v : ℕ) → h (u v) 
 map_square h u w x [] e = refl
 map_square h u w x (v ∷ vs) e = ap₂ (λ y ys. y ∷ ys) (e v) (map_square h u w x vs e)
 
-map_append : {A B : Type 0} (h : A → B) (xs ys : List A) → map h (xs ++ ys) ≡ map h xs ++ map h ys
+pub map_append : {A B : Type 0} (h : A → B) (xs ys : List A) → map h (xs ++ ys) ≡ map h xs ++ map h ys
 map_append h [] ys = refl
 map_append h (x ∷ xs) ys = ap (λ r. h x ∷ r) (map_append h xs ys)
 
-length_same : {A B : Type 0} (h : A → B) (xs : List A) → length (map h xs) ≡ length xs
+pub length_same : {A B : Type 0} (h : A → B) (xs : List A) → length (map h xs) ≡ length xs
 length_same h [] = refl
 length_same h (x ∷ xs) = ap suc (length_same h xs)
 
@@ -40,13 +40,12 @@ hit b a x y e = ap (λ c. if c then x else y) (eq-eqb b a e)
 miss : {X : Type 0} (b a : ℕ) (x y : X) → (b ≡ a → ⊥) → (if nat_eq b a then x else y) ≡ y
 miss b a x y e = ap (λ c. if c then x else y) (ne_eqb b a e)
 
-kind_under : Renaming → Kind → Kind
+abbrev pub kind_under : Renaming → Kind → Kind
 kind_under r Within = Within
 kind_under r Last = Last
 kind_under r (Tries normal table) = Tries (target_under r normal) (map (entry_under r) table)
 
-kind_same : (r : Renaming) (i : Instruction) → kind_of (instruction_under r i) ≡ kind_under r (kind_of i)
-unfolding kind_under
+pub kind_same : (r : Renaming) (i : Instruction) → kind_of (instruction_under r i) ≡ kind_under r (kind_of i)
 kind_same r (Plain p) = refl
 kind_same r (Branches c) = refl
 kind_same r SequencePoint = refl
@@ -248,7 +247,6 @@ module _ (t r s : Renaming) (n m : Naming) (b c g h : Function) (at : ℕ) (befo
       (try_line i z (named_sig P (called_under (callee_names P) z)) (named_sig Q (called_under (callee_names Q) (called_under s z))) vs (target_under (caller_names P) x) (target_under (caller_names Q) (target_under r x)) (map (entry_under (caller_names P)) u) (map (entry_under (caller_names Q)) (map (entry_under r) u)) (sig_named z) (f_target x) (f_entries u)) e
 
   by_kind : (z : Kind) (x j : ℕ) (i : Line) (p q : Piece) → Both p q → Both (piece_by P z x j i p) (piece_by Q (kind_under r z) (s.block x) j (line_under s i) q)
-  unfolding kind_under
   by_kind Within x j i p q e = within x j i i.inst p q e
   by_kind Last x j i p q e = fronts _ _ p q (line i) e
   by_kind (Tries y u) x j i p q e = tries y u x j i i.inst p q e
@@ -267,7 +265,6 @@ module _ (t r s : Renaming) (n m : Naming) (b c g h : Function) (at : ℕ) (befo
       (map_append (block_under t) (piece P x.number 0 x.lines).more (body P bs) ∙ ap₂ (λ u w. u ++ w) (pieces x.number 0 x.lines).1 (bodies bs))
 
   afters : (z : Kind) → map (block_under t) (after_blocks P z) ≡ after_blocks Q (kind_under r z)
-  unfolding kind_under
   afters Within = ap (λ (u : Block). u ∷ []) (ap₂ (λ (u : ℕ) (w : List ℕ). record { number = u; params = w; lines = map (line_under t) (map (line_under (caller_names P)) behind) }) k.after (f_vals site.results) ∙ ap (λ (ls : List Line). record { number = m.after; params = map m.caller_value (map r.value site.results); lines = ls }) (f_lines behind))
   afters Last = refl
   afters (Tries x u) = refl

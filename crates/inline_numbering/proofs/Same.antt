@@ -12,14 +12,15 @@ use Rattle.ir_core.specs.Lookup.{type_in, type_of, line_definitions, definitions
 use Rattle.ir_core.specs.Lists.{In, Each, Different}
 use Rattle.ir_semantics.specs.Renaming.{Renaming, line_under, block_under}
 use Rattle.ir_semantics.specs.Splice.{with_type}
-use Rattle.ir_semantics.specs.Canon.{place, canonical_names, types_in_order, canonical}
+use Rattle.ir_semantics.specs.Canon.{place, canonical_names, types_in_order, canonical, SameFunction}
 use Rattle.ir_core.specs.Uses.{values_used, blocks_used}
 use Rattle.ir_core.specs.Whole.{declared, LineWhole, BlockWhole, Whole}
 use Rattle.ir_core.proofs.Members.{in_left, in_right, each_more}
 use Rattle.inline_outcomes.proofs.Numbering.{back_names, back_rest, canonical_back}
 use Rattle.inline_acceptance.proofs.KeptNumbers.{canonical_typed}
 use Rattle.inline_acceptance.proofs.KeptCanon.{back_typed}
-use Rattle.inline_numbering.specs.Renamed.{RenamedIsSame, SameIsRenamed}
+use Rattle.inline_numbering.specs.Carried.{SamePlace}
+use Rattle.inline_numbering.specs.Renamed.{Renamed, RenamedIsSame, SameIsRenamed}
 use Rattle.inline_numbering.proofs.Via.{blocks_via}
 
 -- ---- lists
@@ -131,29 +132,46 @@ renamed_is_same r f g wf wg h =
 
 -- ---- functions that are the same up to numbering
 
-by_way : Function → Function → Renaming
+pub by_way : Function → Function → Renaming
 by_way f g = record { value = λ v. (back_names g).value ((canonical_names f).value v); block = λ b. (back_names g).block ((canonical_names f).block b); slot = λ k. k; sig = λ k. k; callee = λ k. k }
 
-pub same_is_renamed : SameIsRenamed
+fixed_in : (f h : ℕ → ℕ) (xs : List ℕ) → map f (map h xs) ≡ xs → (x : ℕ) → In x xs → f (h x) ≡ x
+fixed_in f h [] e x i = elim i [ ]
+fixed_in f h (y ∷ xs) e x (inl q) = let same : f (h y) ≡ y = cc in ap (λ z. f (h z)) q ∙ (same ∙ sym q)
+fixed_in f h (y ∷ xs) e x (inr i) = let rest : map f (map h xs) ≡ xs = cc in fixed_in f h xs rest x i
+
+back_block : (g : Function) → Whole g → (b : ℕ) → In b (block_numbers g.blocks) → (back_names g).block ((canonical_names g).block b) ≡ b
+back_block g w b i =
+    fixed_in (back_names g).block (canonical_names g).block (block_numbers g.blocks)
+    (ap (map (back_names g).block) (sym (blocks_number (canonical_names g) g.blocks)) ∙ (sym (blocks_number (back_names g) (canonical g).blocks) ∙ ap block_numbers (canonical_back g w))) b i
+
+-- it takes a block to the one at the same place
+pub way_place : (f g : Function) → Whole g → (at there : ℕ) → SamePlace f g at there → (by_way f g).block at ≡ there
 unfolding by_way
-same_is_renamed f g h =
+way_place f g w at there e = ap (back_names g).block (sym e.place) ∙ back_block g w there e.other
+
+
+pub way_renamed : (f g : Function) → SameFunction f g → Renamed (by_way f g) f g
+unfolding by_way
+way_renamed f g h =
     let wf : Whole f = h.0 in
     let wg : Whole g = h.1 in
-    let e : canonical f ≡ canonical g = h.2 in (
-      by_way f g,
-      record {
-        name = sym (ap (λ (z : Function). z.name) e);
-        sig = sym (ap (λ (z : Function). z.sig) e);
-        slots = sym (ap (λ (z : Function). z.slots) e);
-        sigs = sym (ap (λ (z : Function). z.sigs) e);
-        callees = sym (ap (λ (z : Function). z.callees) e);
-        blocks =
-            sym (canonical_back g wg)
-            ∙ (ap (λ (z : Function). map (block_under (back_names g)) z.blocks) (sym e)
-            ∙ blocks_via (canonical_names f) (back_names g) (by_way f g) (λ v. In v (definitions f.blocks)) (λ b. In b (block_numbers f.blocks)) (λ v i. refl) (λ b i. refl) (λ k. (back_rest g k).0) (λ k. (back_rest g k).1) (λ k. (back_rest g k).2) f.blocks (blocks_in f wf f.blocks (λ v i. i) (λ b i. i) wf.lines));
-        typed = λ v i. back_typed g wg ((canonical_names f).value v) ∙ (ap (λ (z : Function). type_of z ((canonical_names f).value v)) (sym e) ∙ canonical_typed f wf v);
-        slot = λ k. refl;
-        signature = λ k. refl;
-        callee = λ k. refl;
-      },
-    )
+    let e : canonical f ≡ canonical g = h.2 in
+    record {
+      name = sym (ap (λ (z : Function). z.name) e);
+      sig = sym (ap (λ (z : Function). z.sig) e);
+      slots = sym (ap (λ (z : Function). z.slots) e);
+      sigs = sym (ap (λ (z : Function). z.sigs) e);
+      callees = sym (ap (λ (z : Function). z.callees) e);
+      blocks =
+          sym (canonical_back g wg)
+          ∙ (ap (λ (z : Function). map (block_under (back_names g)) z.blocks) (sym e)
+          ∙ blocks_via (canonical_names f) (back_names g) (by_way f g) (λ v. In v (definitions f.blocks)) (λ b. In b (block_numbers f.blocks)) (λ v i. refl) (λ b i. refl) (λ k. (back_rest g k).0) (λ k. (back_rest g k).1) (λ k. (back_rest g k).2) f.blocks (blocks_in f wf f.blocks (λ v i. i) (λ b i. i) wf.lines));
+      typed = λ v i. back_typed g wg ((canonical_names f).value v) ∙ (ap (λ (z : Function). type_of z ((canonical_names f).value v)) (sym e) ∙ canonical_typed f wf v);
+      slot = λ k. refl;
+      signature = λ k. refl;
+      callee = λ k. refl;
+    }
+
+pub same_is_renamed : SameIsRenamed
+same_is_renamed f g h = (by_way f g, way_renamed f g h)

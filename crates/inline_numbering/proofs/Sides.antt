@@ -115,7 +115,7 @@ joined r s m = record { value = λ v. value_by r s m (side v); block = λ b. blo
 sigs_same : (b c g h : Function) → c.sigs ≡ b.sigs → h.sigs ≡ g.sigs → (x : ℕ) → sig_after c h x ≡ sig_after b g x
 sigs_same b c g h e f x = ap₂ (λ (us vs : List Sig). new_place same_sig (with_items same_sig us vs) (slice_get vs x)) e f
 
-all_sigs : (b c g h : Function) → c.sigs ≡ b.sigs → h.sigs ≡ g.sigs → sigs_after c h ≡ sigs_after b g
+pub all_sigs : (b c g h : Function) → c.sigs ≡ b.sigs → h.sigs ≡ g.sigs → sigs_after c h ≡ sigs_after b g
 all_sigs b c g h e f = ap₂ (with_items same_sig) e f
 
 withs_same : (b c g h : Function) → ((x : ℕ) → sig_after c h x ≡ sig_after b g x) → (ks : List Callee) → callees_with c h ks ≡ callees_with b g ks

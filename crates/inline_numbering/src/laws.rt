@@ -1,6 +1,6 @@
 //! Laws of numbers: functions without a body, each of which has its law as its contract.
 ghost use Rattle.inline_numbering.specs.Renamed.{CanonicalIsSame, CanonicalModuleIsSame, NumberingKeepsText, RenamedIsSame, SameIsRenamed};
-ghost use Rattle.inline_numbering.specs.Laws.{SidesCarry, SpliceCarried};
+ghost use Rattle.inline_numbering.specs.Laws.{SidesCarry, SpliceCarried, SpliceRenamed, SpliceRespectsNumbers, SpliceStaysWhole};
 
 /// A function under other numbers of values and blocks, where the numbers differ, has the same canonical form.
 pub fn renamed_is_same()
@@ -12,14 +12,29 @@ pub fn same_is_renamed()
     ensures { SameIsRenamed }
 {}
 
-/// The blocks of a splice under other numbers are those of the splice of caller and callee under other numbers.
-pub fn splice_carried()
-    ensures { SpliceCarried }
+/// Functions that are the same up to numbering, at places that correspond, have splices that are the same up to numbering.
+pub fn splice_respects_numbers()
+    ensures { SpliceRespectsNumbers }
 {}
 
 /// Whatever numbers a splice is given, those of the definition are carried to them.
 pub fn sides_carry()
     ensures { SidesCarry }
+{}
+
+/// The blocks of a splice under other numbers are those of the splice of caller and callee under other numbers.
+pub fn splice_carried()
+    ensures { SpliceCarried }
+{}
+
+/// So is the whole splice, with the types of its values.
+pub fn splice_renamed()
+    ensures { SpliceRenamed }
+{}
+
+/// A splice whose numbers are in range, as the code's are, is whole where the splice of the definition is.
+pub fn splice_stays_whole()
+    ensures { SpliceStaysWhole }
 {}
 
 /// Modules that are the same up to numbering have one canonical text.

@@ -3,7 +3,7 @@ use Rattle.std.proofs.Common.{◌≡◌, ◌≢◌, ℕ, ◌<◌, inl, inr, List
 use Rattle.debug_tags.specs.declared.tags.Tag.{Tag}
 use Rattle.debug_tags.specs.declared.tags.Tag.TheVariants as tag
 use Rattle.ir_core.specs.declared.signatures.Ty.{Ty}
-use Rattle.ir_core.specs.Module.{Nop, Const, Pure, PureImm, Load, Store, StackLoad, StackStore, FuncAddr, Trap, Trapz, Trapnz, Direct, Indirect, Instruction, Plain, Branches, SequencePoint, Return, Call, ReturnCall, TryCall, Line, Block, Function, Module}
+use Rattle.ir_core.specs.Module.{Nop, Const, Pure, PureImm, Load, Store, StackLoad, StackStore, FuncAddr, Trap, Trapz, Trapnz, Direct, Indirect, TryDirect, TryIndirect, Instruction, Plain, Branches, SequencePoint, Return, Call, ReturnCall, TryCall, Line, Block, Function, Module}
 use Rattle.ir_core.specs.Module.{Jump, Brif, BrTable}
 use Rattle.ir_core.specs.Lookup.{type_in, definitions, block_numbers}
 use Rattle.ir_core.specs.Lists.{In, Each, Different}
@@ -104,8 +104,8 @@ module _ (f : Function) (w : Whole f) where
   callees_at (Call (Indirect s v) a) = refl
   callees_at (ReturnCall (Direct k) a) = refl
   callees_at (ReturnCall (Indirect s v) a) = refl
-  callees_at (TryCall (Direct k) a b c d) = refl
-  callees_at (TryCall (Indirect s v) a b c d) = refl
+  callees_at (TryCall (TryDirect k) a b c d) = refl
+  callees_at (TryCall (TryIndirect v) a b c d) = refl
 
   sigs_at : (i : Instruction) → sigs_used (instruction_under r i) ≡ sigs_used i
   sigs_at (Plain a) = refl
@@ -116,8 +116,7 @@ module _ (f : Function) (w : Whole f) where
   sigs_at (Call (Indirect s v) a) = refl
   sigs_at (ReturnCall (Direct k) a) = refl
   sigs_at (ReturnCall (Indirect s v) a) = refl
-  sigs_at (TryCall (Direct k) a b c d) = refl
-  sigs_at (TryCall (Indirect s v) a b c d) = refl
+  sigs_at (TryCall t a b c d) = refl
 
   shown_at : (ts : List Tag) → slots_shown (map (tag_under r) ts) ≡ slots_shown ts
   shown_at [] = refl

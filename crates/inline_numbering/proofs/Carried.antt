@@ -8,13 +8,13 @@ use Rattle.ir_core.specs.declared.declarations.Callee.{Callee}
 use Rattle.ir_core.specs.declared.instructions.Arg.{Arg}
 use Rattle.ir_core.specs.declared.instructions.Arg.TheVariants as arg
 use Rattle.ir_core.specs.declared.instructions.BlockCall.{BlockCall}
-use Rattle.ir_core.specs.Module.{CallTarget, Direct, Indirect, Instruction, Plain, Branches, SequencePoint, Return, Call, ReturnCall, TryCall, Line, Block, Function}
+use Rattle.ir_core.specs.Module.{CallTarget, Direct, Indirect, TryTarget, TryDirect, TryIndirect, call_target, Instruction, Plain, Branches, SequencePoint, Return, Call, ReturnCall, TryCall, Line, Block, Function}
 use Rattle.ir_core.specs.Lists.{In}
 use Rattle.ir_core.specs.Lookup.{block_numbers}
-use Rattle.ir_semantics.specs.Renaming.{Renaming, arg_under, target_under, tag_under, entry_under, called_under, instruction_under, line_under, block_under}
+use Rattle.ir_semantics.specs.Renaming.{Renaming, arg_under, target_under, tag_under, entry_under, called_under, try_target_under, instruction_under, line_under, block_under}
 use Rattle.ir_semantics.specs.Import.{sig_after, callee_after, slot_after}
-use Rattle.ir_semantics.specs.Splice.{Naming, Splicing, Kind, Within, Last, Tries, kind_of, args_of, tags_before, from, first_number, or_ret, Piece, caller_names, callee_names, joined_tags, line_with, callee_line, jump_to, to_after, returned_arg, to_normal, new_results, named_sig, front, try_with, within_piece, tries_piece, piece_by, piece, body, jump_in, cut_block, after_blocks, spliced_blocks}
-use Rattle.inline_numbering.proofs.Via.{target_via, entries_via, tags_via, instruction_via, called_via, lines_via, blocks_via}
+use Rattle.ir_semantics.specs.Splice.{Naming, Splicing, Kind, Within, Last, Tries, kind_of, args_of, tags_before, from, first_number, or_ret, Piece, caller_names, callee_names, joined_tags, line_with, callee_line, jump_to, to_after, returned_arg, to_normal, new_results, named_sig, try_target, front, try_with, within_piece, tries_piece, piece_by, piece, body, jump_in, cut_block, after_blocks, spliced_blocks}
+use Rattle.inline_numbering.proofs.Via.{target_via, entries_via, tags_via, instruction_via, called_via, try_via, lines_via, blocks_via}
 use Rattle.inline_numbering.proofs.Any.{Any, args, entries, called, instruction, lines, blocks}
 use Rattle.inline_numbering.specs.Carried.{Carries}
 
@@ -62,6 +62,10 @@ args_same r (Return vs) = refl
 args_same r (Call k vs) = refl
 args_same r (ReturnCall k vs) = refl
 args_same r (TryCall k g vs x u) = refl
+
+try_target_same : (r : Renaming) (c : CallTarget) → try_target_under r (try_target c) ≡ try_target (called_under r c)
+try_target_same r (Direct k) = refl
+try_target_same r (Indirect s a) = refl
 
 -- t takes the splice p to q, r its caller, s its callee
 module _ (t r s : Renaming) (n m : Naming) (b c g h : Function) (at : ℕ) (before : List Line) (site : Line) (behind : List Line) (k : Carries t r s n m b c g h) where
@@ -132,6 +136,15 @@ module _ (t r s : Renaming) (n m : Naming) (b c g h : Function) (at : ℕ) (befo
       called_via (callee_names P) t g_way Any Any (λ v z. k.callee_value v) (λ y z. k.callee_block y) (λ y. k.slot (slot_after b g y)) (λ y. k.sig (sig_after b g y)) (λ y. k.callee (callee_after b g y)) x (called x)
       ∙ sym (called_via s (callee_names Q) g_way Any Any (λ v z. refl) (λ y z. refl) g_slot g_sig g_callee x (called x))
 
+  g_try : (x : TryTarget) → try_target_under t (try_target_under (callee_names P) x) ≡ try_target_under (callee_names Q) (try_target_under s x)
+  g_try x =
+      try_via (callee_names P) t g_way Any Any (λ v z. k.callee_value v) (λ y z. k.callee_block y) (λ y. k.slot (slot_after b g y)) (λ y. k.sig (sig_after b g y)) (λ y. k.callee (callee_after b g y)) x 0 (called (call_target x 0))
+      ∙ sym (try_via s (callee_names Q) g_way Any Any (λ v z. refl) (λ y z. refl) g_slot g_sig g_callee x 0 (called (call_target x 0)))
+
+  -- a `try_call` in place of a call
+  g_in_place : (x : CallTarget) → try_target_under t (try_target (called_under (callee_names P) x)) ≡ try_target (called_under (callee_names Q) (called_under s x))
+  g_in_place x = try_target_same t (called_under (callee_names P) x) ∙ ap try_target (g_called x)
+
   g_tags : (ts : List Tag) → map (tag_under t) (map (tag_under (callee_names P)) ts) ≡ map (tag_under (callee_names Q)) (map (tag_under s) ts)
   g_tags ts =
       tags_via (callee_names P) t g_way Any Any (λ v z. k.callee_value v) (λ y z. k.callee_block y) (λ y. k.slot (slot_after b g y)) (λ y. k.sig (sig_after b g y)) (λ y. k.callee (callee_after b g y)) ts
@@ -198,15 +211,15 @@ module _ (t r s : Renaming) (n m : Naming) (b c g h : Function) (at : ℕ) (befo
       k.sig _ ∙ ap₂ (λ (cs : List Callee) (y : ℕ). elim (slice_get cs y) as (λ o. ℕ) [ None ↦ 0 | Some d ↦ d.sig ]) (sym k.all_callees) (sym (g_callee x))
   sig_named (Indirect x a) = k.sig (sig_after b g x) ∙ sym (g_sig x)
 
-  tried : (z : CallTarget) (y y' : ℕ) (vs : List ℕ) (x x' : BlockCall) (u u' : List (Entry BlockCall)) → t.sig y ≡ y' → target_under t x ≡ x' → map (entry_under t) u ≡ u' → instruction_under t (TryCall (called_under (callee_names P) z) y (map n.callee_value vs) x u) ≡ TryCall (called_under (callee_names Q) (called_under s z)) y' (map m.callee_value (map s.value vs)) x' u'
-  tried z y y' vs x x' u u' ey ex eu =
-      ap₂ (λ (a : CallTarget) (d : ℕ). TryCall a d (map t.value (map n.callee_value vs)) (target_under t x) (map (entry_under t) u)) (g_called z) ey
-      ∙ (ap (λ (ws : List ℕ). TryCall (called_under (callee_names Q) (called_under s z)) y' ws (target_under t x) (map (entry_under t) u)) (g_vals vs)
-      ∙ ap₂ (TryCall (called_under (callee_names Q) (called_under s z)) y' (map m.callee_value (map s.value vs))) ex eu)
+  tried : (z z' : TryTarget) (y y' : ℕ) (vs : List ℕ) (x x' : BlockCall) (u u' : List (Entry BlockCall)) → try_target_under t z ≡ z' → t.sig y ≡ y' → target_under t x ≡ x' → map (entry_under t) u ≡ u' → instruction_under t (TryCall z y (map n.callee_value vs) x u) ≡ TryCall z' y' (map m.callee_value (map s.value vs)) x' u'
+  tried z z' y y' vs x x' u u' ez ey ex eu =
+      ap₂ (λ (a : TryTarget) (d : ℕ). TryCall a d (map t.value (map n.callee_value vs)) (target_under t x) (map (entry_under t) u)) ez ey
+      ∙ (ap (λ (ws : List ℕ). TryCall z' y' ws (target_under t x) (map (entry_under t) u)) (g_vals vs)
+      ∙ ap₂ (TryCall z' y' (map m.callee_value (map s.value vs))) ex eu)
 
-  try_line : (i : Line) (z : CallTarget) (y y' : ℕ) (vs : List ℕ) (x x' : BlockCall) (u u' : List (Entry BlockCall)) → t.sig y ≡ y' → target_under t x ≡ x' → map (entry_under t) u ≡ u' → line_under t (try_with P i (called_under (callee_names P) z) y vs x u) ≡ try_with Q (line_under s i) (called_under (callee_names Q) (called_under s z)) y' (map s.value vs) x' u'
-  try_line i z y y' vs x x' u u' ey ex eu =
-      with_line i (TryCall (called_under (callee_names P) z) y (map n.callee_value vs) x u) (TryCall (called_under (callee_names Q) (called_under s z)) y' (map m.callee_value (map s.value vs)) x' u') [] [] (tried z y y' vs x x' u u' ey ex eu) refl
+  try_line : (i : Line) (z z' : TryTarget) (y y' : ℕ) (vs : List ℕ) (x x' : BlockCall) (u u' : List (Entry BlockCall)) → try_target_under t z ≡ z' → t.sig y ≡ y' → target_under t x ≡ x' → map (entry_under t) u ≡ u' → line_under t (try_with P i z y vs x u) ≡ try_with Q (line_under s i) z' y' (map s.value vs) x' u'
+  try_line i z z' y y' vs x x' u u' ez ey ex eu =
+      with_line i (TryCall z y (map n.callee_value vs) x u) (TryCall z' y' (map m.callee_value (map s.value vs)) x' u') [] [] (tried z z' y y' vs x x' u u' ez ey ex eu) refl
 
   rets : (is : List ℕ) → map (arg_under t) (map arg.Ret is) ≡ map arg.Ret is
   rets [] = refl
@@ -232,19 +245,19 @@ module _ (t r s : Renaming) (n m : Naming) (b c g h : Function) (at : ℕ) (befo
   tries x u d j i SequencePoint p q e = fronts _ _ p q (line i) e
   tries x u d j i (Return vs) p q e = fronts (to_normal P x vs) (to_normal Q (target_under r x) (map s.value vs)) p q (normal_line x vs) e
   tries x u d j i (Call z vs) p q e = (
-    ap (λ a. a ∷ []) (try_line i z (named_sig P (called_under (callee_names P) z)) (named_sig Q (called_under (callee_names Q) (called_under s z))) vs (record { block = n.new_block d j; args = map arg.Ret (from 0 (length i.results)) }) (record { block = m.new_block (s.block d) j; args = map arg.Ret (from 0 (length (map s.value i.results))) }) (map (entry_under (caller_names P)) u) (map (entry_under (caller_names Q)) (map (entry_under r) u)) (sig_named z)
+    ap (λ a. a ∷ []) (try_line i (try_target (called_under (callee_names P) z)) (try_target (called_under (callee_names Q) (called_under s z))) (named_sig P (called_under (callee_names P) z)) (named_sig Q (called_under (callee_names Q) (called_under s z))) vs (record { block = n.new_block d j; args = map arg.Ret (from 0 (length i.results)) }) (record { block = m.new_block (s.block d) j; args = map arg.Ret (from 0 (length (map s.value i.results))) }) (map (entry_under (caller_names P)) u) (map (entry_under (caller_names Q)) (map (entry_under r) u)) (g_in_place z) (sig_named z)
         (ap₂ (λ (a : ℕ) (w : List Arg). record { block = a; args = w }) (k.new_block d j) (rets (from 0 (length i.results)) ∙ ap (λ z. map arg.Ret (from 0 z)) (sym (length_same s.value i.results)))) (f_entries u)),
     ap₂ (λ (a : Block) w. a ∷ w) (ap₂ (λ (a : ℕ) (w : List ℕ). record { number = a; params = w; lines = map (line_under t) p.lines }) (k.new_block d j) (g_vals i.results) ∙ ap (λ (ls : List Line). record { number = m.new_block (s.block d) j; params = map m.callee_value (map s.value i.results); lines = ls }) e.0) e.1,
   )
   tries x u d j i (TryCall z y vs own inner) p q e =
-      fronts (try_with P i (called_under (callee_names P) z) (sig_after b g y) vs (target_under (callee_names P) own) (map (entry_under (callee_names P)) inner ++ map (entry_under (caller_names P)) u))
-      (try_with Q (line_under s i) (called_under (callee_names Q) (called_under s z)) (sig_after c h (s.sig y)) (map s.value vs) (target_under (callee_names Q) (target_under s own)) (map (entry_under (callee_names Q)) (map (entry_under s) inner) ++ map (entry_under (caller_names Q)) (map (entry_under r) u))) p q
-      (try_line i z (sig_after b g y) (sig_after c h (s.sig y)) vs (target_under (callee_names P) own) (target_under (callee_names Q) (target_under s own)) (map (entry_under (callee_names P)) inner ++ map (entry_under (caller_names P)) u) (map (entry_under (callee_names Q)) (map (entry_under s) inner) ++ map (entry_under (caller_names Q)) (map (entry_under r) u)) (k.sig (sig_after b g y) ∙ sym (g_sig y)) (g_target own)
+      fronts (try_with P i (try_target_under (callee_names P) z) (sig_after b g y) vs (target_under (callee_names P) own) (map (entry_under (callee_names P)) inner ++ map (entry_under (caller_names P)) u))
+      (try_with Q (line_under s i) (try_target_under (callee_names Q) (try_target_under s z)) (sig_after c h (s.sig y)) (map s.value vs) (target_under (callee_names Q) (target_under s own)) (map (entry_under (callee_names Q)) (map (entry_under s) inner) ++ map (entry_under (caller_names Q)) (map (entry_under r) u))) p q
+      (try_line i (try_target_under (callee_names P) z) (try_target_under (callee_names Q) (try_target_under s z)) (sig_after b g y) (sig_after c h (s.sig y)) vs (target_under (callee_names P) own) (target_under (callee_names Q) (target_under s own)) (map (entry_under (callee_names P)) inner ++ map (entry_under (caller_names P)) u) (map (entry_under (callee_names Q)) (map (entry_under s) inner) ++ map (entry_under (caller_names Q)) (map (entry_under r) u)) (g_try z) (k.sig (sig_after b g y) ∙ sym (g_sig y)) (g_target own)
       (map_append (entry_under t) (map (entry_under (callee_names P)) inner) (map (entry_under (caller_names P)) u) ∙ ap₂ (λ v w. v ++ w) (g_entries inner) (f_entries u))) e
   tries x u d j i (ReturnCall z vs) p q e =
-      fronts (try_with P i (called_under (callee_names P) z) (named_sig P (called_under (callee_names P) z)) vs (target_under (caller_names P) x) (map (entry_under (caller_names P)) u))
-      (try_with Q (line_under s i) (called_under (callee_names Q) (called_under s z)) (named_sig Q (called_under (callee_names Q) (called_under s z))) (map s.value vs) (target_under (caller_names Q) (target_under r x)) (map (entry_under (caller_names Q)) (map (entry_under r) u))) p q
-      (try_line i z (named_sig P (called_under (callee_names P) z)) (named_sig Q (called_under (callee_names Q) (called_under s z))) vs (target_under (caller_names P) x) (target_under (caller_names Q) (target_under r x)) (map (entry_under (caller_names P)) u) (map (entry_under (caller_names Q)) (map (entry_under r) u)) (sig_named z) (f_target x) (f_entries u)) e
+      fronts (try_with P i (try_target (called_under (callee_names P) z)) (named_sig P (called_under (callee_names P) z)) vs (target_under (caller_names P) x) (map (entry_under (caller_names P)) u))
+      (try_with Q (line_under s i) (try_target (called_under (callee_names Q) (called_under s z))) (named_sig Q (called_under (callee_names Q) (called_under s z))) (map s.value vs) (target_under (caller_names Q) (target_under r x)) (map (entry_under (caller_names Q)) (map (entry_under r) u))) p q
+      (try_line i (try_target (called_under (callee_names P) z)) (try_target (called_under (callee_names Q) (called_under s z))) (named_sig P (called_under (callee_names P) z)) (named_sig Q (called_under (callee_names Q) (called_under s z))) vs (target_under (caller_names P) x) (target_under (caller_names Q) (target_under r x)) (map (entry_under (caller_names P)) u) (map (entry_under (caller_names Q)) (map (entry_under r) u)) (g_in_place z) (sig_named z) (f_target x) (f_entries u)) e
 
   by_kind : (z : Kind) (x j : ℕ) (i : Line) (p q : Piece) → Both p q → Both (piece_by P z x j i p) (piece_by Q (kind_under r z) (s.block x) j (line_under s i) q)
   by_kind Within x j i p q e = within x j i i.inst p q e

@@ -6,7 +6,7 @@ use Rattle.ir_core.specs.Module.{Line, Block, Function}
 use Rattle.ir_core.specs.Lookup.{find_block, block_numbers}
 use Rattle.ir_core.specs.Lists.{In, Different}
 use Rattle.ir_core.specs.Whole.{Whole}
-use Rattle.ir_semantics.specs.Canon.{canonical, place, SameFunction}
+use Rattle.ir_semantics.specs.Canon.{canonical, SameFunction}
 use Rattle.ir_semantics.specs.Renaming.{Renaming, line_under, block_under}
 use Rattle.ir_semantics.specs.Splice.{Naming, Splicing, sides, spliced, splice_with}
 use Rattle.inline_outcomes.proofs.Local.{some_same}

@@ -8,11 +8,11 @@ use Rattle.ir_core.specs.declared.names.FuncName.{FuncName}
 use Rattle.ir_core.specs.declared.declarations.SlotDecl.{SlotDecl}
 use Rattle.ir_core.specs.declared.declarations.Callee.{Callee}
 use Rattle.ir_core.specs.Module.{Line, Block, Function}
-use Rattle.ir_core.specs.Lookup.{type_in, type_of, line_definitions, definitions, block_numbers}
+use Rattle.ir_core.specs.Lookup.{type_in, type_of, line_definitions, definitions, block_numbers, place}
 use Rattle.ir_core.specs.Lists.{In, Each, Different}
 use Rattle.ir_semantics.specs.Renaming.{Renaming, line_under, block_under}
 use Rattle.ir_semantics.specs.Splice.{with_type}
-use Rattle.ir_semantics.specs.Canon.{place, canonical_names, types_in_order, canonical, SameFunction}
+use Rattle.ir_semantics.specs.Canon.{canonical_names, types_in_order, canonical, SameFunction}
 use Rattle.ir_core.specs.Uses.{values_used, blocks_used}
 use Rattle.ir_core.specs.Whole.{declared, LineWhole, BlockWhole, Whole}
 use Rattle.ir_core.proofs.Members.{in_left, in_right, each_more}
@@ -38,14 +38,14 @@ each_in P [] h = tt
 each_in P (x ∷ xs) h = (h x (inl refl), each_in P xs (λ v i. h v (inr i)))
 
 -- no injective renaming is asked
-place_map : (f : ℕ → ℕ) (xs : List ℕ) (v : ℕ) → Different (map f xs) → In v xs → place (map f xs) (f v) ≡ place xs v
+pub place_map : (f : ℕ → ℕ) (xs : List ℕ) (v : ℕ) → Different (map f xs) → In v xs → place (map f xs) (f v) ≡ place xs v
 place_map f [] v d i = elim i [ ]
 place_map f (x ∷ xs) v d i =
-    elim (cases_eq v x) [
-      | inl e ↦ ap (λ c. if c then 0 else suc (place (map f xs) (f v))) (eq-eqb (f v) (f x) (ap f e)) ∙ ap (λ c. if c then 0 else suc (place xs v)) (sym (eq-eqb v x e))
+    elim (cases_eq x v) [
+      | inl e ↦ ap (λ c. if c then 0 else suc (place (map f xs) (f v))) (eq-eqb (f x) (f v) (ap f e)) ∙ ap (λ c. if c then 0 else suc (place xs v)) (sym (eq-eqb x v e))
       | inr n ↦
-          let r : In v xs = elim i [ inl e ↦ absurd (n e) | inr r ↦ r ] in
-          ap (λ c. if c then 0 else suc (place (map f xs) (f v))) (ne_eqb (f v) (f x) (λ e. d.0 (subst (λ z. In z (map f xs)) e (in_map f v xs r)))) ∙ (ap suc (place_map f xs v d.1 r) ∙ ap (λ c. if c then 0 else suc (place xs v)) (sym (ne_eqb v x n)))
+          let r : In v xs = elim i [ inl e ↦ absurd (n (sym e)) | inr r ↦ r ] in
+          ap (λ c. if c then 0 else suc (place (map f xs) (f v))) (ne_eqb (f x) (f v) (λ e. d.0 (subst (λ z. In z (map f xs)) (sym e) (in_map f v xs r)))) ∙ (ap suc (place_map f xs v d.1 r) ∙ ap (λ c. if c then 0 else suc (place xs v)) (sym (ne_eqb x v n)))
     ]
 
 -- ---- numbers under a renaming

@@ -1,6 +1,6 @@
 -- A function under other numbers has the same canonical text.
 use Rattle.std.proofs.Common.{◌≡◌, ℕ, suc, ◌+◌, List, [], ◌∷◌, ◌++◌, map, length, Option, Some, None, Bool, false, ◌&&◌, nat_lt, inl, inr, refl, sym, ap, ap₂, ◌∙◌, subst, eq-eqb, ne_eqb}
-use Rattle.std.specs.Prelude.{if◌then◌else◌, codes}
+use Rattle.std.specs.Prelude.{if◌then◌else◌, codes, slice_get}
 use Rattle.std.specs.Option.{option_map_or}
 use Rattle.std.proofs.lemmas.Bool.{cases_eq}
 use Rattle.clk_num.specs.declared.op.Op.{Op}
@@ -18,20 +18,22 @@ use Rattle.ir_core.specs.declared.declarations.Callee.{Callee}
 use Rattle.ir_core.specs.declared.instructions.Arg.{Arg}
 use Rattle.ir_core.specs.declared.instructions.Arg.TheVariants as arg
 use Rattle.ir_core.specs.declared.instructions.BlockCall.{BlockCall}
-use Rattle.ir_core.specs.Module.{Simple, Nop, Const, Pure, PureImm, Load, Store, StackLoad, StackStore, FuncAddr, Trap, Trapz, Trapnz, Branch, Jump, Brif, BrTable, CallTarget, Direct, Indirect, Instruction, Plain, Branches, SequencePoint, Return, Call, ReturnCall, TryCall, Line, Block, Function, Module}
-use Rattle.ir_core.specs.Lookup.{type_of, line_definitions, definitions, block_numbers}
+use Rattle.ir_core.specs.Module.{Simple, Nop, Const, Pure, PureImm, Load, Store, StackLoad, StackStore, FuncAddr, Trap, Trapz, Trapnz, Branch, Jump, Brif, BrTable, CallTarget, Direct, Indirect, TryTarget, TryDirect, TryIndirect, call_target, Instruction, Plain, Branches, SequencePoint, Return, Call, ReturnCall, TryCall, Line, Block, Function, Module}
+use Rattle.ir_core.specs.Forms.{controlling}
+use Rattle.ir_core.specs.Signatures.{same_type}
+use Rattle.ir_core.specs.Lookup.{type_of, line_definitions, definitions, block_numbers, place}
 use Rattle.ir_core.specs.Lists.{In, Each, Different}
-use Rattle.ir_semantics.specs.Renaming.{Renaming, arg_under, target_under, tag_under, entry_under, simple_under, branch_under, called_under, instruction_under, line_under, block_under}
+use Rattle.ir_semantics.specs.Renaming.{Renaming, arg_under, target_under, tag_under, entry_under, simple_under, branch_under, called_under, try_target_under, instruction_under, line_under, block_under}
 use Rattle.ir_core.specs.Uses.{table_targets, branch_targets, targets, arg_values_used, targets_used, simple_used, branch_used, called_used, values_used, blocks_used}
 use Rattle.ir_core.specs.Uses as uses
 use Rattle.ir_semantics.specs.Canon.{canonical, canonical_module, SameFunction}
 use Rattle.ir_core.specs.Whole.{Whole}
-use Rattle.ir_text.specs.Numbering.{Numbering, numbering_of, place}
+use Rattle.ir_text.specs.Numbering.{Numbering, numbering_of}
 use Rattle.ir_text.specs.Pieces.{Text, Nothing, Word, Numbered, Mark, ◌▹◌, spelled, space, line_end, indent, comma, colon, equals, more, separated, in_parentheses, in_brackets}
 use Rattle.ir_text.specs.Text as text
 use Rattle.ir_core.proofs.Members.{each_left, each_right}
 use Rattle.inline_numbering.specs.Renamed.{Renamed, NumberingKeepsText}
-use Rattle.inline_numbering.proofs.Same.{blocks_define, lines_define, blocks_number, blocks_in, same_is_renamed}
+use Rattle.inline_numbering.proofs.Same.{place_map, blocks_define, lines_define, blocks_number, blocks_in, same_is_renamed}
 
 -- ---- lists
 
@@ -39,36 +41,23 @@ length_map : (f : ℕ → ℕ) (xs : List ℕ) → length (map f xs) ≡ length 
 length_map f [] = refl
 length_map f (x ∷ xs) = ap suc (length_map f xs)
 
-in_map : (f : ℕ → ℕ) (v : ℕ) (xs : List ℕ) → In v xs → In (f v) (map f xs)
-in_map f v [] i = elim i [ ]
-in_map f v (x ∷ xs) i = elim i [ inl e ↦ inl (ap f e) | inr r ↦ inr (in_map f v xs r) ]
-
-place_map : (f : ℕ → ℕ) (xs : List ℕ) (v : ℕ) → Different (map f xs) → In v xs → place (map f xs) (f v) ≡ place xs v
-place_map f [] v d i = elim i [ ]
-place_map f (x ∷ xs) v d i =
-    elim (cases_eq x v) [
-      | inl e ↦ ap (λ c. if c then 0 else suc (place (map f xs) (f v))) (eq-eqb (f x) (f v) (ap f e)) ∙ ap (λ c. if c then 0 else suc (place xs v)) (sym (eq-eqb x v e))
-      | inr n ↦
-          let r : In v xs = elim i [ inl e ↦ absurd (n (sym e)) | inr r ↦ r ] in
-          ap (λ c. if c then 0 else suc (place (map f xs) (f v))) (ne_eqb (f x) (f v) (λ e. d.0 (subst (λ z. In z (map f xs)) (sym e) (in_map f v xs r)))) ∙ (ap suc (place_map f xs v d.1 r) ∙ ap (λ c. if c then 0 else suc (place xs v)) (sym (ne_eqb x v n)))
-    ]
-
 -- the number in an option, under other numbers
 under : (ℕ → ℕ) → Option ℕ → Option ℕ
 under f None = None
 under f (Some v) = Some (f v)
 
-first_map : (f : ℕ → ℕ) (vs : List ℕ) → text.first_value (map f vs) ≡ under f (text.first_value vs)
+first_map : (f : ℕ → ℕ) (vs : List ℕ) → slice_get (map f vs) 0 ≡ under f (slice_get vs 0)
 unfolding under
 first_map f [] = refl
 first_map f (v ∷ vs) = refl
 
-second_map : (f : ℕ → ℕ) (vs : List ℕ) → text.second_value (map f vs) ≡ under f (text.second_value vs)
+second_map : (f : ℕ → ℕ) (vs : List ℕ) → slice_get (map f vs) 1 ≡ under f (slice_get vs 1)
 unfolding under
 second_map f [] = refl
 second_map f (v ∷ vs) = first_map f vs
 
-op_map : (f : ℕ → ℕ) (o : Op) (vs : List ℕ) → text.op_operand o (map f vs) ≡ under f (text.op_operand o vs)
+op_map : (f : ℕ → ℕ) (o : Op) (vs : List ℕ) → controlling o (map f vs) ≡ under f (controlling o vs)
+unfolding under
 op_map f op.Iadd vs = first_map f vs
 op_map f op.Isub vs = first_map f vs
 op_map f op.Imul vs = first_map f vs
@@ -100,9 +89,9 @@ op_map f op.Rotl vs = first_map f vs
 op_map f op.Rotr vs = first_map f vs
 op_map f (op.Icmp z) vs = first_map f vs
 op_map f op.Select vs = second_map f vs
-op_map f (op.Uextend z) vs = first_map f vs
-op_map f (op.Sextend z) vs = first_map f vs
-op_map f (op.Ireduce z) vs = first_map f vs
+op_map f (op.Uextend z) vs = refl
+op_map f (op.Sextend z) vs = refl
+op_map f (op.Ireduce z) vs = refl
 op_map f op.UaddOverflow vs = first_map f vs
 op_map f op.SaddOverflow vs = first_map f vs
 op_map f op.UsubOverflow vs = first_map f vs
@@ -142,17 +131,18 @@ Holds : (ℕ → Type 0) → Option ℕ → Type 0
 Holds V None = Unit {0}
 Holds V (Some v) = V v
 
-first_holds : (V : ℕ → Type 0) (vs : List ℕ) → Each V vs → Holds V (text.first_value vs)
+first_holds : (V : ℕ → Type 0) (vs : List ℕ) → Each V vs → Holds V (slice_get vs 0)
 unfolding Holds
 first_holds V [] h = tt
 first_holds V (v ∷ vs) h = h.0
 
-second_holds : (V : ℕ → Type 0) (vs : List ℕ) → Each V vs → Holds V (text.second_value vs)
+second_holds : (V : ℕ → Type 0) (vs : List ℕ) → Each V vs → Holds V (slice_get vs 1)
 unfolding Holds
 second_holds V [] h = tt
 second_holds V (v ∷ vs) h = first_holds V vs h.1
 
-op_holds : (V : ℕ → Type 0) (o : Op) (vs : List ℕ) → Each V vs → Holds V (text.op_operand o vs)
+op_holds : (V : ℕ → Type 0) (o : Op) (vs : List ℕ) → Each V vs → Holds V (controlling o vs)
+unfolding Holds
 op_holds V op.Iadd vs h = first_holds V vs h
 op_holds V op.Isub vs h = first_holds V vs h
 op_holds V op.Imul vs h = first_holds V vs h
@@ -184,9 +174,9 @@ op_holds V op.Rotl vs h = first_holds V vs h
 op_holds V op.Rotr vs h = first_holds V vs h
 op_holds V (op.Icmp z) vs h = first_holds V vs h
 op_holds V op.Select vs h = second_holds V vs h
-op_holds V (op.Uextend z) vs h = first_holds V vs h
-op_holds V (op.Sextend z) vs h = first_holds V vs h
-op_holds V (op.Ireduce z) vs h = first_holds V vs h
+op_holds V (op.Uextend z) vs h = tt
+op_holds V (op.Sextend z) vs h = tt
+op_holds V (op.Ireduce z) vs h = tt
 op_holds V op.UaddOverflow vs h = first_holds V vs h
 op_holds V op.SaddOverflow vs h = first_holds V vs h
 op_holds V op.UsubOverflow vs h = first_holds V vs h
@@ -283,7 +273,7 @@ module _ (r : Renaming) (f g : Function) (n m : Numbering) (V B : ℕ → Type 0
   simple_same s (Const x) h = refl
   simple_same s (Pure o args) h = ap (λ (z : Text). Word (op_word o) ▹ text.op_suffix o s ▹ text.condition o ▹ z) (operands_same args h)
   simple_same s (PureImm o a d) h = ap (λ (z : Text). Word (op_word o ++ codes "_imm") ▹ text.suffix_if s ▹ text.condition o ▹ space ▹ z ▹ comma ▹ text.constant d) (value_same a h.0)
-  simple_same s (Load from fs a offset) h = ap (λ (z : Text). text.load_opcode from ▹ space ▹ text.flags fs ▹ (z ▹ text.offset_text offset)) (value_same a h.0)
+  simple_same s (Load from fs a offset) h = ap (λ (z : Text). text.load_opcode s from ▹ space ▹ text.flags fs ▹ (z ▹ text.offset_text offset)) (value_same a h.0)
   simple_same s (Store narrow fs v a offset) h = ap₂ (λ (y z : Text). text.store_opcode narrow ▹ text.suffix_if s ▹ space ▹ text.flags fs ▹ y ▹ comma ▹ (z ▹ text.offset_text offset)) (value_same v h.0) (value_same a h.1.0)
   simple_same s (StackLoad t k offset) h = ap (λ (z : ℕ). Word (codes "stack_load") ▹ text.suffix t ▹ space ▹ text.slot_address z offset) (slot k)
   simple_same s (StackStore v k offset) h = ap₂ (λ (y : Text) (z : ℕ). Word (codes "stack_store") ▹ text.suffix_if s ▹ space ▹ y ▹ comma ▹ text.slot_address z offset) (value_same v h.0) (slot k)
@@ -310,9 +300,13 @@ module _ (r : Renaming) (f g : Function) (n m : Numbering) (V B : ℕ → Type 0
   called_same (Direct k) args h = ap₂ (λ (x : ℕ) (y : Text). text.callee_reference x ▹ in_parentheses y) (callee k) (values_same args h)
   called_same (Indirect s a) args h = ap (λ (z : ℕ). text.signature_reference z ▹ comma ▹ text.value m (r.value a) ▹ in_parentheses (text.values m (map r.value args))) (sig s) ∙ ap₂ (λ (x y : Text). text.signature_reference s ▹ comma ▹ x ▹ in_parentheses y) (value_same a h.0) (values_same args h.1)
 
-  tried_same : (t : CallTarget) (args : List ℕ) → Each V (called_used t ++ args) → text.tried m (called_under r t) (map r.value args) ≡ text.tried n t args
-  tried_same (Direct k) args h = ap₂ (λ (x : ℕ) (y : Text). text.callee_reference x ▹ in_parentheses y) (callee k) (values_same args h)
-  tried_same (Indirect s a) args h = ap₂ (λ (x y : Text). x ▹ in_parentheses y) (value_same a h.0) (values_same args h.1)
+  try_opcode_same : (t : TryTarget) → text.try_opcode (try_target_under r t) ≡ text.try_opcode t
+  try_opcode_same (TryDirect k) = refl
+  try_opcode_same (TryIndirect a) = refl
+
+  tried_same : (t : TryTarget) (sg : ℕ) (args : List ℕ) → Each V (called_used (call_target t sg) ++ args) → text.tried m (try_target_under r t) (map r.value args) ≡ text.tried n t args
+  tried_same (TryDirect k) sg args h = ap₂ (λ (x : ℕ) (y : Text). text.callee_reference x ▹ in_parentheses y) (callee k) (values_same args h)
+  tried_same (TryIndirect a) sg args h = ap₂ (λ (x y : Text). x ▹ in_parentheses y) (value_same a h.0) (values_same args h.1)
 
   instruction_same : (s : Option Ty) (i : Instruction) → Each V (uses.operands i) → Each V (targets_used (targets i)) → Each B (blocks_used i) → text.instruction m s (instruction_under r i) ≡ text.instruction n s i
   instruction_same s (Plain p) h k b = simple_same s p h
@@ -322,14 +316,14 @@ module _ (r : Renaming) (f g : Function) (n m : Numbering) (V B : ℕ → Type 0
   instruction_same s (Call t args) h k b = ap₂ (λ (x y : Text). x ▹ space ▹ y) (opcode_same t (codes "call")) (called_same t args h)
   instruction_same s (ReturnCall t args) h k b = ap₂ (λ (x y : Text). x ▹ space ▹ y) (opcode_same t (codes "return_call")) (called_same t args h)
   instruction_same s (TryCall t g1 args normal table) h k b =
-      ap₂ (λ (x y : Text). x ▹ space ▹ y ▹ comma ▹ text.signature_reference (r.sig g1) ▹ comma ▹ text.target m (target_under r normal) ▹ comma ▹ text.exception_table m (map (entry_under r) table)) (opcode_same t (codes "try_call")) (tried_same t args h)
-      ∙ (ap (λ (z : ℕ). text.call_opcode t (codes "try_call") ▹ space ▹ text.tried n t args ▹ comma ▹ text.signature_reference z ▹ comma ▹ text.target m (target_under r normal) ▹ comma ▹ text.exception_table m (map (entry_under r) table)) (sig g1)
-      ∙ ap₂ (λ (x y : Text). text.call_opcode t (codes "try_call") ▹ space ▹ text.tried n t args ▹ comma ▹ text.signature_reference g1 ▹ comma ▹ x ▹ comma ▹ y) (target_same normal (each_left V (arg_values_used normal.args) (targets_used (table_targets table)) k) b.0) (table_same table (each_right V (arg_values_used normal.args) (targets_used (table_targets table)) k) b.1))
+      ap₂ (λ (x y : Text). x ▹ space ▹ y ▹ comma ▹ text.signature_reference (r.sig g1) ▹ comma ▹ text.target m (target_under r normal) ▹ comma ▹ text.exception_table m (map (entry_under r) table)) (try_opcode_same t) (tried_same t g1 args h)
+      ∙ (ap (λ (z : ℕ). text.try_opcode t ▹ space ▹ text.tried n t args ▹ comma ▹ text.signature_reference z ▹ comma ▹ text.target m (target_under r normal) ▹ comma ▹ text.exception_table m (map (entry_under r) table)) (sig g1)
+      ∙ ap₂ (λ (x y : Text). text.try_opcode t ▹ space ▹ text.tried n t args ▹ comma ▹ text.signature_reference g1 ▹ comma ▹ x ▹ comma ▹ y) (target_same normal (each_left V (arg_values_used normal.args) (targets_used (table_targets table)) k) b.0) (table_same table (each_right V (arg_values_used normal.args) (targets_used (table_targets table)) k) b.1))
 
   known_same : (next : ℕ) (t : Ty) (o : Option ℕ) → Holds V o → text.is_known g m next t (under r.value o) ≡ text.is_known f n next t o
   unfolding under Holds
   known_same next t None h = refl
-  known_same next t (Some v) h = ap₂ (λ (k : ℕ) (o : Option Ty). nat_lt k next && option_map_or (λ own. text.same_type own t) o false) (value v h) (typed v h)
+  known_same next t (Some v) h = ap₂ (λ (k : ℕ) (o : Option Ty). nat_lt k next && option_map_or (λ own. same_type own t) o false) (value v h) (typed v h)
 
   suffix_same : (next : ℕ) (t : Option Ty) (o : Option ℕ) → Holds V o → text.shown_suffix g m next t (under r.value o) ≡ text.shown_suffix f n next t o
   suffix_same next None o h = refl

@@ -6,9 +6,9 @@ use Rattle.debug_tags.specs.declared.tags.Tag.TheVariants as tag
 use Rattle.ir_core.specs.declared.instructions.Arg.{Arg}
 use Rattle.ir_core.specs.declared.instructions.Arg.TheVariants as arg
 use Rattle.ir_core.specs.declared.instructions.BlockCall.{BlockCall}
-use Rattle.ir_core.specs.Module.{Simple, Nop, Const, Pure, PureImm, Load, Store, StackLoad, StackStore, FuncAddr, Trap, Trapz, Trapnz, Branch, Jump, Brif, BrTable, CallTarget, Direct, Indirect, Instruction, Plain, Branches, SequencePoint, Return, Call, ReturnCall, TryCall, Line, Block}
+use Rattle.ir_core.specs.Module.{Simple, Nop, Const, Pure, PureImm, Load, Store, StackLoad, StackStore, FuncAddr, Trap, Trapz, Trapnz, Branch, Jump, Brif, BrTable, CallTarget, Direct, Indirect, TryTarget, TryDirect, TryIndirect, call_target, Instruction, Plain, Branches, SequencePoint, Return, Call, ReturnCall, TryCall, Line, Block}
 use Rattle.ir_core.specs.Lists.{Each}
-use Rattle.ir_semantics.specs.Renaming.{Renaming, arg_under, target_under, tag_under, entry_under, simple_under, branch_under, called_under, instruction_under, line_under, block_under}
+use Rattle.ir_semantics.specs.Renaming.{Renaming, arg_under, target_under, tag_under, entry_under, simple_under, branch_under, called_under, try_target_under, instruction_under, line_under, block_under}
 use Rattle.ir_core.specs.Uses.{table_targets, branch_targets, targets, arg_values_used, targets_used, simple_used, branch_used, called_used, operands, values_used, blocks_used}
 use Rattle.ir_core.proofs.Members.{each_left, each_right}
 
@@ -66,6 +66,10 @@ module _ (r u w : Renaming) (V B : ℕ → Type 0) (value : (v : ℕ) → V v �
   called_via (Direct k) h = ap Direct (callee k)
   called_via (Indirect s a) h = ap₂ Indirect (sig s) (value a h.0)
 
+  pub try_via : (t : TryTarget) (sg : ℕ) → Each V (called_used (call_target t sg)) → try_target_under u (try_target_under r t) ≡ try_target_under w t
+  try_via (TryDirect k) sg h = ap TryDirect (callee k)
+  try_via (TryIndirect a) sg h = ap TryIndirect (value a h.0)
+
   pub instruction_via : (i : Instruction) → Each V (operands i) → Each V (targets_used (targets i)) → Each B (blocks_used i) → instruction_under u (instruction_under r i) ≡ instruction_under w i
   instruction_via (Plain p) h k b = ap Plain (simple_via p h)
   instruction_via (Branches c) h k b = ap Branches (branch_via c h k b)
@@ -74,9 +78,9 @@ module _ (r u w : Renaming) (V B : ℕ → Type 0) (value : (v : ℕ) → V v �
   instruction_via (Call t args) h k b = ap₂ Call (called_via t (each_left V (called_used t) args h)) (values_via args (each_right V (called_used t) args h))
   instruction_via (ReturnCall t args) h k b = ap₂ ReturnCall (called_via t (each_left V (called_used t) args h)) (values_via args (each_right V (called_used t) args h))
   instruction_via (TryCall t sg args normal table) h k b =
-      ap₂ (λ y z. TryCall y z (map u.value (map r.value args)) (target_under u (target_under r normal)) (map (entry_under u) (map (entry_under r) table))) (called_via t (each_left V (called_used t) args h)) (sig sg)
-      ∙ (ap (λ z. TryCall (called_under w t) (w.sig sg) z (target_under u (target_under r normal)) (map (entry_under u) (map (entry_under r) table))) (values_via args (each_right V (called_used t) args h))
-      ∙ ap₂ (TryCall (called_under w t) (w.sig sg) (map w.value args)) (target_via normal (each_left V (arg_values_used normal.args) (targets_used (table_targets table)) k) b.0) (entries_via table (each_right V (arg_values_used normal.args) (targets_used (table_targets table)) k) b.1))
+      ap₂ (λ y z. TryCall y z (map u.value (map r.value args)) (target_under u (target_under r normal)) (map (entry_under u) (map (entry_under r) table))) (try_via t sg (each_left V (called_used (call_target t sg)) args h)) (sig sg)
+      ∙ (ap (λ z. TryCall (try_target_under w t) (w.sig sg) z (target_under u (target_under r normal)) (map (entry_under u) (map (entry_under r) table))) (values_via args (each_right V (called_used (call_target t sg)) args h))
+      ∙ ap₂ (TryCall (try_target_under w t) (w.sig sg) (map w.value args)) (target_via normal (each_left V (arg_values_used normal.args) (targets_used (table_targets table)) k) b.0) (entries_via table (each_right V (arg_values_used normal.args) (targets_used (table_targets table)) k) b.1))
 
   pub lines_via : (ls : List Line) → Each (λ l. Each V l.results × Each V (values_used l.inst) × Each B (blocks_used l.inst)) ls → map (line_under u) (map (line_under r) ls) ≡ map (line_under w) ls
   lines_via [] h = refl

@@ -1,10 +1,9 @@
 -- A splice under other numbers.
 use Rattle.std.specs.Prelude.{◌≡◌, ℕ, map}
 use Rattle.ir_core.specs.Lists.{In}
-use Rattle.ir_core.specs.Lookup.{block_numbers}
+use Rattle.ir_core.specs.Lookup.{block_numbers, place}
 use Rattle.ir_core.specs.Module.{Function}
 use Rattle.ir_core.specs.Whole.{Whole}
-use Rattle.ir_semantics.specs.Canon.{place}
 use Rattle.ir_semantics.specs.Import.{callees_after, sig_after, callee_after, slot_after}
 use Rattle.ir_semantics.specs.Renaming.{Renaming, line_under, block_under}
 use Rattle.ir_semantics.specs.Splice.{Naming, Splicing, first_number}

@@ -5,7 +5,7 @@ use Rattle.std.specs.Prelude.{slice_get, if◌then◌else◌}
 use Rattle.std.proofs.lemmas.Bool.{cases_eq}
 use Rattle.ir_core.specs.declared.names.FuncName.{FuncName}
 use Rattle.ir_core.specs.declared.declarations.Callee.{Callee}
-use Rattle.ir_core.specs.Module.{CallTarget, Direct, Indirect, Instruction, Plain, Branches, SequencePoint, Return, Call, ReturnCall, TryCall, Line, Block, Function, Module}
+use Rattle.ir_core.specs.Module.{CallTarget, Direct, Indirect, call_target, Instruction, Plain, Branches, SequencePoint, Return, Call, ReturnCall, TryCall, Line, Block, Function, Module}
 use Rattle.ir_core.specs.Lookup.{and_then, find_block, find_function}
 use Rattle.ir_core.specs.Lists.{In, Each}
 use Rattle.ir_semantics.specs.Splice.{sides, splice_with}
@@ -64,7 +64,7 @@ target_used (Indirect s a) j n h e = cc
 callee_used : (i : Instruction) (j n : ℕ) → callee_of i ≡ Some j → Each (λ k. k < n) (callees_used i) → j < n
 callee_used (Call t args) j n h e = target_used t j n h e
 callee_used (ReturnCall t args) j n h e = target_used t j n h e
-callee_used (TryCall t sg args a u) j n h e = target_used t j n h e
+callee_used (TryCall t sg args a u) j n h e = target_used (call_target t sg) j n h e
 callee_used (Plain a) j n h e = cc
 callee_used (Branches a) j n h e = cc
 callee_used SequencePoint j n h e = cc

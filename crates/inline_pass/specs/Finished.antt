@@ -35,6 +35,10 @@ finished_in (suc n) p m f = finish_by (λ y. and_then (body_of m m f.name y) (λ
 abbrev pub finished : Policy → Module → Function → Function
 finished p m f = finished_in (length m) p m f
 
+-- the finished body that a name has for x: of a function in another piece
+abbrev pub finished_body : Policy → Module → FuncName → FuncName → Option Function
+finished_body p m x y = and_then (body_of m m x y) (λ g. Some (finished p m g))
+
 -- all finished bodies, in the module's order
 abbrev pub passed : Policy → Module → Module
 passed p m = map (finished p m) m

@@ -1,6 +1,6 @@
 -- The laws of a splice under other numbers, from the parts, and splices at corresponding places.
-use Rattle.std.proofs.Common.{◌≡◌, ℕ, zero, suc, inl, inr, List, [], ◌∷◌, ◌++◌, map, take, drop, Option, Some, None, refl, sym, ap, ap₂, ◌∙◌, subst, eq-eqb, ne_eqb}
-use Rattle.std.specs.Prelude.{if◌then◌else◌, slice_get}
+use Rattle.std.proofs.Common.{◌≡◌, ℕ, zero, suc, inl, inr, List, [], ◌∷◌, ◌++◌, map, take, drop, Option, Some, None, refl, sym, ap, ap₂, ◌∙◌, subst}
+use Rattle.std.specs.Prelude.{slice_get}
 use Rattle.std.proofs.lemmas.Bool.{cases_eq}
 use Rattle.ir_core.specs.Module.{Line, Block, Function}
 use Rattle.ir_core.specs.Lookup.{find_block, block_numbers}
@@ -11,7 +11,7 @@ use Rattle.ir_semantics.specs.Renaming.{Renaming, line_under, block_under}
 use Rattle.ir_semantics.specs.Splice.{Naming, Splicing, sides, spliced, splice_with}
 use Rattle.inline_outcomes.proofs.Local.{some_same}
 use Rattle.inline_outcomes.proofs.Places.{find_hit, find_skip}
-use Rattle.inline_numbering.specs.Carried.{Carries, SamePlace, SiteUnder, splicing_under}
+use Rattle.inline_numbering.specs.Carried.{Carries, SiteUnder, splicing_under}
 use Rattle.inline_numbering.specs.Laws.{SpliceCarried, SpliceRenamed, SpliceStaysWhole, SpliceRespectsNumbers}
 use Rattle.inline_numbering.specs.Renamed.{Renamed}
 use Rattle.inline_numbering.proofs.Same as same

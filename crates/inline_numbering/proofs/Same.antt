@@ -150,7 +150,6 @@ pub way_place : (f g : Function) → Whole g → (at there : ℕ) → SamePlace 
 unfolding by_way
 way_place f g w at there e = ap (back_names g).block (sym e.place) ∙ back_block g w there e.other
 
-
 pub way_renamed : (f g : Function) → SameFunction f g → Renamed (by_way f g) f g
 unfolding by_way
 way_renamed f g h =

@@ -1,8 +1,7 @@
 -- A function under other numbers has the same canonical text.
-use Rattle.std.proofs.Common.{◌≡◌, ℕ, suc, ◌+◌, List, [], ◌∷◌, ◌++◌, map, length, Option, Some, None, Bool, false, ◌&&◌, nat_lt, inl, inr, refl, sym, ap, ap₂, ◌∙◌, subst, eq-eqb, ne_eqb}
+use Rattle.std.proofs.Common.{◌≡◌, ℕ, suc, ◌+◌, List, [], ◌∷◌, ◌++◌, map, length, Option, Some, None, Bool, false, ◌&&◌, nat_lt, refl, sym, ap, ap₂, ◌∙◌, subst}
 use Rattle.std.specs.Prelude.{if◌then◌else◌, codes, slice_get}
 use Rattle.std.specs.Option.{option_map_or}
-use Rattle.std.proofs.lemmas.Bool.{cases_eq}
 use Rattle.clk_num.specs.declared.op.Op.{Op}
 use Rattle.clk_num.specs.declared.op.Op.TheVariants as op
 use Rattle.exn_tables.specs.declared.table.Entry.{Entry}

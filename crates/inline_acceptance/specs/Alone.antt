@@ -30,7 +30,8 @@ standing p site = record { block = site.block; block_found = site.block_found; l
 
 -- where the callee declares the caller, it states the caller's signature
 abbrev pub StatesCaller : Splicing → Type 0
-StatesCaller p = (c : Callee) → In c p.callee.callees → c.name ≡ p.caller.name → slice_get p.callee.sigs c.sig ≡ Some p.caller.sig
+StatesCaller p =
+    (c : Callee) → In c p.callee.callees → c.name ≡ p.caller.name → slice_get p.callee.sigs c.sig ≡ Some p.caller.sig
 
 -- two functions, each whole and accepted alone
 pub record AloneParts (p : Splicing) : Type 0 where
@@ -41,4 +42,6 @@ pub record AloneParts (p : Splicing) : Type 0 where
 
 -- their splice is whole, and accepted alone where what comes in states the signature of the function that it comes into
 abbrev pub SpliceAlone : Type 0
-SpliceAlone = (p : Splicing) → p.naming ≡ sides → CallSite p → AloneParts p → Whole (spliced p) × (StatesCaller p → AcceptedAlone (spliced p))
+SpliceAlone =
+    (p : Splicing) → p.naming ≡ sides → CallSite p → AloneParts p
+    → Whole (spliced p) × (StatesCaller p → AcceptedAlone (spliced p))

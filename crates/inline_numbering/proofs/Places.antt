@@ -92,7 +92,7 @@ module _ (r s : Renaming) (m : Naming) (b c g h : Function) (rb : Renamed r b c)
     abbrev p : Splicing
     p = record { naming = sides; caller = b; callee = g; at = at; before = take i k.lines; site = l; behind = drop (suc i) k.lines }
 
-    site : SiteUnder r s p c h
+    pub site : SiteUnder r s p c h
     site = record {
       stands = record { block = k; block_found = here; lines = cut_list k.lines i l get };
       caller = rb;
@@ -103,12 +103,12 @@ module _ (r s : Renaming) (m : Naming) (b c g h : Function) (rb : Renamed r b c)
       callee_after_whole = wh;
     }
 
-    under_is : splice_with m c (r.block at) i h ≡ spliced (splicing_under r m c h p)
+    pub under_is : splice_with m c (r.block at) i h ≡ spliced (splicing_under r m c h p)
     under_is =
         splice_found m c (r.block at) i h (block_under r k) (line_under r l) other (get_map (line_under r) k.lines i l get)
         ∙ ap₂ (λ (us ws : List Line). spliced (record { naming = m; caller = c; callee = h; at = r.block at; before = us; site = line_under r l; behind = ws })) (take_map (line_under r) i k.lines) (drop_map (line_under r) (suc i) k.lines)
 
-    here_is : splice_with sides b at i g ≡ spliced p
+    pub here_is : splice_with sides b at i g ≡ spliced p
     here_is = splice_found sides b at i g k l here get
 
     same_here : Whole (splice_with sides b at i g) → Whole (splice_with m c (r.block at) i h) → SameFunction (splice_with sides b at i g) (splice_with m c (r.block at) i h)

@@ -68,7 +68,7 @@ in_map f v [] i = elim i [ ]
 in_map f v (x ∷ xs) (inl e) = inl (ap f e)
 in_map f v (x ∷ xs) (inr i) = inr (in_map f v xs i)
 
-same_before : (f : ℕ → ℕ) (xs : List ℕ) → Different (map f xs) → (x y : ℕ) → In x xs → In y xs → f x ≡ f y → x ≡ y
+pub same_before : (f : ℕ → ℕ) (xs : List ℕ) → Different (map f xs) → (x y : ℕ) → In x xs → In y xs → f x ≡ f y → x ≡ y
 same_before f [] d x y i j e = elim i [ ]
 same_before f (z ∷ xs) d x y (inl p) (inl q) e = p ∙ sym q
 same_before f (z ∷ xs) d x y (inl p) (inr j) e = absurd (d.0 (subst (λ w. In w (map f xs)) (sym e ∙ ap f p) (in_map f y xs j)))
@@ -91,7 +91,7 @@ block_there at (b ∷ bs) k h v i =
       | inr e ↦ in_right v b.params (line_definitions b.lines ++ definitions bs) (in_right v (line_definitions b.lines) (definitions bs) (block_there at bs k (sym (find_skip at b bs e) ∙ h) v i))
     ]
 
-block_in : (at : ℕ) (bs : List Block) (k : Block) → find_block at bs ≡ Some k → In at (block_numbers bs)
+pub block_in : (at : ℕ) (bs : List Block) (k : Block) → find_block at bs ≡ Some k → In at (block_numbers bs)
 block_in at [] k h = cc
 block_in at (b ∷ bs) k h = elim (cases_eq b.number at) [ inl e ↦ inl (sym e) | inr e ↦ inr (block_in at bs k (sym (find_skip at b bs e) ∙ h)) ]
 

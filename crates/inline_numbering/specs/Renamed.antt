@@ -3,6 +3,7 @@ use Rattle.std.specs.Prelude.{◌≡◌, ℕ, map}
 use Rattle.ir_core.specs.Module.{Function, Module}
 use Rattle.ir_core.specs.Lookup.{type_of, definitions}
 use Rattle.ir_core.specs.Lists.{In, Each}
+use Rattle.ir_core.specs.Size.{size_of}
 use Rattle.ir_semantics.specs.Renaming.{Renaming, block_under}
 use Rattle.ir_core.specs.Whole.{Whole}
 use Rattle.ir_text.specs.Text.{text_of}
@@ -23,6 +24,10 @@ pub record Renamed (r : Renaming) (f g : Function) : Type 0 where
 
 abbrev pub RenamedIsSame : Type 0
 RenamedIsSame = (r : Renaming) (f g : Function) → Whole f → Whole g → Renamed r f g → canonical g ≡ canonical f
+
+-- and the same size
+abbrev pub RenamedKeepsSize : Type 0
+RenamedKeepsSize = (r : Renaming) (f g : Function) → Renamed r f g → size_of g ≡ size_of f
 
 -- the other way round, for functions that are the same up to numbering
 abbrev pub SameIsRenamed : Type 0

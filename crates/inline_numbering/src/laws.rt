@@ -1,10 +1,15 @@
 //! Laws of numbers: functions without a body, each of which has its law as its contract.
-ghost use Rattle.inline_numbering.specs.Renamed.{CanonicalIsSame, CanonicalModuleIsSame, NumberingKeepsText, RenamedIsSame, SameIsRenamed};
+ghost use Rattle.inline_numbering.specs.Renamed.{CanonicalIsSame, CanonicalModuleIsSame, NumberingKeepsText, RenamedIsSame, RenamedKeepsSize, SameIsRenamed};
 ghost use Rattle.inline_numbering.specs.Laws.{SidesCarry, SpliceCarried, SpliceRenamed, SpliceRespectsNumbers, SpliceStaysWhole};
 
 /// A function under other numbers of values and blocks, where the numbers differ, has the same canonical form.
 pub fn renamed_is_same()
     ensures { RenamedIsSame }
+{}
+
+/// And the same size.
+pub fn renamed_keeps_size()
+    ensures { RenamedKeepsSize }
 {}
 
 /// Functions that are the same up to numbering are one another under other numbers.

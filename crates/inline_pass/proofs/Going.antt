@@ -60,7 +60,7 @@ target_stays : (r : Renaming) → ((k : ℕ) → r.callee k ≡ k) → (t : Call
 target_stays r h (Direct k) = ap (λ z. Some z) (h k)
 target_stays r h (Indirect s a) = refl
 
-callee_stays : (r : Renaming) → ((k : ℕ) → r.callee k ≡ k) → (i : Instruction) → callee_of (instruction_under r i) ≡ callee_of i
+pub callee_stays : (r : Renaming) → ((k : ℕ) → r.callee k ≡ k) → (i : Instruction) → callee_of (instruction_under r i) ≡ callee_of i
 callee_stays r h (Call t args) = target_stays r h t
 callee_stays r h (ReturnCall t args) = target_stays r h t
 callee_stays r h (TryCall t sg args n u) = ap named_callee (try_target_called r t sg) ∙ target_stays r h (call_target t sg)
@@ -323,7 +323,7 @@ turns task ahead twins place count g e = turns_by task ahead twins place count g
 block_same : (b : Block) → block_under own_names b ≡ b
 block_same b = ap₂ (λ (vs : List ℕ) (ls : List Line). record b { params = vs; lines = ls }) (values_same b.params) (sym (lines_same b.lines))
 
-blocks_same : (bs : List Block) → bs ≡ map (block_under own_names) bs
+pub blocks_same : (bs : List Block) → bs ≡ map (block_under own_names) bs
 blocks_same [] = refl
 blocks_same (b ∷ bs) = ap₂ (λ (x : Block) xs. x ∷ xs) (sym (block_same b)) (blocks_same bs)
 

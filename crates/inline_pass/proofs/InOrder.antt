@@ -57,6 +57,38 @@ turns_named (suc n) p m f = inlined_named (λ y. and_then (body_of m m f.name y)
 pub finished_named : (p : Policy) (m : Module) (f : Function) → (finished p m f).name ≡ f.name
 finished_named p m f = turns_named _ p m f
 
+-- ---- and signatures
+
+splice_signed : (b : Function) (at i : ℕ) (g : Function) → (splice_with sides b at i g).sig ≡ b.sig
+splice_signed b at i g = go (find_block at b.blocks)
+  where
+    line : (k : Block) (o : Option Line) → (elim o as (λ z. Function) [ None ↦ b | Some l ↦ spliced (record { naming = sides; caller = b; callee = g; at = at; before = take i k.lines; site = l; behind = drop (suc i) k.lines }) ]).sig ≡ b.sig
+    line k None = refl
+    line k (Some l) = refl
+
+    go : (o : Option Block) → (elim o as (λ z. Function) [ None ↦ b | Some k ↦ elim (slice_get k.lines i) as (λ z. Function) [ None ↦ b | Some l ↦ spliced (record { naming = sides; caller = b; callee = g; at = at; before = take i k.lines; site = l; behind = drop (suc i) k.lines }) ] ]).sig ≡ b.sig
+    go None = refl
+    go (Some k) = line k (slice_get k.lines i)
+
+inlined_signed : (bodies : FuncName → Option Function) (p : Policy) (now : Place → Place) (ss : List Place) (b : Function) → (inline_by bodies p now ss b).sig ≡ b.sig
+inlined_signed bodies p now [] b = refl
+inlined_signed bodies p now (s ∷ ss) b = by (and_then (called b (now s).0 (now s).1) bodies) (inlined_signed bodies p now ss b) (λ b'. inlined_signed bodies p (λ q. moved (now s).0 (now s).1 (now q)) ss b')
+  where
+    choose : (c : Bool) (x y : Function) → x.sig ≡ b.sig → y.sig ≡ b.sig → (if c then x else y).sig ≡ b.sig
+    choose true x y h q = h
+    choose false x y h q = q
+
+    by : (o : Option Function) → (inline_by bodies p now ss b).sig ≡ b.sig → ((b' : Function) → (inline_by bodies p (λ q. moved (now s).0 (now s).1 (now q)) ss b').sig ≡ b'.sig) → (elim o as (λ z. Function) [ None ↦ inline_by bodies p now ss b | Some g ↦ if takes p g (splice_with sides b (now s).0 (now s).1 g) then inline_by bodies p (λ q. moved (now s).0 (now s).1 (now q)) ss (splice_with sides b (now s).0 (now s).1 g) else inline_by bodies p now ss b ]).sig ≡ b.sig
+    by None stay go = stay
+    by (Some g) stay go = choose (takes p g (splice_with sides b (now s).0 (now s).1 g)) (inline_by bodies p (λ q. moved (now s).0 (now s).1 (now q)) ss (splice_with sides b (now s).0 (now s).1 g)) (inline_by bodies p now ss b) (go (splice_with sides b (now s).0 (now s).1 g) ∙ splice_signed b (now s).0 (now s).1 g) stay
+
+turns_signed : (n : ℕ) (p : Policy) (m : Module) (f : Function) → (finished_in n p m f).sig ≡ f.sig
+turns_signed zero p m f = refl
+turns_signed (suc n) p m f = inlined_signed (λ y. and_then (body_of m m f.name y) (λ g. Some (finished_in n p m g))) p (λ q. q) (own_sites f.blocks) f
+
+pub finished_signed : (p : Policy) (m : Module) (f : Function) → (finished p m f).sig ≡ f.sig
+finished_signed p m f = turns_signed _ p m f
+
 -- ---- functions in place of others
 
 find_map : (φ : Function → Function) → ((f : Function) → (φ f).name ≡ f.name) → (y : FuncName) (m : Module) → find_function y (map φ m) ≡ and_then (find_function y m) (λ g. Some (φ g))

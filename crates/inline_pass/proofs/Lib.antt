@@ -3,6 +3,7 @@ pub mod Going
 pub mod Holding
 pub mod InOrder
 pub mod Kept
+pub mod Others
 pub mod Outcomes
 pub mod Passing
 pub mod Renumbered

@@ -4,6 +4,7 @@ pub mod Going
 pub mod GoingLaws
 pub mod Inlined
 pub mod Kept
+pub mod OtherBodies
 pub mod Pass
 pub mod Policy
 pub mod Sites

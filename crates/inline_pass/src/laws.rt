@@ -1,6 +1,7 @@
 //! Laws of finished bodies: functions without a body, each of which has its law as its contract.
 ghost use Rattle.inline_pass.specs.FinishedLaws.{FinishedEquation, FinishedKeep, OrderInUse, PassIsFinished, RenumberedFinishedKeep};
 ghost use Rattle.inline_pass.specs.GoingLaws.{Begins, Calls, Passes, Takes, TakesLast, Turns};
+ghost use Rattle.inline_pass.specs.OtherBodies.{FinishedRespectNumbers};
 ghost use Rattle.inline_pass.specs.Kept.{FinishedAccepted, FinishedWritable, RenumberedFinishedAccepted, RenumberedFinishedWritable};
 
 /// The finished body of a function of a module is its own text, with the finished bodies of functions in other pieces at
@@ -55,6 +56,12 @@ pub fn finished_stay_writable()
 /// A module that is such finished bodies up to the numbers of values and blocks is writable.
 pub fn renumbered_finished_stay_writable()
     ensures { RenumberedFinishedWritable }
+{}
+
+/// A function finished with bodies that are the finished ones up to numbering is the finished one up to numbering, with as
+/// many sites inlined.
+pub fn finished_respect_numbers()
+    ensures { FinishedRespectNumbers }
 {}
 
 // ---- the loop over a function's own lines, which puts bodies into it

@@ -178,4 +178,4 @@ printed_word (insts.Call (insts.Indirect sig p) args) o e n s = front o opcodes.
 printed_word (insts.ReturnCall (insts.Direct callee) args) o e n s = front o opcodes.ReturnCall _ e refl
 printed_word (insts.ReturnCall (insts.Indirect sig p) args) o e n s = front o opcodes.ReturnCallIndirect _ e refl
 printed_word (insts.TryCall (insts.TryDirect callee) sig args normal table) o e n s = front o opcodes.TryCall _ e refl
-printed_word (insts.TryCall (insts.Indirect sig2 p) sig args normal table) o e n s = front o opcodes.TryCallIndirect _ e refl
+printed_word (insts.TryCall (insts.TryIndirect p) sig args normal table) o e n s = front o opcodes.TryCallIndirect _ e refl

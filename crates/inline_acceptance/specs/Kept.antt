@@ -17,7 +17,7 @@ NumberingAccepted = (m r : Module) → SameUpToNumbering m r → IsModule m → 
 abbrev pub NumberingWritable : Type 0
 NumberingWritable = (m r : Module) → SameUpToNumbering m r → Writable m → Writable r
 
--- the splice of two functions of an accepted module is accepted, and writable where it is no larger than a text may have
+-- the splice of two functions of an accepted module is accepted, and writable where it is no larger than a text may be
 abbrev pub SpliceAccepted : Type 0
 SpliceAccepted =
     (m : Module) → IsModule m → Accepted m → (p : Splicing) → p.naming ≡ sides → Site m p

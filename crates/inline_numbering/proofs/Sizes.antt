@@ -1,12 +1,11 @@
 -- The size of a function does not depend on its numbers.
-use Rattle.std.proofs.Common.{◌≡◌, ◌+◌, List, length, ap, ap₂, ◌∙◌}
+use Rattle.std.proofs.Common.{◌+◌, List, length, ap, ap₂, ◌∙◌}
 use Rattle.ir_core.specs.declared.declarations.Callee.{Callee}
 use Rattle.ir_core.specs.declared.declarations.SlotDecl.{SlotDecl}
-use Rattle.ir_core.specs.Module.{Function}
-use Rattle.ir_core.specs.Size.{block_size, sig_size, size_of, total}
-use Rattle.ir_semantics.specs.Renaming.{Renaming, block_under}
+use Rattle.ir_core.specs.Size.{block_size, sig_size, total}
+use Rattle.ir_semantics.specs.Renaming.{block_under}
 use Rattle.inline_acceptance.proofs.KeptSizes.{block_same, total_map}
-use Rattle.inline_numbering.specs.Renamed.{Renamed, RenamedKeepsSize}
+use Rattle.inline_numbering.specs.Renamed.{RenamedKeepsSize}
 
 pub size_renamed : RenamedKeepsSize
 size_renamed r f g h =

@@ -10,8 +10,8 @@ use Rattle.ir_semantics.specs.Splice.{Naming, Splicing, first_number}
 use Rattle.inline_outcomes.specs.Stands.{Stands}
 use Rattle.inline_numbering.specs.Renamed.{Renamed}
 
--- t takes the numbers n of a splice of g into b to the numbers m of a splice of h into c, where c is b under r and h is g
--- under s
+-- t takes the numbers n of a splice of g into b to the numbers m of a splice of h into c, where c is b under r and h is
+-- g under s
 pub record Carries (t r s : Renaming) (n m : Naming) (b c g h : Function) : Type 0 where
   pub caller_value : (v : ℕ) → t.value (n.caller_value v) ≡ m.caller_value (r.value v)
   pub callee_value : (v : ℕ) → t.value (n.callee_value v) ≡ m.callee_value (s.value v)

@@ -11,8 +11,8 @@ use Rattle.ir_semantics.specs.Splice.{Naming, Splicing, sides, spliced, spliced_
 use Rattle.inline_numbering.specs.Carried.{Carries, SamePlace, SiteUnder, splicing_under}
 use Rattle.inline_numbering.specs.Renamed.{Renamed}
 
--- t takes the numbers of the splice p to the numbers m of the same splice in c, which is the caller under r, with h, which
--- is the callee under s
+-- t takes the numbers of the splice p to the numbers m of the same splice in c, which is the caller under r, with h,
+-- which is the callee under s
 abbrev pub Carrying : Renaming → Renaming → Renaming → Naming → Function → Function → Splicing → Type 0
 Carrying t r s m c h p = Carries t r s p.naming m p.caller c p.callee h
 
@@ -46,7 +46,8 @@ SidesCarry =
     (r s : Renaming) (m : Naming) (b c g h : Function) → Renamed r b c → Renamed s g h → Whole g
     → (t : Renaming) × Carries t r s sides m b c g h
 
--- functions that are the same up to numbering, at places that correspond, have splices that are the same up to numbering
+-- functions that are the same up to numbering, at places that correspond, have splices that are the same up to
+-- numbering
 abbrev pub SpliceRespectsNumbers : Type 0
 SpliceRespectsNumbers =
     (m : Naming) (b c g h : Function) (at there i : ℕ) → SameFunction b c → SameFunction g h → SamePlace b c at there

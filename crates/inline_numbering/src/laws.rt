@@ -17,7 +17,8 @@ pub fn same_is_renamed()
     ensures { SameIsRenamed }
 {}
 
-/// Functions that are the same up to numbering, at places that correspond, have splices that are the same up to numbering.
+/// Functions that are the same up to numbering, at places that correspond, have splices that are the same up to
+/// numbering.
 pub fn splice_respects_numbers()
     ensures { SpliceRespectsNumbers }
 {}

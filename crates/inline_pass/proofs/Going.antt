@@ -3,13 +3,12 @@ use Rattle.std.proofs.Common.{◌≡◌, ℕ, zero, suc, ◌+◌, ◌-◌, ◌<�
 use Rattle.std.specs.Prelude.{slice_get, if◌then◌else◌}
 use Rattle.std.proofs.lemmas.Bool.{cases_eq}
 use Rattle.ir_core.specs.declared.declarations.Callee.{Callee}
-use Rattle.ir_core.specs.Module.{CallTarget, Direct, Indirect, TryTarget, TryDirect, TryIndirect, call_target, Instruction, Plain, Branches, SequencePoint, Return, Call, ReturnCall, TryCall, Line, Block, Function}
+use Rattle.ir_core.specs.Module.{CallTarget, Direct, Indirect, call_target, Instruction, Plain, Branches, SequencePoint, Return, Call, ReturnCall, TryCall, Line, Block, Function}
 use Rattle.ir_core.specs.Lookup.{and_then, find_block, block_numbers}
 use Rattle.ir_core.specs.Lists.{In, Each, Different}
 use Rattle.ir_core.specs.Edits.{lines_of}
 use Rattle.ir_core.specs.Uses.{named_callee, callee_of}
-use Rattle.ir_core.specs.Whole.{Whole}
-use Rattle.ir_semantics.specs.Renaming.{Renaming, called_under, try_target_under, instruction_under, line_under, block_under}
+use Rattle.ir_semantics.specs.Renaming.{Renaming, called_under, instruction_under, line_under, block_under}
 use Rattle.ir_semantics.specs.Splice.{sides}
 use Rattle.inline_outcomes.proofs.Local.{some_same, try_target_called}
 use Rattle.inline_outcomes.proofs.Linking.{values_same, lines_same}
@@ -20,7 +19,7 @@ use Rattle.inline_pass.specs.Policy.{takes}
 use Rattle.inline_pass.specs.Sites.{Place, is_site, sites_in, own_sites, moved, called}
 use Rattle.inline_pass.specs.Finished.{inline_by, finish_by}
 use Rattle.inline_pass.specs.Inlined.{inlined_by, inlined_with}
-use Rattle.inline_pass.specs.Going.{Task, Ahead, Twins, Later, Going, Done, before_block, before_line, behind_line, sites_left, stands, body_called, with_body, spliced_twins}
+use Rattle.inline_pass.specs.Going.{Task, Ahead, Twins, Later, Going, before_line, behind_line, sites_left, stands, body_called, with_body, spliced_twins}
 use Rattle.inline_pass.specs.GoingLaws.{own_names, untouched, Begins, Calls, Refused, Passes, Inlines, Put, PutWithin, Takes, Onward, TakesLast, Turns}
 
 -- ---- lists

@@ -1,6 +1,6 @@
 -- A function finished with bodies that are the finished ones up to numbering is the finished one up to numbering: the
 -- loop over its sites, with one body beside the other.
-use Rattle.std.proofs.Common.{◌≡◌, ◌⊎◌, ℕ, zero, suc, ◌+◌, ◌*◌, ◌-◌, inl, inr, List, [], ◌∷◌, ◌++◌, map, take, drop, Option, Some, None, Bool, true, false, ◌&&◌, nat_lt, nat_eq, refl, sym, ap, ap₂, ◌∙◌, subst, arith, eq-eqb, ne_eqb}
+use Rattle.std.proofs.Common.{◌≡◌, ◌⊎◌, ℕ, zero, suc, ◌+◌, ◌*◌, ◌-◌, inl, inr, List, [], ◌∷◌, ◌++◌, map, take, drop, Option, Some, None, Bool, true, false, ◌&&◌, nat_lt, nat_eq, refl, sym, ap, ap₂, ◌∙◌, subst, eq-eqb, ne_eqb}
 use Rattle.std.specs.Prelude.{slice_get, if◌then◌else◌, nat_le}
 use Rattle.std.proofs.lemmas.Bool.{cases_eq}
 use Rattle.ir_core.specs.declared.names.FuncName.{FuncName}
@@ -8,18 +8,16 @@ use Rattle.ir_core.specs.declared.declarations.Callee.{Callee}
 use Rattle.ir_core.specs.declared.signatures.Sig.{Sig}
 use Rattle.ir_core.specs.Module.{Line, Block, Function, Module}
 use Rattle.ir_core.specs.Lookup.{and_then, find_block, find_function, block_numbers}
-use Rattle.ir_core.specs.Lists.{In, Each, Different}
-use Rattle.ir_core.specs.Size.{size_of}
+use Rattle.ir_core.specs.Lists.{In, Different}
 use Rattle.ir_core.specs.Uses.{callee_of}
 use Rattle.ir_core.specs.Whole.{Whole, IsModule}
-use Rattle.ir_semantics.specs.Accepted.{FunctionAccepted, Accepted, signature_mismatch}
+use Rattle.ir_semantics.specs.Accepted.{Accepted, signature_mismatch}
 use Rattle.ir_core.specs.declared.places.Item.TheVariants as item
-use Rattle.ir_semantics.specs.Canon.{canonical, SameFunction}
-use Rattle.ir_semantics.specs.Import.{with_items, sigs_after, callee_with, callees_with, callees_after, same_callee}
+use Rattle.ir_semantics.specs.Canon.{SameFunction}
+use Rattle.ir_semantics.specs.Import.{sigs_after, callees_with, callees_after, same_callee}
 use Rattle.ir_semantics.specs.Renaming.{Renaming, line_under, block_under}
 use Rattle.ir_semantics.specs.Splice.{Splicing, Kind, Within, Last, Tries, kind_of, after_block, after_blocks, body, caller_names, sides, spliced, splice_with}
 use Rattle.inline_outcomes.proofs.Local.{some_same}
-use Rattle.inline_outcomes.proofs.Functions.{function_name}
 use Rattle.inline_outcomes.specs.Stands.{Stands}
 use Rattle.inline_outcomes.proofs.Related.{Distinct}
 use Rattle.inline_outcomes.proofs.Linking.{distinct_sides, after_is}
@@ -37,7 +35,7 @@ use Rattle.inline_numbering.proofs.Carried.{kind_under, kind_same, map_append}
 use Rattle.inline_numbering.proofs.Same.{blocks_number, by_way, way_renamed, renamed_is_same}
 use Rattle.inline_numbering.proofs.Sides.{joined, sides_carry}
 use Rattle.inline_numbering.proofs.Sizes.{size_renamed}
-use Rattle.inline_numbering.proofs.Typed.{in_map, same_before, block_in}
+use Rattle.inline_numbering.proofs.Typed.{same_before, block_in}
 use Rattle.inline_numbering.proofs.Places as places
 use Rattle.call_graph.specs.Reach.{apart}
 use Rattle.inline_pass.specs.Policy.{Policy, takes}
@@ -49,7 +47,7 @@ use Rattle.inline_pass.specs.GoingLaws.{own_names}
 use Rattle.inline_pass.proofs.Going.{blocks_same, callee_stays}
 use Rattle.inline_pass.proofs.Passing.{Found, found, then_some, at_place, splice_is, cut_list}
 use Rattle.inline_pass.proofs.Tracking.{f_none, ren_off}
-use Rattle.inline_pass.proofs.Finishing.{found_by_name, finished_equation}
+use Rattle.inline_pass.proofs.Finishing.{finished_equation}
 use Rattle.inline_pass.proofs.InOrder.{finished_named, finished_signed}
 use Rattle.inline_pass.proofs.Kept.{finished_accepted}
 
@@ -429,9 +427,9 @@ module _ (p : Policy) (m : Module) (is : IsModule m) (ok : Accepted m) (f : Func
       let accepted = kept.1 g i in (
         free_of (passed p m) g (each_in Whole (passed p m) kept.0.whole g i) accepted,
         λ d j g1 e1.
-        let u1 = body_is d.name g1 e1 in
-        let k = in_get g.callees d j in
-        accepted (item.Callee k.0) signature_mismatch d k.1 g1 (passed_is d.name u1.0 u1.1 ∙ ap (λ z. Some z) (sym u1.2)),
+            let u1 = body_is d.name g1 e1 in
+            let k = in_get g.callees d j in
+            accepted (item.Callee k.0) signature_mismatch d k.1 g1 (passed_is d.name u1.0 u1.1 ∙ ap (λ z. Some z) (sym u1.2)),
       )
 
   f_whole : Whole f

@@ -14,11 +14,14 @@ use Rattle.inline_pass.specs.Pass.{pass}
 
 -- the finished body of a function takes the finished bodies of functions in other pieces
 abbrev pub FinishedEquation : Type 0
-FinishedEquation = (p : Policy) (m : Module) → IsModule m → (f : Function) → In f m → finished p m f ≡ finish_by (finished_body p m f.name) p f
+FinishedEquation =
+    (p : Policy) (m : Module) → IsModule m → (f : Function) → In f m
+    → finished p m f ≡ finish_by (finished_body p m f.name) p f
 
 -- each function once, callees in other pieces before their callers
 abbrev pub PassIsFinished : Type 0
-PassIsFinished = (p : Policy) (m : Module) → IsModule m → (order : List FuncName) → BottomUp m order → pass p order m ≡ passed p m
+PassIsFinished =
+    (p : Policy) (m : Module) → IsModule m → (order : List FuncName) → BottomUp m order → pass p order m ≡ passed p m
 
 -- the order in use
 abbrev pub OrderInUse : Type 0
@@ -30,4 +33,5 @@ FinishedKeep = (p : Policy) (m : Module) → IsModule m → Accepted m → Same 
 
 -- a module that is the finished bodies up to numbering, as a tool answers it
 abbrev pub RenumberedFinishedKeep : Type 0
-RenumberedFinishedKeep = (p : Policy) (m r : Module) → IsModule m → Accepted m → SameUpToNumbering (passed p m) r → Same m r
+RenumberedFinishedKeep =
+    (p : Policy) (m r : Module) → IsModule m → Accepted m → SameUpToNumbering (passed p m) r → Same m r

@@ -1,5 +1,5 @@
--- A function's own text while bodies are put into it. There are two bodies side by side: that of the definition, and the
--- one in the code, which is the first under other numbers. The own lines that are left stand in the code's unchanged.
+-- A function's own text while bodies are put into it. There are two bodies side by side: that of the definition, and
+-- the one in the code, which is the first under other numbers. The own lines that are left stand in the code's unchanged.
 use Rattle.std.specs.Prelude.{◌≡◌, ℕ, suc, ◌+◌, List, ◌∷◌, ◌++◌, drop, Option, Some, slice_get}
 use Rattle.ir_core.specs.declared.names.FuncName.{FuncName}
 use Rattle.ir_core.specs.declared.declarations.Callee.{Callee}
@@ -73,8 +73,8 @@ spliced_twins twins ahead g code names =
       names = names;
     }
 
--- an own block that comes later than the block `at` of the code: where it stands in the definition's body, and its lines
--- in the code's
+-- an own block that comes later than the block `at` of the code: where it stands in the definition's body, and its
+-- lines in the code's
 pub record Later (twins : Twins) (at : ℕ) (own : Block) : Type 0 where
   pub block : ℕ
   pub there : In block (block_numbers twins.body.blocks)
@@ -85,7 +85,9 @@ pub record Later (twins : Twins) (at : ℕ) (own : Block) : Type 0 where
 
 -- the next own line stands at a place of the code's body, and so many sites were inlined before it
 pub record Going (task : Task) (ahead : Ahead) (twins : Twins) (place : Place) (count : ℕ) : Type 0 where
-  pub left : inline_by task.bodies task.policy twins.now (sites_left ahead) twins.body ≡ finish_by task.bodies task.policy task.function
+  pub left :
+      inline_by task.bodies task.policy twins.now (sites_left ahead) twins.body
+      ≡ finish_by task.bodies task.policy task.function
   pub counted :
       count + inlined_by task.bodies task.policy twins.now (sites_left ahead) twins.body
       ≡ inlined_with task.bodies task.policy task.function
@@ -98,7 +100,9 @@ pub record Going (task : Task) (ahead : Ahead) (twins : Twins) (place : Place) (
   pub text : drop place.1 (lines_of place.0 twins.code.blocks) ≡ ahead.lines
   pub later : Each (Later twins place.0) ahead.rest
   pub apart : Different (block_numbers ahead.rest)
-  pub callees : (j : ℕ) (d : Callee) → slice_get task.function.callees j ≡ Some d → slice_get twins.code.callees j ≡ Some d
+  pub callees :
+      (j : ℕ) (d : Callee) → slice_get task.function.callees j ≡ Some d
+      → slice_get twins.code.callees j ≡ Some d
 
 -- all own lines are behind: the code's body is the finished one, and the count is its
 pub record Done (task : Task) (twins : Twins) (count : ℕ) : Type 0 where

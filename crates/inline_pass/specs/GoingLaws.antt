@@ -30,7 +30,8 @@ Begins =
 -- what the definition's body calls at the place of an own line is what the own line calls
 abbrev pub Calls : Type 0
 Calls =
-    (task : Task) (ahead : Ahead) (l : Line) (twins : Twins) (place : Place) (count : ℕ) → Going task (before_line l ahead) twins place count
+    (task : Task) (ahead : Ahead) (l : Line) (twins : Twins) (place : Place) (count : ℕ)
+    → Going task (before_line l ahead) twins place count
     → (j : ℕ) (d : Callee) → callee_of l.inst ≡ Some j → slice_get task.function.callees j ≡ Some d
     → called twins.body (stands twins ahead).0 (stands twins ahead).1 ≡ Some d.name
 
@@ -43,7 +44,8 @@ Refused task ahead twins =
 -- behind a line that is no site, or at which nothing is inlined
 abbrev pub Passes : Type 0
 Passes =
-    (task : Task) (ahead : Ahead) (l : Line) (twins : Twins) (place : Place) (count : ℕ) → Going task (before_line l ahead) twins place count
+    (task : Task) (ahead : Ahead) (l : Line) (twins : Twins) (place : Place) (count : ℕ)
+    → Going task (before_line l ahead) twins place count
     → (is_site (callee_of l.inst) ≡ true → Refused task ahead twins)
     → Going task (behind_line ahead) twins (place.0, suc place.1) count
 
@@ -53,15 +55,21 @@ pub record Inlines (task : Task) (ahead : Ahead) (l : Line) (twins : Twins) (g :
   pub body : body_called task twins ahead ≡ Some g
   pub taken : takes task.policy g (with_body twins ahead g) ≡ true
 
--- the code's splice into the block `at`: the new body is the definition's under the new numbers, blocks of the caller keep
--- theirs, and callees keep their places
+-- the code's splice into the block `at`: the new body is the definition's under the new numbers, blocks of the caller
+-- keep theirs, and callees keep their places
 pub record Put (old new : Twins) (at : ℕ) : Type 0 where
   pub same : Renamed new.names new.body new.code
   pub numbers : Different (block_numbers new.code.blocks)
   pub own : (x : ℕ) → In x (block_numbers old.body.blocks) → In (sides.caller_block x) (block_numbers new.body.blocks)
-  pub keeps : (x : ℕ) → In x (block_numbers old.body.blocks) → new.names.block (sides.caller_block x) ≡ old.names.block x
-  pub others : (x : ℕ) → In x (block_numbers old.code.blocks) → (x ≡ at → ⊥) → lines_of x new.code.blocks ≡ lines_of x old.code.blocks
-  pub callees : (j : ℕ) (d : Callee) → slice_get old.code.callees j ≡ Some d → slice_get new.code.callees j ≡ Some d
+  pub keeps :
+      (x : ℕ) → In x (block_numbers old.body.blocks)
+      → new.names.block (sides.caller_block x) ≡ old.names.block x
+  pub others :
+      (x : ℕ) → In x (block_numbers old.code.blocks) → (x ≡ at → ⊥)
+      → lines_of x new.code.blocks ≡ lines_of x old.code.blocks
+  pub callees :
+      (j : ℕ) (d : Callee) → slice_get old.code.callees j ≡ Some d
+      → slice_get new.code.callees j ≡ Some d
 
 -- of a plain call, at a place: the lines behind it stand in the new block `after`
 pub record PutWithin (old new : Twins) (place : Place) (after : ℕ) : Type 0 where
@@ -74,7 +82,8 @@ pub record PutWithin (old new : Twins) (place : Place) (after : ℕ) : Type 0 wh
 -- behind a plain call that is inlined
 abbrev pub Takes : Type 0
 Takes =
-    (task : Task) (ahead : Ahead) (l : Line) (twins : Twins) (place : Place) (count : ℕ) → Going task (before_line l ahead) twins place count
+    (task : Task) (ahead : Ahead) (l : Line) (twins : Twins) (place : Place) (count : ℕ)
+    → Going task (before_line l ahead) twins place count
     → (g code : Function) (names : Renaming) (after : ℕ) → Inlines task ahead l twins g
     → PutWithin twins (spliced_twins twins ahead g code names) place after
     → Going task (behind_line ahead) (spliced_twins twins ahead g code names) (after, 0) (suc count)
@@ -87,7 +96,8 @@ Onward task (own ∷ rest) twins count = Going task (before_block own rest) twin
 -- behind a tail call or a `try_call` that is inlined: no own line of the block stands behind it
 abbrev pub TakesLast : Type 0
 TakesLast =
-    (task : Task) (ahead : Ahead) (l : Line) (twins : Twins) (place : Place) (count : ℕ) → Going task (before_line l ahead) twins place count
+    (task : Task) (ahead : Ahead) (l : Line) (twins : Twins) (place : Place) (count : ℕ)
+    → Going task (before_line l ahead) twins place count
     → ahead.lines ≡ [] → (g code : Function) (names : Renaming) → Inlines task ahead l twins g
     → Put twins (spliced_twins twins ahead g code names) place.0
     → Onward task ahead.rest (spliced_twins twins ahead g code names) (suc count)
@@ -95,5 +105,6 @@ TakesLast =
 -- behind the last line of an own block
 abbrev pub Turns : Type 0
 Turns =
-    (task : Task) (ahead : Ahead) (twins : Twins) (place : Place) (count : ℕ) → Going task ahead twins place count → ahead.lines ≡ []
+    (task : Task) (ahead : Ahead) (twins : Twins) (place : Place) (count : ℕ)
+    → Going task ahead twins place count → ahead.lines ≡ []
     → Onward task ahead.rest twins count

@@ -16,7 +16,8 @@ inlined_by bodies p now (s ∷ ss) b =
       | None ↦ inlined_by bodies p now ss b
       | Some g ↦
           if takes p g (splice_with sides b (now s).0 (now s).1 g)
-          then suc (inlined_by bodies p (λ q. moved (now s).0 (now s).1 (now q)) ss (splice_with sides b (now s).0 (now s).1 g))
+          then suc (inlined_by bodies p (λ q. moved (now s).0 (now s).1 (now q)) ss
+          (splice_with sides b (now s).0 (now s).1 g))
           else inlined_by bodies p now ss b
     ]
 

@@ -1,5 +1,5 @@
--- The finished bodies of an accepted module are accepted, and writable where the module is and the policy's caller size is
--- within the limit of a text; so is a module that is the finished bodies up to numbering.
+-- The finished bodies of an accepted module are accepted, and writable where the module is and the policy's caller size
+-- is within the limit of a text; so is a module that is the finished bodies up to numbering.
 use Rattle.std.specs.Prelude.{◌≤◌}
 use Rattle.ir_core.specs.Module.{Module}
 use Rattle.ir_core.specs.Whole.{IsModule}

@@ -17,8 +17,8 @@ SameBody (Some g) (Some h) = SameFunction g h
 SameBody (Some g) None = ⊥
 SameBody None (Some h) = ⊥
 
--- a function finished with bodies that are the finished ones up to numbering is the finished one up to numbering, with as
--- many sites inlined
+-- a function finished with bodies that are the finished ones up to numbering is the finished one up to numbering, with
+-- as many sites inlined
 abbrev pub FinishedRespectNumbers : Type 0
 FinishedRespectNumbers =
     (p : Policy) (m : Module) → IsModule m → Accepted m → (f : Function) → In f m

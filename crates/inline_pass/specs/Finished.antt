@@ -1,6 +1,6 @@
 -- Finished bodies. The finished body of a function begins with its own text. At each site of its text, in order, whose
--- callee is a function of the module in another piece, the callee's finished body is inlined into the body as it is then,
--- where the policy takes it. Calls that came in with a body are no sites.
+-- callee is a function of the module in another piece, the callee's finished body is inlined into the body as it is
+-- then, where the policy takes it. Calls that came in with a body are no sites.
 use Rattle.std.specs.Prelude.{ℕ, zero, suc, List, [], ◌∷◌, length, map, Option, Some, None, if◌then◌else◌}
 use Rattle.ir_core.specs.declared.names.FuncName.{FuncName}
 use Rattle.ir_core.specs.Module.{Function, Module}
@@ -17,8 +17,8 @@ inline_by bodies p now (s ∷ ss) b =
     elim (and_then (called b (now s).0 (now s).1) bodies) [
       | None ↦ inline_by bodies p now ss b
       | Some g ↦
-          if takes p g (splice_with sides b (now s).0 (now s).1 g)
-          then inline_by bodies p (λ q. moved (now s).0 (now s).1 (now q)) ss (splice_with sides b (now s).0 (now s).1 g)
+          if takes p g (splice_with sides b (now s).0 (now s).1 g) then
+          inline_by bodies p (λ q. moved (now s).0 (now s).1 (now q)) ss (splice_with sides b (now s).0 (now s).1 g)
           else inline_by bodies p now ss b
     ]
 

@@ -1,5 +1,6 @@
 -- A function's own text while bodies are put into it. There are two bodies side by side: that of the definition, and
--- the one in the code, which is the first under other numbers. The own lines that are left stand in the code's unchanged.
+-- the one in the code, which is the first under other numbers. The own lines that are left stand unchanged in the
+-- code's.
 use Rattle.std.specs.Prelude.{◌≡◌, ℕ, suc, ◌+◌, List, ◌∷◌, ◌++◌, drop, Option, Some, slice_get}
 use Rattle.ir_core.specs.declared.names.FuncName.{FuncName}
 use Rattle.ir_core.specs.declared.declarations.Callee.{Callee}

@@ -15,9 +15,9 @@ inlined_by bodies p now (s ∷ ss) b =
     elim (and_then (called b (now s).0 (now s).1) bodies) [
       | None ↦ inlined_by bodies p now ss b
       | Some g ↦
-          if takes p g (splice_with sides b (now s).0 (now s).1 g)
-          then suc (inlined_by bodies p (λ q. moved (now s).0 (now s).1 (now q)) ss
-          (splice_with sides b (now s).0 (now s).1 g))
+          let next : Place → Place = λ q. moved (now s).0 (now s).1 (now q) in
+          if takes p g (splice_with sides b (now s).0 (now s).1 g) then
+          suc (inlined_by bodies p next ss (splice_with sides b (now s).0 (now s).1 g))
           else inlined_by bodies p now ss b
     ]
 

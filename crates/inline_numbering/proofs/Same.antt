@@ -16,6 +16,7 @@ use Rattle.ir_semantics.specs.Canon.{canonical_names, types_in_order, canonical,
 use Rattle.ir_core.specs.Uses.{values_used, blocks_used}
 use Rattle.ir_core.specs.Whole.{declared, LineWhole, BlockWhole, Whole}
 use Rattle.ir_core.proofs.Members.{in_left, in_right, each_more}
+use Rattle.inline_outcomes.proofs.Linking.{same_numbers, values_same, lines_same}
 use Rattle.inline_outcomes.proofs.Numbering.{back_names, back_rest, canonical_back}
 use Rattle.inline_acceptance.proofs.KeptNumbers.{canonical_typed}
 use Rattle.inline_acceptance.proofs.KeptCanon.{back_typed}
@@ -174,3 +175,15 @@ way_renamed f g h =
 
 pub same_is_renamed : SameIsRenamed
 same_is_renamed f g h = (by_way f g, way_renamed f g h)
+
+-- ---- a function is itself under its own numbers
+
+block_itself : (b : Block) → block_under same_numbers b ≡ b
+block_itself b = ap₂ (λ (vs : List ℕ) (ls : List Line). record b { params = vs; lines = ls }) (values_same b.params) (sym (lines_same b.lines))
+
+blocks_itself : (bs : List Block) → bs ≡ map (block_under same_numbers) bs
+blocks_itself [] = refl
+blocks_itself (b ∷ bs) = ap₂ (λ (x : Block) xs. x ∷ xs) (sym (block_itself b)) (blocks_itself bs)
+
+pub renamed_itself : (f : Function) → Renamed same_numbers f f
+renamed_itself f = record { name = refl; sig = refl; slots = refl; sigs = refl; callees = refl; blocks = blocks_itself f.blocks; typed = λ v i. refl; slot = λ k. refl; signature = λ k. refl; callee = λ k. refl }

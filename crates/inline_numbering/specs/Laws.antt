@@ -8,6 +8,7 @@ use Rattle.ir_core.specs.Lookup.{block_numbers}
 use Rattle.ir_semantics.specs.Canon.{SameFunction}
 use Rattle.ir_semantics.specs.Renaming.{Renaming, block_under}
 use Rattle.ir_semantics.specs.Splice.{Naming, Splicing, sides, spliced, spliced_blocks, splice_with}
+use Rattle.inline_acceptance.specs.Alone.{AloneParts, CallSite}
 use Rattle.inline_numbering.specs.Carried.{Carries, SamePlace, SiteUnder, splicing_under}
 use Rattle.inline_numbering.specs.Renamed.{Renamed}
 
@@ -45,6 +46,17 @@ abbrev pub SidesCarry : Type 0
 SidesCarry =
     (r s : Renaming) (m : Naming) (b c g h : Function) → Renamed r b c → Renamed s g h → Whole g
     → (t : Renaming) × Carries t r s sides m b c g h
+
+-- the splice of the definition
+abbrev pub by_sides : Splicing → Splicing
+by_sides q = record q { naming = sides }
+
+-- a splice of two functions that are accepted alone, by any numbers that are in range: it is whole, and the definition's
+-- up to numbering
+abbrev pub SpliceOfAnyNumbers : Type 0
+SpliceOfAnyNumbers =
+    (q : Splicing) → CallSite q → AloneParts q → IsSound (spliced q)
+    → IsWhole (spliced q) × SameFunction (spliced (by_sides q)) (spliced q)
 
 -- functions that are the same up to numbering, at places that correspond, have splices that are the same up to
 -- numbering

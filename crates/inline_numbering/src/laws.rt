@@ -1,6 +1,6 @@
 //! Laws of numbers: functions without a body, each of which has its law as its contract.
 ghost use Rattle.inline_numbering.specs.Renamed.{CanonicalIsSame, CanonicalModuleIsSame, NumberingKeepsText, RenamedIsSame, RenamedKeepsSize, SameIsRenamed};
-ghost use Rattle.inline_numbering.specs.Laws.{SidesCarry, SpliceCarried, SpliceRenamed, SpliceRespectsNumbers, SpliceStaysWhole};
+ghost use Rattle.inline_numbering.specs.Laws.{SidesCarry, SpliceCarried, SpliceOfAnyNumbers, SpliceRenamed, SpliceRespectsNumbers, SpliceStaysWhole};
 
 /// A function under other numbers of values and blocks, where the numbers differ, has the same canonical form.
 pub fn renamed_is_same()
@@ -41,6 +41,12 @@ pub fn splice_renamed()
 /// A splice whose numbers are in range, as the code's are, is whole where the splice of the definition is.
 pub fn splice_stays_whole()
     ensures { SpliceStaysWhole }
+{}
+
+/// A splice of two functions that are accepted alone, by any numbers that are in range, as the code's are: it is whole, and
+/// the definition's up to numbering.
+pub fn splice_of_any_numbers()
+    ensures { SpliceOfAnyNumbers }
 {}
 
 /// Modules that are the same up to numbering have one canonical text.

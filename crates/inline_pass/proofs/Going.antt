@@ -11,16 +11,15 @@ use Rattle.ir_core.specs.Uses.{named_callee, callee_of}
 use Rattle.ir_semantics.specs.Renaming.{Renaming, called_under, instruction_under, line_under, block_under}
 use Rattle.ir_semantics.specs.Splice.{sides}
 use Rattle.inline_outcomes.proofs.Local.{some_same, try_target_called}
-use Rattle.inline_outcomes.proofs.Linking.{values_same, lines_same}
 use Rattle.inline_numbering.specs.Renamed.{Renamed}
-use Rattle.inline_numbering.proofs.Same.{blocks_number}
+use Rattle.inline_numbering.proofs.Same.{blocks_number, renamed_itself}
 use Rattle.inline_numbering.proofs.Typed.{in_map}
 use Rattle.inline_pass.specs.Policy.{takes}
 use Rattle.inline_pass.specs.Sites.{Place, is_site, sites_in, own_sites, moved, called}
 use Rattle.inline_pass.specs.Finished.{inline_by, finish_by}
 use Rattle.inline_pass.specs.Inlined.{inlined_by, inlined_with}
 use Rattle.inline_pass.specs.Going.{Task, Ahead, Twins, Later, Going, before_line, behind_line, sites_left, stands, body_called, with_body, spliced_twins}
-use Rattle.inline_pass.specs.GoingLaws.{own_names, untouched, Begins, Calls, Refused, Passes, Inlines, Put, PutWithin, Takes, Onward, TakesLast, Turns}
+use Rattle.inline_pass.specs.GoingLaws.{untouched, Begins, Calls, Refused, Passes, Inlines, Put, PutWithin, Takes, Onward, TakesLast, Turns}
 
 -- ---- lists
 
@@ -319,13 +318,6 @@ turns task ahead twins place count g e = turns_by task ahead twins place count g
 
 -- ---- the beginning
 
-block_same : (b : Block) → block_under own_names b ≡ b
-block_same b = ap₂ (λ (vs : List ℕ) (ls : List Line). record b { params = vs; lines = ls }) (values_same b.params) (sym (lines_same b.lines))
-
-pub blocks_same : (bs : List Block) → bs ≡ map (block_under own_names) bs
-blocks_same [] = refl
-blocks_same (b ∷ bs) = ap₂ (λ (x : Block) xs. x ∷ xs) (sym (block_same b)) (blocks_same bs)
-
 numbers_after : (pre hs : List Block) (x : ℕ) → In x (block_numbers hs) → In x (block_numbers (pre ++ hs))
 numbers_after [] hs x i = i
 numbers_after (b ∷ pre) hs x i = inr (numbers_after pre hs x i)
@@ -361,7 +353,7 @@ begins task own rest e w =
     record {
       left = ap (λ bs. inline_by task.bodies task.policy (λ q. q) (own_sites bs) f) (sym e);
       counted = nothing (inlined_by task.bodies task.policy (λ q. q) (own_sites (own ∷ rest)) f) ∙ ap (λ bs. inlined_by task.bodies task.policy (λ q. q) (own_sites bs) f) (sym e);
-      same = record { name = refl; sig = refl; slots = refl; sigs = refl; callees = refl; blocks = blocks_same f.blocks; typed = λ v i. refl; slot = λ k. refl; signature = λ k. refl; callee = λ k. refl };
+      same = renamed_itself f;
       numbers = w.blocks;
       block = own.number;
       there = subst (λ z. In own.number (block_numbers z)) (sym e) (inl refl);

@@ -32,7 +32,7 @@ use Rattle.inline_acceptance.proofs.KeptModules.{find_function_in}
 use Rattle.inline_numbering.specs.Renamed.{Renamed}
 use Rattle.inline_numbering.specs.Carried.{Carries, SiteUnder, splicing_under}
 use Rattle.inline_numbering.proofs.Carried.{kind_under, kind_same, map_append}
-use Rattle.inline_numbering.proofs.Same.{blocks_number, by_way, way_renamed, renamed_is_same}
+use Rattle.inline_numbering.proofs.Same.{blocks_number, by_way, way_renamed, renamed_is_same, renamed_itself}
 use Rattle.inline_numbering.proofs.Sides.{joined, sides_carry}
 use Rattle.inline_numbering.proofs.Sizes.{size_renamed}
 use Rattle.inline_numbering.proofs.Typed.{same_before, block_in}
@@ -44,7 +44,7 @@ use Rattle.inline_pass.specs.Finished.{inline_by, finish_by, body_of, finished, 
 use Rattle.inline_pass.specs.Inlined.{inlined_by, inlined_with, inlined}
 use Rattle.inline_pass.specs.OtherBodies.{SameBody, FinishedRespectNumbers}
 use Rattle.inline_pass.specs.GoingLaws.{own_names}
-use Rattle.inline_pass.proofs.Going.{blocks_same, callee_stays}
+use Rattle.inline_pass.proofs.Going.{callee_stays}
 use Rattle.inline_pass.proofs.Passing.{Found, found, then_some, at_place, splice_is, cut_list}
 use Rattle.inline_pass.proofs.Tracking.{f_none, ren_off}
 use Rattle.inline_pass.proofs.Finishing.{finished_equation}
@@ -441,16 +441,13 @@ module _ (p : Policy) (m : Module) (is : IsModule m) (ok : Accepted m) (f : Func
       let k = in_get f.callees d j in
       ok f there (item.Callee k.0) signature_mismatch d k.1 u1.0 u1.1 ∙ ap (λ z. Some z) (sym (ap (λ z. z.sig) u1.2 ∙ finished_signed p m u1.0))
 
-  itself : Renamed own_names f f
-  itself = record { name = refl; sig = refl; slots = refl; sigs = refl; callees = refl; blocks = blocks_same f.blocks; typed = λ v i. refl; slot = λ k. refl; signature = λ k. refl; callee = λ k. refl }
-
   beside_itself : (z : Place) → Beside f f own_names z z
   beside_itself z = record { line = refl; block = elim (in_cases_of z.0 (block_numbers f.blocks)) [ inl i ↦ inl (i, refl) | inr off ↦ inr (off, off) ] }
 
   respect : (others : FuncName → Option Function) → ((x : FuncName) → SameBody (bodies x) (others x)) → SameFunction (finished p m f) (finish_by others p f) × (inlined_with others p f ≡ inlined p m f)
   respect others alike =
       let free_f = free_of m f f_whole (ok f there) in
-      let both = loop p bodies others alike good (own_sites f.blocks) (λ q. q) (λ q. q) f f own_names itself free_f free_f f_states (λ z i. beside_itself z) in
+      let both = loop p bodies others alike good (own_sites f.blocks) (λ q. q) (λ q. q) f f own_names (renamed_itself f) free_f free_f f_states (λ z i. beside_itself z) in
       (subst (λ z. SameFunction z (finish_by others p f)) (sym (finished_equation p m is f there)) both.same, both.count)
 
 pub finished_respect_numbers : FinishedRespectNumbers

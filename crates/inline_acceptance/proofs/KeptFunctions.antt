@@ -10,9 +10,7 @@ use Rattle.ir_core.specs.Module.{Function, Module, Branches, Call, Instruction, 
 use Rattle.ir_core.specs.Lookup.{same_name, find_block, find_function, signature_of}
 use Rattle.ir_core.specs.Lists.{In, Each}
 use Rattle.ir_core.specs.Uses.{targets, table_targets}
-use Rattle.ir_semantics.specs.Accepted.{FunctionAccepted, Accepted, Rule, no_terminator, entry_target, count_mismatch, type_mismatch, convention, signature_mismatch, slot_range, tag_place, not_available, KeptAtLine, KeptAtBlock, KeptAtCallee, IsFirst}
-use Rattle.ir_semantics.specs.CountRules.{InstructionCounts, TargetCounts}
-use Rattle.ir_semantics.specs.TypeRules.{types_of}
+use Rattle.ir_semantics.specs.Accepted.{InstructionCounts, TargetCounts, types_of, FunctionAccepted, Accepted, Declared, Rule, no_terminator, entry_target, count_mismatch, type_mismatch, convention, signature_mismatch, slot_range, tag_place, not_available, KeptAtLine, KeptAtBlock, KeptAtCallee, IsFirst}
 use Rattle.ir_core.specs.Whole.{Whole}
 use Rattle.ir_semantics.specs.Import.{with_item, with_items, sigs_after, callee_with, callees_with, callees_after, same_callee}
 use Rattle.ir_semantics.specs.Renaming.{line_under}
@@ -117,30 +115,6 @@ in_replace f' h (k ∷ m) p = go (λ q. in_replace f' h m q) (same_name k.name f
     go ih false (inr q) = elim (ih q) [ inl r ↦ inl r | inr r ↦ inr (inr r) ]
 
 module _ (m : Module) (S : Splicing) (E : Setting m S) where
-  -- ---- declarations
-
-  still_declared : (name : FuncName) (o : Option Sig) → ((h : Function) → find_function name m ≡ Some h → o ≡ Some h.sig) → (h : Function) → find_function name (replace (spliced S) m) ≡ Some h → o ≡ Some h.sig
-  still_declared name o old h q =
-      elim (cases_named name S.caller.name) [
-        | inl e ↦
-            let there = replaced (spliced S) m S.caller E.site.caller_found in
-            let same : spliced S ≡ h = some_same (sym there ∙ ap (λ z. find_function z (replace (spliced S) m)) (sym e) ∙ q) in
-            old S.caller (ap (λ z. find_function z m) e ∙ E.site.caller_found) ∙ ap (λ z. Some z.sig) same
-        | inr e ↦ old h (sym (others_stay (spliced S) m name (λ p. let z : false ≡ true = sym e ∙ equal_name name S.caller.name p in cc)) ∙ q)
-      ]
-
-  out_declared : (k : ℕ) (c : Callee) → slice_get (callees_after S.caller S.callee) k ≡ Some c → (h : Function) → find_function c.name (replace (spliced S) m) ≡ Some h → slice_get (sigs_after S.caller S.callee) c.sig ≡ Some h.sig
-  out_declared k c get =
-      elim (in_items (same_callee (sigs_after S.caller S.callee)) c S.caller.callees (callees_with S.caller S.callee S.callee.callees) (get_in (callees_after S.caller S.callee) k c get)) [
-        | inl p ↦
-            let j = in_get S.caller.callees c p in
-            still_declared c.name (slice_get (sigs_after S.caller S.callee) c.sig) (λ h q. own_sig S.caller S.callee c.sig h.sig (E.f_accepted (item.Callee j.0) signature_mismatch c j.1 h q))
-        | inr p ↦
-            let d = in_with S.caller S.callee c S.callee.callees p in
-            let j = in_get S.callee.callees d.0 d.1 in
-            subst (λ z. (h : Function) → find_function z.name (replace (spliced S) m) ≡ Some h → slice_get (sigs_after S.caller S.callee) z.sig ≡ Some h.sig) (sym d.2) (still_declared d.0.name (slice_get (sigs_after S.caller S.callee) (callee_with S.caller S.callee d.0).sig) (λ h q. other_sig S.caller S.callee d.0.sig h.sig (E.g_accepted (item.Callee j.0) signature_mismatch d.0 j.1 h q)))
-      ]
-
   -- ---- blocks
 
   out_filled : (x : ℕ) (k' : Block) → find_block x (spliced S).blocks ≡ Some k' → k'.lines ≢ []
@@ -208,27 +182,61 @@ module _ (m : Module) (S : Splicing) (E : Setting m S) where
       by tag_place = (line_kept m S E x i i' from_line).tags
       by not_available = (line_kept m S E x i i' from_line).available
 
-  at_callee : (k : ℕ) (c : Callee) → slice_get (spliced S).callees k ≡ Some c → (rule : Rule) → KeptAtCallee (replace (spliced S) m) (spliced S) c rule
-  at_callee k c get signature_mismatch = out_declared k c get
-  at_callee k c get _ = tt
+  at_callee : (r : Module) (k : ℕ) (c : Callee) → slice_get (spliced S).callees k ≡ Some c → Declared r (spliced S) c → (rule : Rule) → KeptAtCallee r (spliced S) c rule
+  at_callee r k c get states signature_mismatch = states
+  at_callee r k c get states _ = tt
 
-  pub out_accepted : FunctionAccepted (replace (spliced S) m) (spliced S)
-  out_accepted item.Whole rule = tt
-  out_accepted (item.Callee k) rule = λ c get. at_callee k c get rule
-  out_accepted (item.Block b) rule = λ k found. at_block b k found rule
-  out_accepted (item.Inst at) rule = λ k l found get. at_line at.block k at.index l found get rule
+  -- in every module whose functions its declarations state
+  pub out_accepted : (r : Module) → ((k : ℕ) (c : Callee) → slice_get (spliced S).callees k ≡ Some c → Declared r (spliced S) c) → FunctionAccepted r (spliced S)
+  out_accepted r states item.Whole rule = tt
+  out_accepted r states (item.Callee k) rule = λ c get. at_callee r k c get (states k c get) rule
+  out_accepted r states (item.Block b) rule = λ k found. at_block b k found rule
+  out_accepted r states (item.Inst at) rule = λ k l found get. at_line at.block k at.index l found get rule
 
-  -- ---- the other functions
+  -- a callee declaration of the splice is one of the caller, or comes with the callee
+  pub declaration_of : (k : ℕ) (c : Callee) → slice_get (callees_after S.caller S.callee) k ≡ Some c → In c S.caller.callees ⊎ ((d : Callee) × In d S.callee.callees × (c ≡ callee_with S.caller S.callee d))
+  declaration_of k c get =
+      elim (in_items (same_callee (sigs_after S.caller S.callee)) c S.caller.callees (callees_with S.caller S.callee S.callee.callees) (get_in (callees_after S.caller S.callee) k c get)) [
+        | inl p ↦ inl p
+        | inr p ↦ inr (in_with S.caller S.callee c S.callee.callees p)
+      ]
 
-  other_callee : (h : Function) → FunctionAccepted m h → (k : ℕ) (c : Callee) → slice_get h.callees k ≡ Some c → (rule : Rule) → KeptAtCallee (replace (spliced S) m) h c rule
-  other_callee h ok k c get signature_mismatch = still_declared c.name (slice_get h.sigs c.sig) (ok (item.Callee k) signature_mismatch c get)
-  other_callee h ok k c get _ = tt
+  -- the module with the splice in the caller's place
+  module _ (caller_there : find_function S.caller.name m ≡ Some S.caller) where
+    -- ---- declarations
 
-  other_accepted : (h : Function) → FunctionAccepted m h → FunctionAccepted (replace (spliced S) m) h
-  other_accepted h ok item.Whole rule = tt
-  other_accepted h ok (item.Callee k) rule = λ c get. other_callee h ok k c get rule
-  other_accepted h ok (item.Block b) rule = ok (item.Block b) rule
-  other_accepted h ok (item.Inst at) rule = ok (item.Inst at) rule
+    still_declared : (name : FuncName) (o : Option Sig) → ((h : Function) → find_function name m ≡ Some h → o ≡ Some h.sig) → (h : Function) → find_function name (replace (spliced S) m) ≡ Some h → o ≡ Some h.sig
+    still_declared name o old h q =
+        elim (cases_named name S.caller.name) [
+          | inl e ↦
+              let there = replaced (spliced S) m S.caller caller_there in
+              let same : spliced S ≡ h = some_same (sym there ∙ ap (λ z. find_function z (replace (spliced S) m)) (sym e) ∙ q) in
+              old S.caller (ap (λ z. find_function z m) e ∙ caller_there) ∙ ap (λ z. Some z.sig) same
+          | inr e ↦ old h (sym (others_stay (spliced S) m name (λ p. let z : false ≡ true = sym e ∙ equal_name name S.caller.name p in cc)) ∙ q)
+        ]
 
-  pub module_accepted : Accepted m → Accepted (replace (spliced S) m)
-  module_accepted all h p = elim (in_replace (spliced S) h m p) [ inl e ↦ subst (FunctionAccepted (replace (spliced S) m)) (sym e) out_accepted | inr q ↦ other_accepted h (all h q) ]
+    out_declared : (k : ℕ) (c : Callee) → slice_get (callees_after S.caller S.callee) k ≡ Some c → (h : Function) → find_function c.name (replace (spliced S) m) ≡ Some h → slice_get (sigs_after S.caller S.callee) c.sig ≡ Some h.sig
+    out_declared k c get =
+        elim (declaration_of k c get) [
+          | inl p ↦
+              let j = in_get S.caller.callees c p in
+              still_declared c.name (slice_get (sigs_after S.caller S.callee) c.sig) (λ h q. own_sig S.caller S.callee c.sig h.sig (E.f_accepted (item.Callee j.0) signature_mismatch c j.1 h q))
+          | inr d ↦
+              let j = in_get S.callee.callees d.0 d.1 in
+              subst (λ z. (h : Function) → find_function z.name (replace (spliced S) m) ≡ Some h → slice_get (sigs_after S.caller S.callee) z.sig ≡ Some h.sig) (sym d.2) (still_declared d.0.name (slice_get (sigs_after S.caller S.callee) (callee_with S.caller S.callee d.0).sig) (λ h q. other_sig S.caller S.callee d.0.sig h.sig (E.g_accepted (item.Callee j.0) signature_mismatch d.0 j.1 h q)))
+        ]
+
+    -- ---- the other functions
+
+    other_callee : (h : Function) → FunctionAccepted m h → (k : ℕ) (c : Callee) → slice_get h.callees k ≡ Some c → (rule : Rule) → KeptAtCallee (replace (spliced S) m) h c rule
+    other_callee h ok k c get signature_mismatch = still_declared c.name (slice_get h.sigs c.sig) (ok (item.Callee k) signature_mismatch c get)
+    other_callee h ok k c get _ = tt
+
+    other_accepted : (h : Function) → FunctionAccepted m h → FunctionAccepted (replace (spliced S) m) h
+    other_accepted h ok item.Whole rule = tt
+    other_accepted h ok (item.Callee k) rule = λ c get. other_callee h ok k c get rule
+    other_accepted h ok (item.Block b) rule = ok (item.Block b) rule
+    other_accepted h ok (item.Inst at) rule = ok (item.Inst at) rule
+
+    pub module_accepted : Accepted m → Accepted (replace (spliced S) m)
+    module_accepted all h p = elim (in_replace (spliced S) h m p) [ inl e ↦ subst (FunctionAccepted (replace (spliced S) m)) (sym e) (out_accepted (replace (spliced S) m) out_declared) | inr q ↦ other_accepted h (all h q) ]

@@ -23,8 +23,8 @@ use Rattle.ir_semantics.specs.TypeRules.{CallTypes, TargetTypes, arg_type, HaveT
 use Rattle.ir_core.specs.Whole.{Whole}
 use Rattle.ir_semantics.specs.Import.{callees_after}
 use Rattle.ir_semantics.specs.Renaming.{Renaming, entry_under, called_under, instruction_under}
-use Rattle.ir_semantics.specs.Site.{Site}
 use Rattle.ir_semantics.specs.Splice.{Splicing, callee_names, caller_names, from, jump_to, kind_of, named_sig, or_ret, returned_arg, spliced, to_normal, try_with}
+use Rattle.inline_acceptance.specs.Alone.{CallSite, standing}
 use Rattle.inline_outcomes.proofs.Local.{some_same}
 use Rattle.inline_outcomes.proofs.Frames.{Embeds}
 use Rattle.inline_outcomes.proofs.Related.{Distinct, RestF, RestG}
@@ -39,7 +39,7 @@ use Rattle.inline_acceptance.proofs.KeptSite.{LineKept, each_split, table_counts
 pub record Setting (m : Module) (S : Splicing) : Type 0 where
   pub names : Distinct S.naming
   pub news : Apart S.naming
-  pub site : Site m S
+  pub site : CallSite S
   pub f_ok : Sound S.caller
   pub g_ok : Sound S.callee
   pub f_accepted : FunctionAccepted m S.caller
@@ -118,10 +118,10 @@ module _ (m : Module) (S : Splicing) (E : Setting m S) where
       }
 
   ef : Embeds S.caller (spliced S) (caller_names S) (RestF S)
-  ef = embeds_f m S E.names E.site
+  ef = embeds_f S E.names (standing S E.site)
 
   eg : Embeds S.callee (spliced S) (callee_names S) (RestG S (kind_of S.site.inst))
-  eg = embeds_g m S E.names E.site
+  eg = embeds_g S E.names (standing S E.site)
 
   f_typed : (v : ℕ) → type_of (spliced S) (S.naming.caller_value v) ≡ type_of S.caller v
   f_typed v = caller_typed S E.names E.news v

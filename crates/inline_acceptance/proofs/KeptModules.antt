@@ -9,17 +9,19 @@ use Rattle.debug_tags.specs.declared.tags.Tag.TheVariants as tag
 use Rattle.ir_core.specs.declared.signatures.Ty.{Ty}
 use Rattle.ir_core.specs.declared.declarations.Callee.{Callee}
 use Rattle.ir_core.specs.declared.instructions.BlockCall.{BlockCall}
+use Rattle.ir_core.specs.declared.places.Item.TheVariants as item
 use Rattle.ir_core.specs.Module.{Nop, Const, Pure, PureImm, Load, Store, StackLoad, StackStore, FuncAddr, Trap, Trapz, Trapnz, CallTarget, Direct, Indirect, Function, Module, Branches, Call, Instruction, Line, Block, Plain, Return, ReturnCall, SequencePoint, TryCall, TryDirect, TryIndirect, call_target}
 use Rattle.ir_core.specs.Lookup.{same_name, find_block, find_function, type_of, block_numbers, definitions}
 use Rattle.ir_core.specs.Lists.{In, Each, Different}
 use Rattle.ir_core.specs.Uses.{values_used, called_callees, slots_shown, callees_used}
 use Rattle.ir_core.specs.Whole.{Whole, LineWhole, BlockWhole, DifferentNames, IsModule, declared}
-use Rattle.ir_semantics.specs.Accepted.{Accepted}
+use Rattle.ir_semantics.specs.Accepted.{FunctionAccepted, Accepted, signature_mismatch}
 use Rattle.ir_semantics.specs.Import.{sigs_after, callee_with, callees_with, callees_after, same_callee}
 use Rattle.ir_semantics.specs.Renaming.{Renaming, called_under, instruction_under, tag_under}
 use Rattle.ir_semantics.specs.Site.{Site}
 use Rattle.ir_semantics.specs.Splice.{Kind, Last, Splicing, Tries, Within, callee_line, callee_names, caller_names, joined_tags, kind_of, replace, sides, spliced, tags_before}
 use Rattle.inline_acceptance.specs.Kept.{SpliceAccepted}
+use Rattle.inline_acceptance.specs.Alone.{CallSite, standing}
 use Rattle.inline_outcomes.proofs.Local.{some_same, Fits, named_target, try_target_called}
 use Rattle.inline_outcomes.proofs.Related.{Distinct}
 use Rattle.inline_outcomes.proofs.Linking.{embeds_f, embeds_g, get_below, distinct_sides}
@@ -121,10 +123,10 @@ module _ (F G : Function) (r : Renaming) (fits : Fits F G r) where
 
 module _ (m : Module) (S : Splicing) (E : Setting m S) where
   ff : Fits S.caller (spliced S) (caller_names S)
-  ff = (embeds_f m S E.names E.site).fits
+  ff = (embeds_f S E.names (standing S E.site)).fits
 
   fg : Fits S.callee (spliced S) (callee_names S)
-  fg = (embeds_g m S E.names E.site).fits
+  fg = (embeds_g S E.names (standing S E.site)).fits
 
   -- ---- a line's callees and tags
 
@@ -241,6 +243,20 @@ names_stay_different f' (k ∷ m) d = by (same_name k.name f'.name) refl (names_
     by true q ih = (ap (λ z. find_function z m) (sym (name_equal k.name f'.name q)) ∙ d.0, d.1)
     by false q ih = (others_stay f' m k.name (λ p. let z : false ≡ true = sym q ∙ equal_name k.name f'.name p in cc) ∙ d.0, ih)
 
+-- the declaration of the callee states its signature
+call_site : (m : Module) (S : Splicing) → Site m S → FunctionAccepted m S.caller → CallSite S
+call_site m S site ok =
+    record {
+      block = site.block;
+      block_found = site.block_found;
+      lines = site.lines;
+      callee = site.callee;
+      is_call = site.is_call;
+      declared = site.declared;
+      declared_found = site.declared_found;
+      signature = ok (item.Callee site.callee) signature_mismatch site.declared site.declared_found S.callee site.callee_found;
+    }
+
 pub setting : (m : Module) → IsModule m → Accepted m → (S : Splicing) → S.naming ≡ sides → Site m S → Setting m S
 setting m whole accepted S named site =
     let fi = find_function_in S.caller.name m S.caller site.caller_found in
@@ -250,7 +266,7 @@ setting m whole accepted S named site =
     record {
       names = subst Distinct (sym named) distinct_sides;
       news = subst Apart (sym named) apart_sides;
-      site = site;
+      site = call_site m S site (accepted S.caller fi);
       f_ok = sound m S.caller (accepted S.caller fi) fw;
       g_ok = sound m S.callee (accepted S.callee gi) gw;
       f_accepted = accepted S.caller fi;
@@ -263,5 +279,5 @@ pub splice_accepted : SpliceAccepted
 splice_accepted m whole accepted S named site =
     let E = setting m whole accepted S named site in (
       record { names = names_stay_different (spliced S) m whole.names; whole = in_each Whole (replace (spliced S) m) (λ h p. elim (in_replace (spliced S) h m p) [ inl e ↦ subst Whole (sym e) (out_whole m S E) | inr q ↦ each_in Whole m whole.whole h q ]) },
-      module_accepted m S E accepted,
+      module_accepted m S E site.caller_found accepted,
     )

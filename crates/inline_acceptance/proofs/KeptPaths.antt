@@ -10,8 +10,8 @@ use Rattle.ir_core.specs.Uses.{targets, table_targets}
 use Rattle.ir_semantics.specs.Available.{terminates, Reach, begin, next, branch}
 use Rattle.ir_semantics.specs.Renaming.{Renaming, entry_under, line_under, target_under}
 use Rattle.ir_semantics.specs.Splice.{Kind, Last, Splicing, Tries, Within, callee_line, callee_names, caller_names, from, jump_in, kind_of, new_results, piece, spliced, to_after}
-use Rattle.ir_semantics.specs.Site.{Site}
 use Rattle.ir_core.specs.Uses.{callee_of}
+use Rattle.inline_acceptance.specs.Alone.{CallSite, standing}
 use Rattle.inline_outcomes.proofs.Related.{Distinct, RestF, RestG}
 use Rattle.inline_outcomes.proofs.Frames.{Embeds}
 use Rattle.inline_outcomes.proofs.Linking.{embeds_f, embeds_g}
@@ -69,7 +69,7 @@ came (begin b bs q) i e = absurd (omega (arith, e))
 came (next {b = b} {i = j} r k q l p goes) i e = let z : j ≡ i = omega (arith, e) in record { k = k; l = l; found = q; get = ap (slice_get k.lines) (sym z) ∙ p; goes = goes }
 came (branch r k q l p t is k' q') i e = absurd (omega (arith, e))
 
-module _ (m : Module) (S : Splicing) (names : Distinct S.naming) (site : Site m S) (f_ok : Sound S.caller) (g_ok : Sound S.callee) where
+module _ (m : Module) (S : Splicing) (names : Distinct S.naming) (site : CallSite S) (f_ok : Sound S.caller) (g_ok : Sound S.callee) where
   abbrev pub SpotF : ℕ → ℕ → ℕ → ℕ → Type 0
   SpotF x i b s = ((x ≡ S.naming.caller_block b) × (s ≡ i)) ⊎ ((x ≡ S.naming.after) × (b ≡ S.at) × (s ≡ suc (length S.before + i)))
 
@@ -196,10 +196,10 @@ module _ (m : Module) (S : Splicing) (names : Distinct S.naming) (site : Site m 
   site_get = ap (λ ls. slice_get ls (length S.before)) site.lines ∙ get_site S.before S.site S.behind
 
   pub ef : Embeds S.caller (spliced S) (caller_names S) (RestF S)
-  ef = embeds_f m S names site
+  ef = embeds_f S names (standing S site)
 
   pub eg : Embeds S.callee (spliced S) (callee_names S) (RestG S (kind_of S.site.inst))
-  eg = embeds_g m S names site
+  eg = embeds_g S names (standing S site)
 
   -- where a target of a line of g's part leads
   pub data GTarget (c s : ℕ) (li : Line) (b : ℕ) : Type 0 where

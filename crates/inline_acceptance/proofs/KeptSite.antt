@@ -25,7 +25,7 @@ use Rattle.ir_semantics.specs.TypeRules.{Types, InstructionTypes, TargetTypes, a
 use Rattle.ir_semantics.specs.CallRules.{Convention, Signature, TagPlace, InstructionConvention, InstructionTags}
 use Rattle.ir_semantics.specs.SlotRules.{SlotRange}
 use Rattle.ir_core.specs.Whole.{Whole}
-use Rattle.ir_semantics.specs.Site.{Site}
+use Rattle.inline_acceptance.specs.Alone.{CallSite}
 use Rattle.ir_core.specs.Uses.{callee_of, named_callee}
 use Rattle.ir_semantics.specs.Splice.{Kind, Last, Splicing, Tries, Within, args_of, kind_of}
 use Rattle.inline_outcomes.proofs.Local.{some_same}
@@ -102,13 +102,13 @@ table_counts f whole payloads n r (x ∷ ts) c t =
 
 -- ---- the site
 
-module _ (m : Module) (S : Splicing) (site : Site m S) (fa : FunctionAccepted m S.caller) where
+module _ (m : Module) (S : Splicing) (site : CallSite S) (fa : FunctionAccepted m S.caller) where
   pub site_kept : LineKept S.caller S.at (length S.before) S.site
   site_kept = line_kept_at m S.caller fa S.at site.block (length S.before) S.site site.block_found (ap (λ ls. slice_get ls (length S.before)) site.lines ∙ get_site S.before S.site S.behind)
 
   -- the callee's declaration states its signature
   pub declared_sig : slice_get S.caller.sigs site.declared.sig ≡ Some S.callee.sig
-  declared_sig = fa (item.Callee site.callee) signature_mismatch site.declared site.declared_found S.callee site.callee_found
+  declared_sig = site.signature
 
   pub called_sig : (t : CallTarget) → named_callee t ≡ Some site.callee → signature_of S.caller t ≡ Some S.callee.sig
   called_sig (Indirect s a) q = cc

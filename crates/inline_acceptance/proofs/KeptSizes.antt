@@ -24,7 +24,7 @@ use Rattle.inline_acceptance.proofs.KeptCanon.{back_typed}
 
 -- ---- sizes
 
-total_map : {A B : Type 0} (h : A → B) (f : B → ℕ) (g : A → ℕ) → ((a : A) → f (h a) ≡ g a) → (xs : List A) → total f (map h xs) ≡ total g xs
+pub total_map : {A B : Type 0} (h : A → B) (f : B → ℕ) (g : A → ℕ) → ((a : A) → f (h a) ≡ g a) → (xs : List A) → total f (map h xs) ≡ total g xs
 total_map h f g same [] = refl
 total_map h f g same (x ∷ xs) = ap₂ (λ a b. a + b) (same x) (total_map h f g same xs)
 
@@ -89,14 +89,14 @@ operands_same r i =
     let a = ap length (own_under r i) ∙ length_map r.value (operands i) in
     let b = ap (total argument_count) (targets_under r i) ∙ total_map (target_under r) argument_count argument_count (λ t. length_map (arg_under r) t.args) (targets i) in ap₂ (λ x y. x + y) a b
 
-line_same : (r : Renaming) (l : Line) → line_size (line_under r l) ≡ line_size l
+pub line_same : (r : Renaming) (l : Line) → line_size (line_under r l) ≡ line_size l
 line_same r l =
     let a = length_map r.value l.results in
     let b = operands_same r l.inst in
     let c = entries_same r l.inst in
     let d = length_map (tag_under r) l.tags in ap₂ (λ x y. x + y) (ap₂ (λ x y. x + y) (ap (λ x. 1 + x) a) (ap₂ (λ x y. x + y) b c)) d
 
-block_same : (r : Renaming) (b : Block) → block_size (block_under r b) ≡ block_size b
+pub block_same : (r : Renaming) (b : Block) → block_size (block_under r b) ≡ block_size b
 block_same r b = ap₂ (λ x y. x + y) (ap (λ x. 1 + x) (length_map r.value b.params)) (total_map (line_under r) line_size line_size (line_same r) b.lines)
 
 module _ (F G : Function) (r : Renaming) (value : Injective r.value) (block : Injective r.block) (rest : (k : ℕ) → (r.slot k ≡ k) × (r.sig k ≡ k) × (r.callee k ≡ k)) (same : Renumbers r F G) (name : G.name ≡ F.name) (typed : (v : ℕ) → type_of G (r.value v) ≡ type_of F v) where

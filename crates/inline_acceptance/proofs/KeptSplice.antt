@@ -24,6 +24,7 @@ use Rattle.ir_semantics.specs.TypeRules.{InstructionTypes, TargetTypes, HaveType
 use Rattle.ir_semantics.specs.CallRules.{InstructionSignature, InstructionTags}
 use Rattle.ir_semantics.specs.EndRules.{EntryIsNoTarget}
 use Rattle.ir_semantics.specs.Import.{sig_after}
+use Rattle.inline_acceptance.specs.Alone.{standing}
 use Rattle.ir_semantics.specs.Renaming.{Renaming, entry_under, called_under, instruction_under, tag_under, target_under, try_target_under}
 use Rattle.ir_semantics.specs.Splice.{Kind, Last, Splicing, Tries, Within, after_block, args_of, callee_line, callee_names, caller_names, first_number, from, joined_tags, kind_of, line_with, named_sig, new_results, piece, piece_by, spliced, tags_before, to_normal, tries_piece, try_target}
 use Rattle.inline_outcomes.proofs.Local.{some_same, named_target, try_target_called}
@@ -67,10 +68,10 @@ tags_joined r (TryCall p a b c d) us ts none h = tt
 
 module _ (m : Module) (S : Splicing) (E : Setting m S) where
   ef : Embeds S.caller (spliced S) (caller_names S) (RestF S)
-  ef = embeds_f m S E.names E.site
+  ef = embeds_f S E.names (standing S E.site)
 
   eg : Embeds S.callee (spliced S) (callee_names S) (RestG S (kind_of S.site.inst))
-  eg = embeds_g m S E.names E.site
+  eg = embeds_g S E.names (standing S E.site)
 
   f_typed : (v : ℕ) → type_of (spliced S) (S.naming.caller_value v) ≡ type_of S.caller v
   f_typed v = caller_typed S E.names E.news v
@@ -117,7 +118,7 @@ module _ (m : Module) (S : Splicing) (E : Setting m S) where
       let kc : k.number ≡ c = found_name c S.callee.blocks k found in
       let z : 0 + s ≡ s = omega arith in
       let more : find_block (S.naming.new_block c s) (piece S k.number 0 k.lines).more ≡ Some r.0 = ap₂ (λ (y : ℕ) (j : ℕ). find_block (S.naming.new_block y j) (piece S k.number 0 k.lines).more) (sym kc) (sym z) ∙ r.1 in
-      (r.0, in_out m S E.names E.site (S.naming.new_block c s) r.0 (λ b p. E.names.caller_new b c s p) (new_found S E.names S.callee.blocks c k found s r.0 more))
+      (r.0, in_out S E.names (standing S E.site) (S.naming.new_block c s) r.0 (λ b p. E.names.caller_new b c s p) (new_found S E.names S.callee.blocks c k found s r.0 more))
 
   -- ---- a line of the callee's part
 
@@ -148,7 +149,7 @@ module _ (m : Module) (S : Splicing) (E : Setting m S) where
     within_kept kind (Return vs) q h =
         let t = subst (InstructionTypes S.callee li) q lk.types in
         let a = subst (λ z. Each (Available S.callee c s) (values_used z)) q lk.available in
-        subst (LineKept (spliced S) x i) (sym h) (jump_kept m S E S.naming.after (map S.naming.callee_value vs) (after_block S) (after_is m S E.names E.site kind) (g_vals vs ∙ t.1 ∙ sym (f_vals S.site.results ∙ fact Within kind)) x i (gs_av vs (each_split (Available S.callee c s) vs [] a).0))
+        subst (LineKept (spliced S) x i) (sym h) (jump_kept m S E S.naming.after (map S.naming.callee_value vs) (after_block S) (after_is S E.names (standing S E.site) kind) (g_vals vs ∙ t.1 ∙ sym (f_vals S.site.results ∙ fact Within kind)) x i (gs_av vs (each_split (Available S.callee c s) vs [] a).0))
     within_kept kind (ReturnCall t args) q h =
         let n = subst (InstructionCounts S.callee li) q lk.counts in
         let y = subst (InstructionTypes S.callee li) q lk.types in
@@ -301,7 +302,7 @@ module _ (m : Module) (S : Splicing) (E : Setting m S) where
   line_kept x i i' (pg c s k li spot found get h) = g_kept x i i' c s k li spot found get (kind_of S.site.inst) refl h
   line_kept x i i' (px c s k li spot found get tails w h) =
       let have = fact Within w in
-      subst (LineKept (spliced S) x i) (sym h) (jump_kept m S E S.naming.after (new_results S c) (after_block S) (after_is m S E.names E.site w) (results_typed S E.names E.news w (param_types S.callee.sig.results) have c s k found li get tails ∙ sym (f_vals S.site.results ∙ have)) x i (in_each (Available (spliced S) x i) (new_results S c) (λ v p. av_new m S E.names E.site E.f_ok E.g_ok x i c s spot k found li get tails v p)))
+      subst (LineKept (spliced S) x i) (sym h) (jump_kept m S E S.naming.after (new_results S c) (after_block S) (after_is S E.names (standing S E.site) w) (results_typed S E.names E.news w (param_types S.callee.sig.results) have c s k found li get tails ∙ sym (f_vals S.site.results ∙ have)) x i (in_each (Available (spliced S) x i) (new_results S c) (λ v p. av_new m S E.names E.site E.f_ok E.g_ok x i c s spot k found li get tails v p)))
 
   -- ---- no target is the first block
 

@@ -11,7 +11,7 @@ use Rattle.ir_core.specs.Uses.{targets}
 use Rattle.ir_semantics.specs.Available.{terminates, Reach, begin, next, branch, Available}
 use Rattle.ir_semantics.specs.Renaming.{block_under}
 use Rattle.ir_semantics.specs.Splice.{Kind, Last, Splicing, Tries, Within, after_block, after_blocks, body, callee_line, callee_names, caller_names, cut_block, first_number, kind_of, new_results, spliced, spliced_blocks}
-use Rattle.ir_semantics.specs.Site.{Site}
+use Rattle.inline_acceptance.specs.Alone.{CallSite, standing}
 use Rattle.inline_outcomes.proofs.Local.{some_same}
 use Rattle.inline_outcomes.proofs.Related.{Distinct}
 use Rattle.inline_outcomes.proofs.Places.{find_hit}
@@ -20,7 +20,7 @@ use Rattle.inline_acceptance.proofs.KeptLists.{in_front, in_map, Sub, sub_front,
 use Rattle.inline_acceptance.proofs.Points.{Goes, Stops, ends_under, IsTail, tail_stops, not_both, Trans, BlockOf, of_f, of_cut, of_g, of_after, block_of}
 use Rattle.inline_acceptance.proofs.KeptPaths.{Sound, block_head, site_goes, came, SpotF, SpotG, f_same, g_same, apart, f_next, g_next, LineFrom, pf, pj, pg, px, known, site_get, ef, eg, GTarget, into_g, into_f, into_after, into_rest, g_target}
 
-module _ (m : Module) (S : Splicing) (names : Distinct S.naming) (site : Site m S) (f_ok : Sound S.caller) (g_ok : Sound S.callee) where
+module _ (m : Module) (S : Splicing) (names : Distinct S.naming) (site : CallSite S) (f_ok : Sound S.caller) (g_ok : Sound S.callee) where
   abbrev InF : ℕ → ℕ → ℕ → ℕ → Type 0
   InF x i b s = SpotF m S names site f_ok g_ok x i b s
 
@@ -67,7 +67,7 @@ module _ (m : Module) (S : Splicing) (names : Distinct S.naming) (site : Site m 
   -- from the site's path to the block after
   after_enters : kind_of S.site.inst ≡ Within → (e : List ℕ) → Reach S.caller S.at (length S.before) e → (defs : List ℕ) → Sub S.naming.caller_value e defs → (k'' : Block) → find_block S.naming.after (spliced S).blocks ≡ Some k'' → Trace S.naming.after 0 (k''.params ++ defs)
   after_enters within e rf defs sub k'' found'' =
-      let same : k'' ≡ after_block S = same_block S.naming.after k'' (after_block S) found'' (after_is m S names site within) in
+      let same : k'' ≡ after_block S = same_block S.naming.after k'' (after_block S) found'' (after_is S names (standing S site) within) in
       let params : k''.params ≡ map S.naming.caller_value S.site.results = ap (λ z. z.params) same in
       let z : suc (length S.before) ≡ suc (length S.before + 0) = omega arith in
       tf S.at (suc (length S.before)) (S.site.results ++ e) (inr (refl, refl, z)) (next rf site.block site.block_found S.site (site_get m S names site f_ok g_ok) (site_goes S.site.inst site.callee site.is_call within)) (subst (λ y. Sub S.naming.caller_value (S.site.results ++ e) (y ++ defs)) (sym params) (sub_front S.naming.caller_value S.site.results e defs sub))

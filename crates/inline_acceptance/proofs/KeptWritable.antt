@@ -18,6 +18,7 @@ use Rattle.ir_core.specs.Size.{size_of, block_size, line_size, total}
 use Rattle.ir_semantics.specs.Splice.{Kind, Last, Splicing, Tries, Within, args_of, callee_line, callee_names, caller_names, first_number, from, joined_tags, jump_to, kind_of, line_with, new_results, or_ret, replace, returned_arg, spliced}
 use Rattle.ir_text.specs.Writable.{InstructionForm, LineWritable, FunctionWritable, NameWritable, SlotWritable, ResultTypes, TargetWritable, ValueArg, NormalArg, TableWritable, TagWritable}
 use Rattle.inline_acceptance.specs.Kept.{SpliceWritable}
+use Rattle.inline_acceptance.specs.Alone.{standing}
 use Rattle.inline_outcomes.proofs.Related.{RestF, RestG}
 use Rattle.inline_outcomes.proofs.Linking.{embeds_f, embeds_g}
 use Rattle.inline_acceptance.proofs.Points.{Trans}
@@ -109,7 +110,7 @@ module _ (m : Module) (S : Splicing) (E : Setting m S) (fw : FunctionWritable S.
 
     plain_written : i' ≡ callee_line S li → LineWritable (spliced S) i'
     plain_written h =
-        subst (LineWritable (spliced S)) (sym h) (form_under S.callee (spliced S) (callee_names S) (RestG S (kind_of S.site.inst)) (embeds_g m S E.names E.site) (callee_typed S E.names E.news) li (callee_line S li) refl refl li.inst lw.0, tags)
+        subst (LineWritable (spliced S)) (sym h) (form_under S.callee (spliced S) (callee_names S) (RestG S (kind_of S.site.inst)) (embeds_g S E.names (standing S E.site)) (callee_typed S E.names E.news) li (callee_line S li) refl refl li.inst lw.0, tags)
 
     within_written : (inst : Instruction) → li.inst ≡ inst → Trans S E.names Within c s inst li i' → LineWritable (spliced S) i'
     within_written (Return vs) q h = subst (LineWritable (spliced S)) (sym h) (jump_written S.naming.after (map S.naming.callee_value vs))
@@ -160,7 +161,7 @@ module _ (m : Module) (S : Splicing) (E : Setting m S) (fw : FunctionWritable S.
   line_written : (x i : ℕ) (i' : Line) → LineFrom m S E.names E.site E.f_ok E.g_ok x i i' → LineKept (spliced S) x i i' → LineWritable (spliced S) i'
   line_written x i i' (pf b s k li spot found get h) kept =
       let w = written_at S.caller fw b k s li found get in
-      subst (LineWritable (spliced S)) (sym h) (form_under S.caller (spliced S) (caller_names S) (RestF S) (embeds_f m S E.names E.site) (caller_typed S E.names E.news) li (line_under (caller_names S) li) refl refl li.inst w.0, tags_written (caller_names S) li.tags w.1)
+      subst (LineWritable (spliced S)) (sym h) (form_under S.caller (spliced S) (caller_names S) (RestF S) (embeds_f S E.names (standing S E.site)) (caller_typed S E.names E.news) li (line_under (caller_names S) li) refl refl li.inst w.0, tags_written (caller_names S) li.tags w.1)
   line_written x i i' (pj spot h) kept = subst (LineWritable (spliced S)) (sym h) (jump_written (S.naming.callee_block (first_number S.callee.blocks)) (map S.naming.caller_value (args_of S.site.inst)))
   line_written x i i' (pg c s k li spot found get h) kept = g_written x i i' c s k li found get kept (kind_of S.site.inst) refl h
   line_written x i i' (px c s k li spot found get tails w h) kept = subst (LineWritable (spliced S)) (sym h) (jump_written S.naming.after (new_results S c))

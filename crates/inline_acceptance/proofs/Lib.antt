@@ -18,3 +18,4 @@ pub mod KeptWhole
 pub mod KeptWritable
 pub mod Points
 pub mod Unique
+pub mod Alone

@@ -17,9 +17,13 @@ NumberingAccepted = (m r : Module) → SameUpToNumbering m r → IsModule m → 
 abbrev pub NumberingWritable : Type 0
 NumberingWritable = (m r : Module) → SameUpToNumbering m r → Writable m → Writable r
 
--- the splice of two functions of an accepted module is accepted, and writable where it is no larger than a text may have
+-- the splice of two functions of an accepted module is accepted, and writable where it is no larger than a text may be
 abbrev pub SpliceAccepted : Type 0
-SpliceAccepted = (m : Module) → IsModule m → Accepted m → (p : Splicing) → p.naming ≡ sides → Site m p → IsModule (replace (spliced p) m) × Accepted (replace (spliced p) m)
+SpliceAccepted =
+    (m : Module) → IsModule m → Accepted m → (p : Splicing) → p.naming ≡ sides → Site m p
+    → IsModule (replace (spliced p) m) × Accepted (replace (spliced p) m)
 
 abbrev pub SpliceWritable : Type 0
-SpliceWritable = (m : Module) → IsModule m → Accepted m → Writable m → (p : Splicing) → p.naming ≡ sides → Site m p → size_of (spliced p) ≤ 262144 → Writable (replace (spliced p) m)
+SpliceWritable =
+    (m : Module) → IsModule m → Accepted m → Writable m → (p : Splicing) → p.naming ≡ sides → Site m p
+    → size_of (spliced p) ≤ 262144 → Writable (replace (spliced p) m)

@@ -15,6 +15,7 @@ use Rattle.ir_core.specs.Lookup.{find_block, find_function}
 use Rattle.ir_semantics.specs.Renaming.{Renaming, arg_under, block_under, branch_under, called_under, entry_under, instruction_under, line_under, simple_under, tag_under, target_under, try_target_under}
 use Rattle.ir_semantics.specs.Splice.{Splicing, Within, after_block, after_blocks, body, callee_names, caller_names, cut_block, kind_of, pair, piece, replace, sides, spliced, spliced_blocks, triangle}
 use Rattle.ir_semantics.specs.Site.{Site}
+use Rattle.inline_outcomes.specs.Stands.{Stands}
 use Rattle.inline_outcomes.proofs.Local.{Fits, some_same}
 use Rattle.inline_outcomes.proofs.Frames.{Embeds}
 use Rattle.inline_outcomes.proofs.Related.{Distinct, RestF, RestG, RestOf}
@@ -159,7 +160,7 @@ distinct_sides =
       new_block = λ c j b k q. let e : pair c j ≡ pair b k = omega (arith, q) in pair_same c j b k e;
     }
 
-module _ (M : Module) (S : Splicing) (names : Distinct S.naming) (site : Site M S) where
+module _ (S : Splicing) (names : Distinct S.naming) (site : Stands S) where
   caller_fits : Fits S.caller (spliced S) (caller_names S)
   caller_fits =
       record {
@@ -217,6 +218,10 @@ module _ (M : Module) (S : Splicing) (names : Distinct S.naming) (site : Site M 
             ];
       }
 
+module _ (M : Module) (S : Splicing) (names : Distinct S.naming) (site : Site M S) where
+  stands : Stands S
+  stands = record { block = site.block; block_found = site.block_found; lines = site.lines }
+
   funcs_linked : (name : FuncName) → LinkOf S (find_function name M) (find_function name (replace (spliced S) M))
   funcs_linked name =
       elim (cases_named name S.caller.name) [
@@ -233,10 +238,10 @@ module _ (M : Module) (S : Splicing) (names : Distinct S.naming) (site : Site M 
       record {
         names = names;
         same_names = names_stay M S.caller S.callee (spliced S) refl refl site.caller_found site.declared.name site.callee_found;
-        f_embeds = embeds_f;
-        f_starts = starts_f;
-        g_embeds = embeds_g;
-        after_found = after_is;
+        f_embeds = embeds_f S names stands;
+        f_starts = starts_f S names stands;
+        g_embeds = embeds_g S names stands;
+        after_found = after_is S names stands;
         funcs = funcs_linked;
         callee = site.callee;
         is_call = site.is_call;

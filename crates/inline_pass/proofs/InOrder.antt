@@ -21,7 +21,7 @@ use Rattle.inline_pass.specs.Policy.{Policy, takes}
 use Rattle.inline_pass.specs.Sites.{Place, own_sites, moved, called}
 use Rattle.inline_pass.specs.Finished.{inline_by, body_of, finished_in, finished, passed}
 use Rattle.inline_pass.specs.Pass.{finish, pass_by, pass}
-use Rattle.inline_pass.specs.FinishedLaws.{PassIsFinished, OrderInUse, FinishedKeepRuns}
+use Rattle.inline_pass.specs.FinishedLaws.{PassIsFinished, OrderInUse}
 use Rattle.inline_pass.proofs.Passing.{replace_hit, replace_skip, pass_keeps_runs}
 use Rattle.inline_pass.proofs.Finishing.{calls_is, each_function, equation, finish_same, name_of_found}
 
@@ -56,6 +56,38 @@ turns_named (suc n) p m f = inlined_named (λ y. and_then (body_of m m f.name y)
 
 pub finished_named : (p : Policy) (m : Module) (f : Function) → (finished p m f).name ≡ f.name
 finished_named p m f = turns_named _ p m f
+
+-- ---- and signatures
+
+splice_signed : (b : Function) (at i : ℕ) (g : Function) → (splice_with sides b at i g).sig ≡ b.sig
+splice_signed b at i g = go (find_block at b.blocks)
+  where
+    line : (k : Block) (o : Option Line) → (elim o as (λ z. Function) [ None ↦ b | Some l ↦ spliced (record { naming = sides; caller = b; callee = g; at = at; before = take i k.lines; site = l; behind = drop (suc i) k.lines }) ]).sig ≡ b.sig
+    line k None = refl
+    line k (Some l) = refl
+
+    go : (o : Option Block) → (elim o as (λ z. Function) [ None ↦ b | Some k ↦ elim (slice_get k.lines i) as (λ z. Function) [ None ↦ b | Some l ↦ spliced (record { naming = sides; caller = b; callee = g; at = at; before = take i k.lines; site = l; behind = drop (suc i) k.lines }) ] ]).sig ≡ b.sig
+    go None = refl
+    go (Some k) = line k (slice_get k.lines i)
+
+inlined_signed : (bodies : FuncName → Option Function) (p : Policy) (now : Place → Place) (ss : List Place) (b : Function) → (inline_by bodies p now ss b).sig ≡ b.sig
+inlined_signed bodies p now [] b = refl
+inlined_signed bodies p now (s ∷ ss) b = by (and_then (called b (now s).0 (now s).1) bodies) (inlined_signed bodies p now ss b) (λ b'. inlined_signed bodies p (λ q. moved (now s).0 (now s).1 (now q)) ss b')
+  where
+    choose : (c : Bool) (x y : Function) → x.sig ≡ b.sig → y.sig ≡ b.sig → (if c then x else y).sig ≡ b.sig
+    choose true x y h q = h
+    choose false x y h q = q
+
+    by : (o : Option Function) → (inline_by bodies p now ss b).sig ≡ b.sig → ((b' : Function) → (inline_by bodies p (λ q. moved (now s).0 (now s).1 (now q)) ss b').sig ≡ b'.sig) → (elim o as (λ z. Function) [ None ↦ inline_by bodies p now ss b | Some g ↦ if takes p g (splice_with sides b (now s).0 (now s).1 g) then inline_by bodies p (λ q. moved (now s).0 (now s).1 (now q)) ss (splice_with sides b (now s).0 (now s).1 g) else inline_by bodies p now ss b ]).sig ≡ b.sig
+    by None stay go = stay
+    by (Some g) stay go = choose (takes p g (splice_with sides b (now s).0 (now s).1 g)) (inline_by bodies p (λ q. moved (now s).0 (now s).1 (now q)) ss (splice_with sides b (now s).0 (now s).1 g)) (inline_by bodies p now ss b) (go (splice_with sides b (now s).0 (now s).1 g) ∙ splice_signed b (now s).0 (now s).1 g) stay
+
+turns_signed : (n : ℕ) (p : Policy) (m : Module) (f : Function) → (finished_in n p m f).sig ≡ f.sig
+turns_signed zero p m f = refl
+turns_signed (suc n) p m f = inlined_signed (λ y. and_then (body_of m m f.name y) (λ g. Some (finished_in n p m g))) p (λ q. q) (own_sites f.blocks) f
+
+pub finished_signed : (p : Policy) (m : Module) (f : Function) → (finished p m f).sig ≡ f.sig
+finished_signed p m f = turns_signed _ p m f
 
 -- ---- functions in place of others
 
@@ -172,5 +204,5 @@ pass_is_finished p m is order b = in_order p m is order b
 pub order_in_use : OrderInUse
 order_in_use p m is = pass_is_finished p m is (bottom_up m) (order_is_bottom_up m is.names)
 
-pub finished_keep_runs : FinishedKeepRuns
+pub finished_keep_runs : (p : Policy) (m : Module) → IsModule m → RunsKept m (passed p m)
 finished_keep_runs p m is = subst (RunsKept m) (order_in_use p m is) (pass_keeps_runs p (bottom_up m) m)

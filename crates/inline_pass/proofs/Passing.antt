@@ -8,6 +8,9 @@ use Rattle.ir_core.specs.Lookup.{and_then, same_name, find_block, find_function}
 use Rattle.ir_semantics.specs.Splice.{Splicing, spliced, sides, splice_with, replace}
 use Rattle.ir_semantics.specs.Site.{Site}
 use Rattle.ir_core.specs.Uses.{callee_of}
+use Rattle.ir_core.specs.Whole.{IsModule}
+use Rattle.ir_semantics.specs.Accepted.{Accepted}
+use Rattle.ir_semantics.specs.Same.{Same}
 use Rattle.ir_semantics.specs.Kept.{NeverStuck}
 use Rattle.call_graph.specs.Reach.{reaches, one_piece, apart}
 use Rattle.inline_outcomes.specs.Laws.{RunsKept}
@@ -21,7 +24,6 @@ use Rattle.inline_pass.specs.Policy.{Policy, takes}
 use Rattle.inline_pass.specs.Sites.{Place, own_sites, moved, called}
 use Rattle.inline_pass.specs.Finished.{inline_by, body_of}
 use Rattle.inline_pass.specs.Pass.{finish, pass_by, pass}
-use Rattle.inline_pass.specs.Laws.{PassKeepsRuns, PassKeeps}
 
 -- what an optional step found
 pub then_some : {A B : Type 0} (o : Option A) (go : A → Option B) (b : B) → and_then o go ≡ Some b → (a : A) × (o ≡ Some a) × (go a ≡ Some b)
@@ -161,8 +163,8 @@ pass_kept p pieces m0 (x ∷ xs) m ch = by (find_function x m) refl (λ c. pass_
         let here : find_function f.name m ≡ Some f = ap (λ z. find_function z m) (function_name x m f q) ∙ q in
         next (replace (finish p pieces m f) m) (inlined_kept p pieces m0 m f.name (λ r. r) (own_sites f.blocks) f refl f here (subst (RunsKept m0) (sym (replace_self f m here)) ch))
 
-pub pass_keeps_runs : PassKeepsRuns
+pub pass_keeps_runs : (p : Policy) (order : List FuncName) (m : Module) → RunsKept m (pass p order m)
 pass_keeps_runs p order m = pass_kept p m m order m (λ entry args w safe written. ((λ n. (n, omega arith, refl)), (λ k. (k, omega arith, refl))))
 
-pub pass_keeps : NeverStuck → PassKeeps
+pub pass_keeps : NeverStuck → (p : Policy) (order : List FuncName) (m : Module) → IsModule m → Accepted m → Same m (pass p order m)
 pass_keeps never p order m whole accepted = same_of never m (pass p order m) whole accepted (pass_keeps_runs p order m)

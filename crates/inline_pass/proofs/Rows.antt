@@ -15,6 +15,7 @@ use Rattle.ir_core.specs.Size.{size_of}
 use Rattle.ir_semantics.proofs.Written.{signature, declares, f, g}
 use Rattle.call_graph.specs.Order.{BottomUp, bottom_up, piece_number}
 use Rattle.inline_pass.specs.Finished.{passed}
+use Rattle.inline_pass.specs.Inlined.{inlined, all_inlined}
 use Rattle.inline_pass.specs.Pass.{pass}
 
 abbrev a : FuncName
@@ -135,6 +136,17 @@ below_caller_size : passed (record { callee_size = 5; caller_size = 13 }) pair_o
 unfolding same_sig
 below_caller_size = refl
 
+inlined_at_limits : map (inlined (record { callee_size = 5; caller_size = 14 }) pair_of) pair_of ≡ 0 ∷ 1 ∷ []
+unfolding same_sig
+inlined_at_limits = refl
+
+inlined_below_callee_size : all_inlined (record { callee_size = 4; caller_size = 14 }) pair_of ≡ 0
+inlined_below_callee_size = refl
+
+inlined_below_caller_size : all_inlined (record { callee_size = 5; caller_size = 13 }) pair_of ≡ 0
+unfolding same_sig
+inlined_below_caller_size = refl
+
 -- Recursion, and a caller of a recursive function.
 abbrev itself : Function
 itself =
@@ -216,6 +228,11 @@ other_result =
 recursion : map canonical (passed (record { callee_size = 64; caller_size = 4096 }) (itself ∷ other ∷ [])) ≡ itself ∷ other_result ∷ []
 unfolding same_sig
 recursion = refl
+
+-- a call that came in with the body is no site
+inlined_of_recursion : map (inlined (record { callee_size = 64; caller_size = 4096 }) (itself ∷ other ∷ [])) (itself ∷ other ∷ []) ≡ 0 ∷ 1 ∷ []
+unfolding same_sig
+inlined_of_recursion = refl
 
 -- Two functions that call each other, and a caller.
 abbrev in_a : Function
@@ -319,6 +336,10 @@ in_c_result =
 one_piece_of_two : map canonical (passed (record { callee_size = 64; caller_size = 4096 }) (in_a ∷ in_b ∷ in_c ∷ [])) ≡ in_a ∷ in_b ∷ in_c_result ∷ []
 unfolding same_sig
 one_piece_of_two = refl
+
+inlined_of_two : all_inlined (record { callee_size = 64; caller_size = 4096 }) (in_a ∷ in_b ∷ in_c ∷ []) ≡ 1
+unfolding same_sig
+inlined_of_two = refl
 
 in_order : map canonical (pass (record { callee_size = 64; caller_size = 4096 }) (a ∷ b ∷ c ∷ []) (in_a ∷ in_b ∷ in_c ∷ [])) ≡ in_a ∷ in_b ∷ in_c_result ∷ []
 unfolding same_sig

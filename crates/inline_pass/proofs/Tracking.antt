@@ -11,7 +11,7 @@ use Rattle.ir_semantics.specs.Renaming.{block_under, called_under, instruction_u
 use Rattle.ir_semantics.specs.Splice.{Splicing, Kind, Within, Last, Tries, kind_of, body, jump_in, cut_block, after_block, after_blocks, caller_names, spliced, spliced_blocks, sides, splice_with}
 use Rattle.ir_core.specs.Uses.{named_callee, callee_of}
 use Rattle.ir_core.proofs.Equal.{both_true, number_equal}
-use Rattle.inline_outcomes.proofs.Local.{some_same}
+use Rattle.inline_outcomes.proofs.Local.{some_same, try_target_called}
 use Rattle.inline_outcomes.proofs.Related.{Distinct, RestF}
 use Rattle.inline_outcomes.proofs.Places.{find_hit, find_skip, append_none, g_off, after_off, after_cut, f_found}
 use Rattle.inline_outcomes.proofs.Merging.{own_callee}
@@ -78,14 +78,14 @@ module _ (S : Splicing) (names : Distinct S.naming) where
         | inr q ↦ find_skip (S.naming.caller_block b) (block_under (caller_names S) m) (map (block_under (caller_names S)) bs) (λ p. q (names.caller_block m.number b p)) ∙ ren_none bs b (sym (find_skip b m bs q) ∙ h)
       ]
 
-  ren_off : (x : ℕ) → ((b : ℕ) → S.naming.caller_block b ≡ x → ⊥) → (bs : List Block) → find_block x (map (block_under (caller_names S)) bs) ≡ None
+  pub ren_off : (x : ℕ) → ((b : ℕ) → S.naming.caller_block b ≡ x → ⊥) → (bs : List Block) → find_block x (map (block_under (caller_names S)) bs) ≡ None
   ren_off x off [] = refl
   ren_off x off (m ∷ bs) = find_skip x (block_under (caller_names S) m) (map (block_under (caller_names S)) bs) (off m.number) ∙ ren_off x off bs
 
   chosen : Bool → Block → List Block → List Block
   chosen c m bs = if c then cut_block S m ∷ (body S S.callee.blocks ++ (after_blocks S (kind_of S.site.inst) ++ map (block_under (caller_names S)) bs)) else block_under (caller_names S) m ∷ spliced_blocks S bs
 
-  f_none : (bs : List Block) (b : ℕ) → find_block b bs ≡ None → find_block (S.naming.caller_block b) (spliced_blocks S bs) ≡ None
+  pub f_none : (bs : List Block) (b : ℕ) → find_block b bs ≡ None → find_block (S.naming.caller_block b) (spliced_blocks S bs) ≡ None
   unfolding chosen
   f_none [] b h = refl
   f_none (m ∷ bs) b h =

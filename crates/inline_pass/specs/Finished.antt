@@ -1,6 +1,6 @@
--- Finished bodies. The finished body of a function begins with its own text. At each site of its text, in order, whose callee
--- is a function of the module in another piece, the callee's finished body is inlined into the body as it is then, where the
--- policy takes it. Calls that came in with a body are no sites.
+-- Finished bodies. The finished body of a function begins with its own text. At each site of its text, in order, whose
+-- callee is a function of the module in another piece, the callee's finished body is inlined into the body as it is
+-- then, where the policy takes it. Calls that came in with a body are no sites.
 use Rattle.std.specs.Prelude.{ℕ, zero, suc, List, [], ◌∷◌, length, map, Option, Some, None, if◌then◌else◌}
 use Rattle.ir_core.specs.declared.names.FuncName.{FuncName}
 use Rattle.ir_core.specs.Module.{Function, Module}
@@ -16,7 +16,10 @@ inline_by bodies p now [] b = b
 inline_by bodies p now (s ∷ ss) b =
     elim (and_then (called b (now s).0 (now s).1) bodies) [
       | None ↦ inline_by bodies p now ss b
-      | Some g ↦ if takes p g (splice_with sides b (now s).0 (now s).1 g) then inline_by bodies p (λ q. moved (now s).0 (now s).1 (now q)) ss (splice_with sides b (now s).0 (now s).1 g) else inline_by bodies p now ss b
+      | Some g ↦
+          if takes p g (splice_with sides b (now s).0 (now s).1 g) then
+          inline_by bodies p (λ q. moved (now s).0 (now s).1 (now q)) ss (splice_with sides b (now s).0 (now s).1 g)
+          else inline_by bodies p now ss b
     ]
 
 abbrev pub finish_by : (FuncName → Option Function) → Policy → Function → Function
@@ -34,6 +37,10 @@ finished_in (suc n) p m f = finish_by (λ y. and_then (body_of m m f.name y) (λ
 
 abbrev pub finished : Policy → Module → Function → Function
 finished p m f = finished_in (length m) p m f
+
+-- the finished body that a name has for x: of a function in another piece
+abbrev pub finished_body : Policy → Module → FuncName → FuncName → Option Function
+finished_body p m x y = and_then (body_of m m x y) (λ g. Some (finished p m g))
 
 -- all finished bodies, in the module's order
 abbrev pub passed : Policy → Module → Module

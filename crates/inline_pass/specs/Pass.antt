@@ -12,7 +12,11 @@ finish p pieces m f = finish_by (body_of pieces m f.name) p f
 
 abbrev pub pass_by : Policy → Module → List FuncName → Module → Module
 pass_by p pieces [] m = m
-pass_by p pieces (x ∷ xs) m = elim (find_function x m) [ None ↦ pass_by p pieces xs m | Some f ↦ pass_by p pieces xs (replace (finish p pieces m f) m) ]
+pass_by p pieces (x ∷ xs) m =
+    elim (find_function x m) [
+      | None ↦ pass_by p pieces xs m
+      | Some f ↦ pass_by p pieces xs (replace (finish p pieces m f) m)
+    ]
 
 abbrev pub pass : Policy → List FuncName → Module → Module
 pass p order m = pass_by p m order m

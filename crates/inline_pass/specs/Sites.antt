@@ -30,4 +30,7 @@ moved at i p = if nat_eq p.0 at && nat_lt i p.1 then (sides.after, p.1 - (i + 1)
 -- the name that the call at a place calls
 abbrev pub called : Function → ℕ → ℕ → Option FuncName
 called f at i =
-    and_then (find_block at f.blocks) (λ b. and_then (slice_get b.lines i) (λ l. and_then (callee_of l.inst) (λ k. and_then (slice_get f.callees k) (λ c. Some c.name))))
+    and_then (find_block at f.blocks) (λ b.
+    and_then (slice_get b.lines i) (λ l.
+    and_then (callee_of l.inst) (λ k.
+    and_then (slice_get f.callees k) (λ c. Some c.name))))

@@ -18,10 +18,10 @@ use Rattle.ir_core.specs.declared.instructions.Arg.TheVariants as arg
 use Rattle.ir_core.specs.declared.instructions.BlockCall.{BlockCall}
 use Rattle.ir_core.specs.declared.instructions.Access.TheVariants.{Full, Uload, Sload}
 use Rattle.ir_core.specs.declared.places.Item.TheVariants as item
-use Rattle.ir_core.specs.Module.{Nop, Const, Pure, PureImm, Load, Store, StackLoad, StackStore, FuncAddr, Trap, Trapz, Trapnz, Jump, Brif, BrTable, Direct, Indirect, Instruction, Plain, Branches, SequencePoint, Return, Call, ReturnCall, TryCall, Line, Block, Function}
+use Rattle.ir_core.specs.Module.{Nop, Const, Pure, PureImm, Load, Store, StackLoad, StackStore, FuncAddr, Trap, Trapz, Trapnz, Jump, Brif, BrTable, Direct, Indirect, TryDirect, TryIndirect, Instruction, Plain, Branches, SequencePoint, Return, Call, ReturnCall, TryCall, Line, Block, Function}
 use Rattle.ir_core.specs.Signatures.{same_sig}
 use Rattle.ir_semantics.specs.Accepted.{no_terminator, entry_target, count_mismatch, type_mismatch, convention, signature_mismatch, slot_range, tag_place, not_available}
-use Rattle.ir_examples.proofs.Written.{signature, slot, declares, no_flags, f, g, h}
+use Rattle.ir_semantics.proofs.Written.{signature, slot, declares, no_flags, f, g, h}
 use Rattle.ir_check.specs.Faults.{check}
 use Rattle.ir_check.specs.Twins.{first_fault, early_fault}
 
@@ -75,13 +75,13 @@ lines =
 abbrev blocks : List Block
 blocks =
     block 0 (0 ∷ []) lines ∷
-    block 1 (19 ∷ []) (tagged (tag.User 9 ∷ []) [] (TryCall (Direct 0) 0 (19 ∷ []) (to 3 (arg.Ret 0 ∷ arg.Value 19 ∷ [])) (caught (Some 1) (to 4 (arg.Exn 0 ∷ arg.Exn 1 ∷ [])) ∷ caught None (to 5 []) ∷ [])) ∷ []) ∷
+    block 1 (19 ∷ []) (tagged (tag.User 9 ∷ []) [] (TryCall (TryDirect 0) 0 (19 ∷ []) (to 3 (arg.Ret 0 ∷ arg.Value 19 ∷ [])) (caught (Some 1) (to 4 (arg.Exn 0 ∷ arg.Exn 1 ∷ [])) ∷ caught None (to 5 []) ∷ [])) ∷ []) ∷
     block 2 [] (line None [] (Branches (BrTable 5 (to 5 []) (to 1 (arg.Value 0 ∷ []) ∷ to 5 [] ∷ []))) ∷ []) ∷
     block 3 (20 ∷ 21 ∷ []) (tagged (tag.User 3 ∷ []) [] (ReturnCall (Direct 0) (20 ∷ [])) ∷ []) ∷
     block 4 (22 ∷ 23 ∷ []) (line None [] (Branches (Jump (to 6 (arg.Value 22 ∷ [])))) ∷ []) ∷
     block 5 [] (line None [] (Plain (Trap (code.User 2))) ∷ []) ∷
     block 6 (24 ∷ []) (line None [] (Return (24 ∷ [])) ∷ []) ∷
-    block 7 [] (line None [] (TryCall (Indirect 0 8) 0 (0 ∷ []) (to 6 (arg.Ret 0 ∷ [])) []) ∷ []) ∷
+    block 7 [] (line None [] (TryCall (TryIndirect 8) 0 (0 ∷ []) (to 6 (arg.Ret 0 ∷ [])) []) ∷ []) ∷
     block 8 [] (line None [] (ReturnCall (Indirect 0 8) (0 ∷ [])) ∷ []) ∷
     []
 

@@ -1,10 +1,10 @@
 -- The tests are the rules.
-use Rattle.std.proofs.Common.{◌≡◌, ◌≢◌, ◌<◌, ℕ, suc, List, [], ◌∷◌, length, map, Option, Some, None, Bool, true, false, not, ◌&&◌, refl, ap, ap₂, subst, eq-eqb, ltb-true, lt-ltb}
+use Rattle.std.proofs.Common.{◌^◌, ◌≡◌, ◌≢◌, ◌<◌, ℕ, suc, List, [], ◌∷◌, length, map, Option, Some, None, Bool, true, false, not, ◌&&◌, refl, ap, ap₂, subst, eq-eqb, ltb-true, lt-ltb}
 use Rattle.std.specs.Prelude.{nat_eq, nat_lt, IsSomeAnd, IsSome, is_some, slice_get, ⊤}
-use Rattle.std.specs.List.{list_any}
+use Rattle.std.specs.List.{list_all, list_any}
 use Rattle.debug_tags.specs.declared.tags.Tag.{Tag}
 use Rattle.debug_tags.specs.Tags.{is_slot}
-use Rattle.clk_num.specs.Width.{same}
+use Rattle.clk_num.specs.Width.{same, bits_of}
 use Rattle.clk_num.specs.declared.width.Width.{Width}
 use Rattle.clk_num.specs.declared.width.Width.TheVariants.{W8, W16, W32, W64, W128}
 use Rattle.clk_num.specs.declared.op.Op.{Op}
@@ -20,7 +20,7 @@ use Rattle.ir_core.specs.declared.instructions.Arg.TheVariants as arg
 use Rattle.ir_core.specs.declared.instructions.BlockCall.{BlockCall}
 use Rattle.ir_core.specs.declared.places.Item.{Item}
 use Rattle.ir_core.specs.declared.places.Item.TheVariants as item
-use Rattle.ir_core.specs.Module.{Simple, Nop, Const, Pure, PureImm, Load, Store, StackLoad, StackStore, FuncAddr, Trap, Trapz, Trapnz, Branch, Jump, Brif, BrTable, CallTarget, Direct, Indirect, Instruction, Plain, Branches, SequencePoint, Return, Call, ReturnCall, TryCall, Line, Block, Function, Module}
+use Rattle.ir_core.specs.Module.{Simple, Nop, Const, Pure, PureImm, Load, Store, StackLoad, StackStore, FuncAddr, Trap, Trapz, Trapnz, Branch, Jump, Brif, BrTable, CallTarget, Direct, Indirect, call_target, Instruction, Plain, Branches, SequencePoint, Return, Call, ReturnCall, TryCall, Line, Block, Function, Module}
 use Rattle.ir_core.specs.Lookup.{find_function, find_block, type_of, signature_of, param_types, width_of, ty_of}
 use Rattle.ir_core.specs.Signatures.{same_type, same_conv, same_sig}
 use Rattle.ir_core.specs.Lists.{Each}
@@ -74,7 +74,7 @@ refused {a} {P} t = go a t
     go true t = record { yes = λ h. cc; back = λ f. absurd (f (t.yes refl)) }
     go false t = record { yes = λ h p. let z : false ≡ true = t.back p in cc; back = λ f. refl }
 
-each_is : {A : Type 0} (t : A → Bool) (P : A → Type 0) → ((a : A) → Twin (t a) (P a)) → (xs : List A) → Twin (test.each t xs) (Each P xs)
+each_is : {A : Type 0} (t : A → Bool) (P : A → Type 0) → ((a : A) → Twin (t a) (P a)) → (xs : List A) → Twin (list_all t xs) (Each P xs)
 each_is t P h [] = always
 each_is t P h (a ∷ xs) = both (h a) (each_is t P h xs)
 
@@ -230,7 +230,7 @@ counts_is_by f l (Call t args) = call_counts_is f t args (λ s. nat_eq (length l
 counts_is_by f l (ReturnCall t args) =
     call_counts_is f t args (λ s. nat_eq (length l.results) 0 && nat_eq (length s.results) (length f.sig.results)) (λ s. (length l.results ≡ 0) × (length s.results ≡ length f.sig.results)) (λ s. both (numbers (length l.results) 0) (numbers (length s.results) (length f.sig.results)))
 counts_is_by f l (TryCall t sig args normal table) =
-    call_counts_is f t args (λ s. nat_eq (length l.results) 0 && test.each (test.target_counts f (Some (length s.results))) (normal ∷ table_targets table)) (λ s. (length l.results ≡ 0) × Each (rule.TargetCounts f (Some (length s.results))) (normal ∷ table_targets table))
+    call_counts_is f (call_target t sig) args (λ s. nat_eq (length l.results) 0 && list_all (test.target_counts f (Some (length s.results))) (normal ∷ table_targets table)) (λ s. (length l.results ≡ 0) × Each (rule.TargetCounts f (Some (length s.results))) (normal ∷ table_targets table))
     (λ s. both (numbers (length l.results) 0) (each_is (test.target_counts f (Some (length s.results))) (rule.TargetCounts f (Some (length s.results))) (target_counts_is f (Some (length s.results))) (normal ∷ table_targets table)))
 
 pub counts_is : (f : Function) (l : Line) → Twin (test.counts f l) (rule.Counts f l)
@@ -253,6 +253,11 @@ op_types_is f l o ws =
 by_value_is : (f : Function) (l : Line) (v : ℕ) → Twin (test.by_value f l v) (IsSomeAnd (type_of f v) (λ t. l.ty ≡ Some t))
 by_value_is f l v = some_is (λ t. test.is_type l.ty (Some t)) (λ t. l.ty ≡ Some t) (λ t. a_type l.ty (Some t)) (type_of f v)
 
+four : {a b c d : Bool} {P Q R S : Type 0} → Twin a P → Twin b Q → Twin c R → Twin d S → Twin (a && b && c && d) (P × Q × R × S)
+four t u v w =
+    let h = both (both (both t u) v) w in
+    record { yes = λ z. let p = h.yes z in (p.0.0.0, p.0.0.1, p.0.1, p.1); back = λ p. h.back (((p.0, p.1), p.2), p.3) }
+
 three : {a b c : Bool} {P Q R : Type 0} → Twin a P → Twin b Q → Twin c R → Twin (a && b && c) (P × Q × R)
 three t u v = let h = both (both t u) v in record { yes = λ z. let p = h.yes z in (p.0.0, p.0.1, p.1); back = λ p. h.back ((p.0, p.1), p.2) }
 
@@ -263,10 +268,10 @@ five t u v w x =
 
 simple_types_is : (f : Function) (l : Line) (s : Simple) → Twin (test.simple_types f l s) (rule.SimpleTypes f l s)
 simple_types_is f l Nop = a_type l.ty None
-simple_types_is f l (Const x) = three (a_type l.ty None) (refused (widths x.width W128)) (have_types_is f l.results (ty_of x.width ∷ []))
-simple_types_is f l (Pure o args) = both (op_types_is f l o (rule.widths_of_values f args)) (a_type l.ty (rule.type_at f (rule.controlling o args)))
+simple_types_is f l (Const x) = four (a_type l.ty None) (refused (widths x.width W128)) (less x.value (2 ^ bits_of x.width)) (have_types_is f l.results (ty_of x.width ∷ []))
+simple_types_is f l (Pure o args) = both (op_types_is f l o (rule.widths_of_values f args)) (a_type l.ty (rule.type_at f (forms.controlling o args)))
 simple_types_is f l (PureImm o a imm) =
-    both (itself (forms.has_immediate o))
+    three (itself (forms.has_immediate o)) (less imm.value (2 ^ bits_of imm.width))
     (some_is (λ t. test.is_type l.ty (Some t) && same imm.width (width_of t) && test.op_types f l o (Some (width_of t ∷ imm.width ∷ []))) (λ t. (l.ty ≡ Some t) × (imm.width ≡ width_of t) × rule.OpTypes f l o (Some (width_of t ∷ imm.width ∷ [])))
     (λ t. three (a_type l.ty (Some t)) (widths imm.width (width_of t)) (op_types_is f l o (Some (width_of t ∷ imm.width ∷ [])))) (type_of f a))
 simple_types_is f l (Load access flags a offset) =
@@ -304,7 +309,7 @@ types_is_by f l (Call t args) = call_types_is f l t args (λ s. test.have_types 
 types_is_by f l (ReturnCall t args) =
     call_types_is f l t args (λ s. test.same_list same_type (param_types s.results) (param_types f.sig.results)) (λ s. param_types s.results ≡ param_types f.sig.results) (λ s. lists same_type one_type (param_types s.results) (param_types f.sig.results))
 types_is_by f l (TryCall t sig args normal table) =
-    call_types_is f l t args (λ s. test.target_types f (param_types s.results) [] normal && test.each (test.target_types f [] (ty.I64 ∷ ty.I64 ∷ [])) (table_targets table)) (λ s. rule.TargetTypes f (param_types s.results) [] normal × Each (rule.TargetTypes f [] (ty.I64 ∷ ty.I64 ∷ [])) (table_targets table))
+    call_types_is f l (call_target t sig) args (λ s. test.target_types f (param_types s.results) [] normal && list_all (test.target_types f [] (ty.I64 ∷ ty.I64 ∷ [])) (table_targets table)) (λ s. rule.TargetTypes f (param_types s.results) [] normal × Each (rule.TargetTypes f [] (ty.I64 ∷ ty.I64 ∷ [])) (table_targets table))
     (λ s. both (target_types_is f (param_types s.results) [] normal) (each_is (test.target_types f [] (ty.I64 ∷ ty.I64 ∷ [])) (rule.TargetTypes f [] (ty.I64 ∷ ty.I64 ∷ [])) (target_types_is f [] (ty.I64 ∷ ty.I64 ∷ [])) (table_targets table)))
 
 pub types_is : (f : Function) (l : Line) → Twin (test.types f l) (rule.Types f l)
@@ -328,7 +333,7 @@ declared_is m f c =
     if_is (λ (h : Function). test.same_option same_sig (slice_get f.sigs c.sig) (Some h.sig)) (λ (h : Function). slice_get f.sigs c.sig ≡ Some h.sig) (λ h. options same_sig sigs (slice_get f.sigs c.sig) (Some h.sig)) (find_function c.name m)
 
 pub signature_is : (f : Function) (i : Instruction) → Twin (test.instruction_signature f i) (rule.InstructionSignature f i)
-signature_is f (TryCall t sig args normal table) = options same_sig sigs (slice_get f.sigs sig) (signature_of f t)
+signature_is f (TryCall t sig args normal table) = options same_sig sigs (slice_get f.sigs sig) (signature_of f (call_target t sig))
 signature_is f (Plain p) = always
 signature_is f (Branches b) = always
 signature_is f SequencePoint = always

@@ -1,9 +1,10 @@
 -- The rules as tests, by the same cases as the rules.
-use Rattle.std.specs.Prelude.{ℕ, suc, List, [], ◌∷◌, length, map, Option, Some, None, Bool, true, false, not, ◌&&◌, nat_eq, nat_lt, is_some, if◌then◌else◌, slice_get}
-use Rattle.std.specs.List.{list_any}
+use Rattle.std.specs.Prelude.{ℕ, ◌^◌, suc, List, [], ◌∷◌, length, map, Option, Some, None, Bool, true, false, not, ◌&&◌, nat_eq, nat_lt, is_some, if◌then◌else◌, slice_get}
+use Rattle.std.specs.List.{list_all, list_any}
 use Rattle.debug_tags.specs.declared.tags.Tag.{Tag}
 use Rattle.debug_tags.specs.Tags.{is_slot}
-use Rattle.clk_num.specs.Width.{same}
+use Rattle.clk_num.specs.Width.{same, bits_of}
+use Rattle.clk_num.specs.Operations.{DataValue}
 use Rattle.clk_num.specs.declared.width.Width.{Width}
 use Rattle.clk_num.specs.declared.width.Width.TheVariants.{W128}
 use Rattle.clk_num.specs.declared.op.Op.{Op}
@@ -18,22 +19,18 @@ use Rattle.ir_core.specs.declared.instructions.Arg.TheVariants as arg
 use Rattle.ir_core.specs.declared.instructions.BlockCall.{BlockCall}
 use Rattle.ir_core.specs.declared.places.Item.{Item}
 use Rattle.ir_core.specs.declared.places.Item.TheVariants as item
-use Rattle.ir_core.specs.Module.{Simple, Nop, Const, Pure, PureImm, Load, Store, StackLoad, StackStore, FuncAddr, Trap, Trapz, Trapnz, Branch, Jump, Brif, BrTable, CallTarget, Direct, Indirect, Instruction, Plain, Branches, SequencePoint, Return, Call, ReturnCall, TryCall, Line, Block, Function, Module}
+use Rattle.ir_core.specs.Module.{Simple, Nop, Const, Pure, PureImm, Load, Store, StackLoad, StackStore, FuncAddr, Trap, Trapz, Trapnz, Branch, Jump, Brif, BrTable, CallTarget, Direct, Indirect, call_target, Instruction, Plain, Branches, SequencePoint, Return, Call, ReturnCall, TryCall, Line, Block, Function, Module}
 use Rattle.ir_core.specs.Lookup.{find_function, find_block, type_of, signature_of, param_types, width_of, ty_of}
 use Rattle.ir_core.specs.Signatures.{same_type, same_conv, same_sig}
 use Rattle.ir_semantics.specs.Values.{bytes_in, slot_place}
 use Rattle.ir_semantics.specs.Splice.{first_number}
 use Rattle.ir_core.specs.Uses.{targets, table_targets, values_used}
 use Rattle.ir_semantics.specs.Available.{terminates}
-use Rattle.ir_semantics.specs.Accepted.{simple_results, types_of, each_some, arg_type, controlling, type_at, access_form, access_suffix, store_form, widths_of_values, Rule, no_terminator, entry_target, count_mismatch, type_mismatch, convention, signature_mismatch, slot_range, tag_place, not_available}
-use Rattle.ir_core.specs.Forms.{has_immediate, access_type, flags_form}
+use Rattle.ir_semantics.specs.Accepted.{simple_results, types_of, each_some, arg_type, type_at, access_form, access_suffix, store_form, widths_of_values, Rule, no_terminator, entry_target, count_mismatch, type_mismatch, convention, signature_mismatch, slot_range, tag_place, not_available}
+use Rattle.ir_core.specs.Forms.{controlling, has_immediate, access_type, flags_form}
 use Rattle.ir_check.specs.Faults.{Check, tried, first_rules, checks}
 
 -- ---- words
-
-abbrev pub each : {A : Type 0} → (A → Bool) → List A → Bool
-each t [] = true
-each t (a ∷ as') = t a && each t as'
 
 -- there is one, and it passes
 abbrev pub some_and : {A : Type 0} → Option A → (A → Bool) → Bool
@@ -85,7 +82,7 @@ abbrev pub not_first : Function → BlockCall → Bool
 not_first f t = not (nat_eq t.block (first_number f.blocks))
 
 abbrev pub entry_is_no_target : Function → Line → Bool
-entry_is_no_target f l = each (not_first f) (targets l.inst)
+entry_is_no_target f l = list_all (not_first f) (targets l.inst)
 
 -- ---- CountMismatch
 
@@ -99,20 +96,20 @@ arg_counts results (arg.Ret i) = below results i
 arg_counts results (arg.Exn i) = nat_lt i 2
 
 abbrev pub target_counts : Function → Option ℕ → BlockCall → Bool
-target_counts f results t = some_and (find_block t.block f.blocks) (λ b. nat_eq (length t.args) (length b.params)) && each (arg_counts results) t.args
+target_counts f results t = some_and (find_block t.block f.blocks) (λ b. nat_eq (length t.args) (length b.params)) && list_all (arg_counts results) t.args
 
 abbrev pub call_counts : Function → CallTarget → List ℕ → (Sig → Bool) → Bool
 call_counts f t args more = some_and (signature_of f t) (λ sig. nat_eq (length args) (length sig.params) && more sig)
 
 abbrev pub instruction_counts : Function → Line → Instruction → Bool
 instruction_counts f l (Plain p) = nat_eq (length l.results) (simple_results p)
-instruction_counts f l (Branches b) = nat_eq (length l.results) 0 && each (target_counts f None) (targets (Branches b))
+instruction_counts f l (Branches b) = nat_eq (length l.results) 0 && list_all (target_counts f None) (targets (Branches b))
 instruction_counts f l SequencePoint = nat_eq (length l.results) 0
 instruction_counts f l (Return vs) = nat_eq (length l.results) 0 && nat_eq (length vs) (length f.sig.results)
 instruction_counts f l (Call t args) = call_counts f t args (λ sig. nat_eq (length l.results) (length sig.results))
 instruction_counts f l (ReturnCall t args) = call_counts f t args (λ sig. nat_eq (length l.results) 0 && nat_eq (length sig.results) (length f.sig.results))
 instruction_counts f l (TryCall t sig args normal table) =
-    call_counts f t args (λ s. nat_eq (length l.results) 0 && each (target_counts f (Some (length s.results))) (normal ∷ table_targets table))
+    call_counts f (call_target t sig) args (λ s. nat_eq (length l.results) 0 && list_all (target_counts f (Some (length s.results))) (normal ∷ table_targets table))
 
 abbrev pub counts : Function → Line → Bool
 counts f l = instruction_counts f l l.inst
@@ -141,11 +138,16 @@ op_types f l o ws = some_and ws (λ given. some_and (row o given) (λ results. h
 abbrev pub by_value : Function → Line → ℕ → Bool
 by_value f l v = some_and (type_of f v) (λ t. is_type l.ty (Some t))
 
+abbrev pub in_range : DataValue → Bool
+in_range x = nat_lt x.value (2 ^ bits_of x.width)
+
 abbrev pub simple_types : Function → Line → Simple → Bool
 simple_types f l Nop = is_type l.ty None
-simple_types f l (Const x) = is_type l.ty None && not (same x.width W128) && have_types f l.results (ty_of x.width ∷ [])
+simple_types f l (Const x) = is_type l.ty None && not (same x.width W128) && in_range x && have_types f l.results (ty_of x.width ∷ [])
 simple_types f l (Pure o args) = op_types f l o (widths_of_values f args) && is_type l.ty (type_at f (controlling o args))
-simple_types f l (PureImm o a imm) = has_immediate o && some_and (type_of f a) (λ t. is_type l.ty (Some t) && same imm.width (width_of t) && op_types f l o (Some (width_of t ∷ imm.width ∷ [])))
+simple_types f l (PureImm o a imm) =
+    has_immediate o && in_range imm
+    && some_and (type_of f a) (λ t. is_type l.ty (Some t) && same imm.width (width_of t) && op_types f l o (Some (width_of t ∷ imm.width ∷ [])))
 simple_types f l (Load access flags a offset) =
     is_type l.ty (access_suffix access) && flags_form flags && access_form access && is_type (type_of f a) (Some I64) && have_types f l.results (access_type access ∷ [])
 simple_types f l (Store narrow flags v a offset) =
@@ -171,13 +173,13 @@ call_types f l t args more = is_type l.ty None && called_types f t && some_and (
 
 abbrev pub instruction_types : Function → Line → Instruction → Bool
 instruction_types f l (Plain p) = simple_types f l p
-instruction_types f l (Branches b) = branch_types f l b && each (target_types f [] []) (targets (Branches b))
+instruction_types f l (Branches b) = branch_types f l b && list_all (target_types f [] []) (targets (Branches b))
 instruction_types f l SequencePoint = is_type l.ty None
 instruction_types f l (Return vs) = is_type l.ty None && have_types f vs (param_types f.sig.results)
 instruction_types f l (Call t args) = call_types f l t args (λ sig. have_types f l.results (param_types sig.results))
 instruction_types f l (ReturnCall t args) = call_types f l t args (λ sig. same_list same_type (param_types sig.results) (param_types f.sig.results))
 instruction_types f l (TryCall t sig args normal table) =
-    call_types f l t args (λ s. target_types f (param_types s.results) [] normal && each (target_types f [] (I64 ∷ I64 ∷ [])) (table_targets table))
+    call_types f l (call_target t sig) args (λ s. target_types f (param_types s.results) [] normal && list_all (target_types f [] (I64 ∷ I64 ∷ [])) (table_targets table))
 
 abbrev pub types : Function → Line → Bool
 types f l = instruction_types f l l.inst
@@ -197,7 +199,7 @@ abbrev pub declared : Module → Function → Callee → Bool
 declared m f c = if_some (find_function c.name m) (λ h. same_option same_sig (slice_get f.sigs c.sig) (Some h.sig))
 
 abbrev pub instruction_signature : Function → Instruction → Bool
-instruction_signature f (TryCall t sig args normal table) = same_option same_sig (slice_get f.sigs sig) (signature_of f t)
+instruction_signature f (TryCall t sig args normal table) = same_option same_sig (slice_get f.sigs sig) (signature_of f (call_target t sig))
 instruction_signature f _ = true
 
 -- ---- SlotRange
@@ -234,7 +236,7 @@ module _ (available : Function → ℕ → ℕ → ℕ → Bool) where
   kept_at_line f b block i l signature_mismatch = instruction_signature f l.inst
   kept_at_line f b block i l slot_range = instruction_slot f l.inst
   kept_at_line f b block i l tag_place = instruction_tags l.tags l.inst
-  kept_at_line f b block i l not_available = each (available f b i) (values_used l.inst)
+  kept_at_line f b block i l not_available = list_all (available f b i) (values_used l.inst)
 
   abbrev pub is_first : Function → ℕ → Bool
   is_first f b = nat_eq b (first_number f.blocks)

@@ -1,0 +1,2 @@
+//! Worked examples of the first fault of a module, checked by computation.
+#![tactic(auto)]

@@ -1,0 +1,4 @@
+pub mod Firsts
+pub mod Tests
+pub mod ByTests
+pub mod Walking

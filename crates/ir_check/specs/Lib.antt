@@ -1,0 +1,4 @@
+pub mod Faults
+pub mod Twins
+pub mod Laws
+pub mod Accepting

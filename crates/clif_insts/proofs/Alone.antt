@@ -3,7 +3,7 @@ use Rattle.std.proofs.Common.{◌≡◌, Bool, true, false, cond, ◌==◌, List
 use Rattle.std.specs.Prelude.{◌⊎◌}
 use Rattle.std.proofs.lemmas.Bool.{eqb-true}
 use Rattle.grammar.specs.Rules.{Lexeme, Rule, Many, Value, Kind, Syntax, Out, heads, exts, read, ◌>>=◌}
-use Rattle.grammar.proofs.Laws.{sound, complete}
+use Rattle.grammar.proofs.Exactness.{sound, complete}
 use Rattle.clif_words.specs.declared.class.Class.{Class}
 use Rattle.clif_words.specs.declared.class.Class.TheVariants as classes
 use Rattle.clif_insts.specs.declared.raw.RawName.{RawName}

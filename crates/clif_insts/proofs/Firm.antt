@@ -4,7 +4,7 @@ use Rattle.std.proofs.lemmas.Bool.{eqb-true, eq-eqb}
 use Rattle.std.proofs.lemmas.List.Folds.{list_any-append}
 use Rattle.grammar.specs.Rules.{Lexeme, Kind, Rule, Empty, Tok, Seq, Alt, Opt, Many, Refuse, Chain, Value, Each, Derives, heads, member, nullable, firsts, exts, disjoint, good, Out, ◌>>=◌, repeat, read}
 use Rattle.grammar.proofs.Sets.{both, not_true, one_way, heads_split, heads_append, heads_some, disjoint_heads}
-use Rattle.grammar.proofs.Laws.{front, front_each, complete, some_front}
+use Rattle.grammar.proofs.Exactness.{front, front_each, complete, some_front}
 use Rattle.grammar.proofs.Past.{Left, shrinks}
 
 -- no word is refused where the rule begins

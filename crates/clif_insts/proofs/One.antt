@@ -4,7 +4,7 @@ use Rattle.std.proofs.lemmas.List.{append-nil}
 use Rattle.grammar.specs.Rules.{Lexeme, Rule, Value, Kind, Cut, Derives, Begins, StopsAt, Answers, Out, good, read, read_all, heads_any, ◌>>=◌}
 use Rattle.grammar.specs.Rules as rules
 use Rattle.grammar.proofs.Binds.{ok_is}
-use Rattle.grammar.proofs.Laws.{sound, complete}
+use Rattle.grammar.proofs.Exactness.{sound, complete}
 use Rattle.grammar.proofs.Past.{Left, past}
 use Rattle.grammar.proofs.Exact.{exact}
 use Rattle.clif_words.specs.declared.class.Class.TheVariants as classes

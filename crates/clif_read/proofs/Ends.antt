@@ -4,7 +4,7 @@ use Rattle.std.specs.Prelude.{◌⊎◌}
 use Rattle.std.proofs.lemmas.Bool.{eq-eqb}
 use Rattle.grammar.specs.Rules.{Lexeme, Class, Kind, Rule, Tok, Seq, Alt, Refuse, Value, Derives, ends, nullable, heads, firsts}
 use Rattle.grammar.proofs.Chains.{ends-append}
-use Rattle.grammar.proofs.Laws.{front}
+use Rattle.grammar.proofs.Exactness.{front}
 use Rattle.grammar.proofs.Tails.{may_end, quiet}
 use Rattle.clif_insts.specs.Values.{either}
 

@@ -5,7 +5,7 @@ use Rattle.std.proofs.lemmas.List.{append-nil}
 use Rattle.grammar.proofs.Chains.{ends-append}
 use Rattle.grammar.specs.Rules.{Lexeme, Rule, Tok, Seq, Alt, Opt, Many, Chain, Value, Cut, Each, Links, ByFlag, ends, nullable, good, Derives}
 use Rattle.grammar.proofs.Binds.{ok_is}
-use Rattle.grammar.proofs.Laws.{complete}
+use Rattle.grammar.proofs.Exactness.{complete}
 use Rattle.grammar.proofs.Same.{Splits, SplitsBegun, same_texts, same_beginnings}
 use Rattle.grammar.proofs.Tails.{tok_ends, may_end, Tail, tail_same, tail_end, tail_alt, tail_seq, Or, splits, splits_begun}
 use Rattle.clif_insts.specs.Values.{either}

@@ -3,7 +3,7 @@ use Rattle.std.proofs.Common.{◌≡◌, ℕ, zero, suc, Bool, true, false, cond
 use Rattle.std.specs.Prelude.{◌⊎◌}
 use Rattle.grammar.specs.Rules.{Lexeme, Opt, Many, Value, ByFlag, Derives, Out, ends, used, heads, firsts, chain, by_flag, read, ◌>>=◌}
 use Rattle.grammar.proofs.Chains.{used_is}
-use Rattle.grammar.proofs.Laws.{flag_firsts, sound, sound_flag}
+use Rattle.grammar.proofs.Exactness.{flag_firsts, sound, sound_flag}
 use Rattle.clif_words.specs.declared.class.Class.TheVariants as classes
 use Rattle.clif_words.specs.Classes.{code}
 use Rattle.clif_words.specs.Terminals.{◌then◌, ◌or◌, comma, arrow, greater, value}

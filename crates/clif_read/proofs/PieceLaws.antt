@@ -3,7 +3,7 @@ use Rattle.std.proofs.Common.{◌≡◌, ℕ, ◌+◌, ◌-◌, ◌≤◌, true,
 use Rattle.std.proofs.lemmas.List.{append-nil, map-append, take_rest}
 use Rattle.grammar.specs.Rules.{Lexeme, Many, Value, Derives, Out, heads_any, read}
 use Rattle.grammar.proofs.Binds.{ok_is}
-use Rattle.grammar.proofs.Laws.{sound, complete}
+use Rattle.grammar.proofs.Exactness.{sound, complete}
 use Rattle.grammar.proofs.Joins.{each_join, seq_join}
 use Rattle.clif_lex.specs.declared.spans.Token.{Token}
 use Rattle.clif_lex.specs.Lexing.{tokens_of}

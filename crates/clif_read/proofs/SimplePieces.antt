@@ -8,7 +8,7 @@ use Rattle.std.proofs.lemmas.List.{append-nil, map-append, length-map}
 use Rattle.std.proofs.lemmas.List.Folds.{list_all-append}
 use Rattle.grammar.specs.Rules.{Lexeme, Value, Derives, Each}
 use Rattle.grammar.specs.Rules as rules
-use Rattle.grammar.proofs.Laws.{sound}
+use Rattle.grammar.proofs.Exactness.{sound}
 use Rattle.grammar.proofs.Joins.{each_join}
 use Rattle.clif_lex.specs.declared.spans.Token.{Token}
 use Rattle.clif_lex.specs.Pieces.{IsPiece, IsCut}

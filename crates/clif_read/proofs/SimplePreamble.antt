@@ -16,7 +16,7 @@ use Rattle.clif_lex.specs.Lexing.{◌>>=◌, is_header_word, is_preamble, token,
 use Rattle.clif_lex.specs.Pieces.{IsPiece}
 use Rattle.clif_lex.specs.Spans.{spelling}
 use Rattle.grammar.specs.Rules.{Lexeme, Value, Derives}
-use Rattle.grammar.proofs.Laws.{front}
+use Rattle.grammar.proofs.Exactness.{front}
 use Rattle.clif_read.specs.SimpleClasses.{code}
 use Rattle.clif_read.specs.SimpleGrammar.{module_rule}
 use Rattle.clif_read.specs.SimpleWords.{word, lexeme_in, lexeme_as, lexemes, is_comment}

@@ -4,7 +4,7 @@ use Rattle.std.specs.Prelude.{is_some, MatchOption, IfOk, IfErr}
 use Rattle.std.proofs.lemmas.List.{append-nil}
 use Rattle.grammar.specs.Rules.{Lexeme, Value, Derives, heads, heads_any}
 use Rattle.grammar.specs.Rules as rules
-use Rattle.grammar.proofs.Laws.{sound, complete}
+use Rattle.grammar.proofs.Exactness.{sound, complete}
 use Rattle.clif_lex.specs.declared.spans.Token.{Token}
 use Rattle.ir_core.specs.Module.{Module}
 use Rattle.clif_read.specs.declared.simple.errors.SimpleErr.{SimpleErr}

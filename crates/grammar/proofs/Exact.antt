@@ -3,7 +3,7 @@ use Rattle.std.proofs.Common.{◌≡◌, ◌≤◌, true, cond, List, [], ◌∷
 use Rattle.std.proofs.lemmas.List.{append-nil}
 use Rattle.grammar.specs.Rules.{Lexeme, Kind, Syntax, Rule, Value, Derives, Begins, Refuses, good, Out, ◌>>=◌, read, heads_any, read_all, Answers}
 use Rattle.grammar.proofs.Binds.{ok_is}
-use Rattle.grammar.proofs.Laws.{sound, complete}
+use Rattle.grammar.proofs.Exactness.{sound, complete}
 use Rattle.grammar.proofs.Stops.{stopped, err_is}
 use Rattle.grammar.proofs.Past.{Left, past, derives_begins}
 use Rattle.grammar.proofs.Refused.{refused}

@@ -6,7 +6,7 @@ use Rattle.std.proofs.lemmas.List.{append-nil}
 use Rattle.grammar.specs.Rules.{Lexeme, Kind, Rule, Empty, Tok, Seq, Alt, Opt, Many, Refuse, Chain, Value, Each, Links, ByFlag, OnFlag, ends, Derives, Begins, heads, nullable, firsts, exts, disjoint, good, Out, ◌>>=◌, repeat, used, chain, by_flag, read}
 use Rattle.grammar.proofs.Sets.{both, not_true, heads_append, heads_some, disjoint_heads}
 use Rattle.grammar.proofs.Chains.{ends-append, front_chain, chain_step}
-use Rattle.grammar.proofs.Laws.{front_flag, flag_firsts, complete_flag, some_flag, free_flag, good_chain, sound, front, begins_front, Complete, complete, some_front}
+use Rattle.grammar.proofs.Exactness.{front_flag, flag_firsts, complete_flag, some_flag, free_flag, good_chain, sound, front, begins_front, Complete, complete, some_front}
 use Rattle.grammar.proofs.Stops.{stopped}
 
 abbrev Stop : Type 0

@@ -3,7 +3,7 @@ use Rattle.std.proofs.Common.{◌≡◌, ℕ, zero, suc, ◌<◌, Bool, true, fa
 use Rattle.grammar.specs.Rules.{Lexeme, Kind, Rule, Empty, Tok, Seq, Alt, Opt, Many, Refuse, Chain, Value, Each, ByFlag, OnFlag, ends, Derives, Refuses, heads, nullable, firsts, exts, disjoint, good, repeat, chain, by_flag, read}
 use Rattle.grammar.proofs.Sets.{both, not_true, heads_left, heads_right, heads_append, heads_some, disjoint_heads}
 use Rattle.grammar.proofs.Chains.{front_chain, refused_chain}
-use Rattle.grammar.proofs.Laws.{front_flag, flag_firsts, complete_flag, some_flag, free_flag, good_chain, front, front_each, Complete, complete, some_front}
+use Rattle.grammar.proofs.Exactness.{front_flag, flag_firsts, complete_flag, some_flag, free_flag, good_chain, front, front_each, Complete, complete, some_front}
 
 pub refuses_front : (r : Rule) (ts : List Lexeme) (x : Lexeme) (k : Kind) (tail : List Lexeme) → Refuses r ts x k → heads (firsts r) (ts ++ x ∷ tail) ≡ true
 refuses_front Empty ts x k tail d = absurd d

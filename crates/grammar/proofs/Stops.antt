@@ -4,7 +4,7 @@ use Rattle.std.specs.Prelude.{◌⊎◌}
 use Rattle.grammar.specs.Rules.{Lexeme, Kind, Syntax, Rule, Empty, Tok, Seq, Alt, Opt, Many, Refuse, Chain, Value, ByFlag, OnFlag, Derives, Begins, Refuses, member, heads, firsts, Out, ◌>>=◌, token, refusal, repeat, by_flag, read}
 use Rattle.grammar.proofs.Binds.{Stop, bind_err, ok_err, regroup}
 use Rattle.grammar.proofs.Chains.{stopped_chain}
-use Rattle.grammar.proofs.Laws.{sound_flag, flag_firsts, sound, Took}
+use Rattle.grammar.proofs.Exactness.{sound_flag, flag_firsts, sound, Took}
 
 abbrev failed : {A : Type 0} → Stop → Result A Stop
 failed e = Err e

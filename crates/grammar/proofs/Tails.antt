@@ -5,7 +5,7 @@ use Rattle.std.proofs.lemmas.Bool.{eq-eqb}
 use Rattle.std.proofs.lemmas.List.{append-nil}
 use Rattle.grammar.specs.Rules.{Lexeme, Rule, Empty, Tok, Seq, Alt, Opt, Many, Refuse, Chain, Value, Cut, Each, ends, nullable, heads, firsts, Derives, Begins}
 use Rattle.grammar.proofs.Binds.{regroup}
-use Rattle.grammar.proofs.Laws.{front}
+use Rattle.grammar.proofs.Exactness.{front}
 use Rattle.grammar.proofs.Past.{derives_begins}
 use Rattle.grammar.proofs.Chains.{ends-append}
 use Rattle.grammar.proofs.Same.{Whole, Splits, SplitsBegun}

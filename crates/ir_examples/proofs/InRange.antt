@@ -1,5 +1,5 @@
 -- Worked examples: a number that is not of its type has no form.
-use Rattle.std.specs.Prelude.{◌≡◌, ◌<◌, [], ◌∷◌, Some, None}
+use Rattle.std.specs.Prelude.{◌<◌, [], ◌∷◌, Some, None}
 use Rattle.std.proofs.Common.{arith}
 use Rattle.clk_num.specs.declared.width.Width.TheVariants.{W8}
 use Rattle.clk_num.specs.declared.op.Op.TheVariants.{Iadd}

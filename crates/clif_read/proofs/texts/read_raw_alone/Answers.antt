@@ -2,7 +2,7 @@ use Rattle.std.proofs.Common.{length, refl}
 use Rattle.clif_lex.proofs.Pieces.{tokens_are_in}
 use Rattle.clif_words.specs.Lexemes.{lexemes}
 use Rattle.clif_read.proofs.Whole.{found_at, stopped_at}
-use Rattle.clif_read.proofs.texts.read_alone.Goals as goal
+use Rattle.clif_read.proofs.texts.read_raw_alone.Goals as goal
 
 pub new-reader-requires-clause-inside : goal.new-reader-requires-clause-inside
 new-reader-requires-clause-inside c = tokens_are_in c.args.text.now c.args.tokens.now c.requires.whole

@@ -54,10 +54,11 @@ mark_formed len x (Spot spot) token h = subst (λ (s : ℕ). s < len) (sym h) to
 mark_formed len x (Word n) token h = subst (λ (n : RawName). (n.spot < len) × (n.number < 2 ^ 64)) (sym h) (token.inside, token.number)
 mark_formed len x (Opcode o) token h = subst (λ (o : RawOpcode). o.spot < len) (sym h) token.inside
 mark_formed len x (Number n) token h = subst (λ (n : RawNumber). (n.spot < len) × (is_wide n.value ≡ true)) (sym h) (token.inside, token.amount)
-mark_formed len x (Name bytes spot) token h =
-    (subst (λ (s : ℕ). s < len) (sym h.1) token.inside,
-    (λ e. token.named h.2 (sym h.0 ∙ e)),
-    subst (λ (bs : List ℕ). list_all is_word_byte bs ≡ true) (sym h.0) token.name)
+mark_formed len x (Name bytes spot) token h = (
+  subst (λ (s : ℕ). s < len) (sym h.1) token.inside,
+  (λ e. token.named h.2 (sym h.0 ∙ e)),
+  subst (λ (bs : List ℕ). list_all is_word_byte bs ≡ true) (sym h.0) token.name,
+)
 
 pub each_formed : {ms : List Mark} {xs : List Lexeme} → Among ms xs → (len : ℕ) → lists.Each (IsTextToken len) xs → lists.Each (MarkFormed len) ms
 each_formed done len tokens = tt

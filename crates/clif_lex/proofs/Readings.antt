@@ -121,9 +121,12 @@ stand_from whole last preamble at text [] inside e d = tt
 stand_from whole last preamble at text (x ∷ xs) inside e (n, within, all, stand) =
     let standing = subst (λ (r : List ℕ). Stands preamble (at + n) r (Ok x)) rest stand.0 in
     let token = token_inside whole preamble (at + n) x start_inside standing in
-    let start : x.start ≡ at + n = stand.0.0 in
-    (omega arith, token, (preamble, token_spelled whole preamble (at + n) x standing),
-    stand_from whole last (preamble && is_preamble x.kind) x.end (drop (x.end - (at + n)) (drop n text)) xs token.within past stand.1)
+    let start : x.start ≡ at + n = stand.0.0 in (
+      omega arith,
+      token,
+      (preamble, token_spelled whole preamble (at + n) x standing),
+      stand_from whole last (preamble && is_preamble x.kind) x.end (drop (x.end - (at + n)) (drop n text)) xs token.within past stand.1,
+    )
   where
     start_inside : at + n ≤ length whole
     start_inside = let k : length text ≡ length whole - at = ap length e ∙ length-drop at whole in omega arith

@@ -140,12 +140,16 @@ module _ (len : ℕ) (us rest ts : List Lexeme) (cut : ts ≡ us ++ rest) (token
 
 from_formed : (len : ℕ) (vs : List Part) → FromFormed len vs
 from_formed len [] after ts l formed is tokens d = (formed, tt)
-from_formed len (inl (inl w) ∷ vs) after ts l formed is tokens d =
-    (formed, from_formed len vs (ends return_code after d.0) d.1 (named_value None w) (line_formed.formed len d.0 (inl w) (front_tokens len d.0 d.1 ts d.2 tokens) d.3.0.1)
-    (λ e. sym (line_ends.so d.0 (inl w) d.3.0.1 after) ∙ e) (rest_tokens len d.0 d.1 ts d.2 tokens) d.3.1)
-from_formed len (inl (inr w) ∷ vs) after ts l formed is tokens d =
-    (formed, from_formed len vs (ends return_code after d.0) d.1 (other_line_value w) (line_formed.formed len d.0 (inr w) (front_tokens len d.0 d.1 ts d.2 tokens) d.3.0.1)
-    (λ e. sym (line_ends.so d.0 (inr w) d.3.0.1 after) ∙ e) (rest_tokens len d.0 d.1 ts d.2 tokens) d.3.1)
+from_formed len (inl (inl w) ∷ vs) after ts l formed is tokens d = (
+  formed,
+  from_formed len vs (ends return_code after d.0) d.1 (named_value None w) (line_formed.formed len d.0 (inl w) (front_tokens len d.0 d.1 ts d.2 tokens) d.3.0.1)
+      (λ e. sym (line_ends.so d.0 (inl w) d.3.0.1 after) ∙ e) (rest_tokens len d.0 d.1 ts d.2 tokens) d.3.1,
+)
+from_formed len (inl (inr w) ∷ vs) after ts l formed is tokens d = (
+  formed,
+  from_formed len vs (ends return_code after d.0) d.1 (other_line_value w) (line_formed.formed len d.0 (inr w) (front_tokens len d.0 d.1 ts d.2 tokens) d.3.0.1)
+      (λ e. sym (line_ends.so d.0 (inr w) d.3.0.1 after) ∙ e) (rest_tokens len d.0 d.1 ts d.2 tokens) d.3.1,
+)
 from_formed len (inr v ∷ vs) after ts l formed is tokens d =
     behind_return len vs (from_formed len vs) (line_or_values_value v) (ends return_code after d.0) d.1 l formed (is d.3.0.0)
     (line_or_values_formed.formed len d.0 v (front_tokens len d.0 d.1 ts d.2 tokens) d.3.0.1) (sym (line_or_values_ends.so d.0 v d.3.0.1 after)) (rest_tokens len d.0 d.1 ts d.2 tokens) d.3.1
@@ -182,9 +186,10 @@ blocks_formed : Formed (Each BlockFormed) (block_rule then Many block_rule then 
 blocks_formed = record {
   formed = λ len ts v tokens d.
       let more = d.3.1 in
-      let rest = rest_tokens len d.0 d.1 ts d.2 tokens in
-      (block_formed.formed len d.0 v.0 (front_tokens len d.0 d.1 ts d.2 tokens) d.3.0,
-      (many_formed block_formed).formed len more.0 v.1.0 (front_tokens len more.0 more.1 d.1 more.2 rest) more.3.0);
+      let rest = rest_tokens len d.0 d.1 ts d.2 tokens in (
+        block_formed.formed len d.0 v.0 (front_tokens len d.0 d.1 ts d.2 tokens) d.3.0,
+        (many_formed block_formed).formed len more.0 v.1.0 (front_tokens len more.0 more.1 d.1 more.2 rest) more.3.0,
+      );
 }
 
 function_formed : Formed FunctionFormed function function_value

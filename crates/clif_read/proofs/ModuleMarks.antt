@@ -191,14 +191,18 @@ among_sub (skip s) (take h a) = pass (among_sub s a)
 among_sub (keep s) (take h a) = take h (among_sub s a)
 
 -- behind the same marks
-sub_put : (ps : List Mark) {ms ns ks : List Mark} → Sub ms (ns ++ ks) → Sub (ps ++ ms) ((ps ++ ns) ++ ks)
-sub_put [] s = s
-sub_put (p ∷ ps) s = keep (sub_put ps s)
+sub_put : (ps : List Mark) {ms : List Mark} (ns ks : List Mark) → Sub ms (ns ++ ks) → Sub (ps ++ ms) ((ps ++ ns) ++ ks)
+sub_put [] ns ks s = s
+sub_put (p ∷ ps) ns ks s = keep (sub_put ps ns ks s)
 
 given : (values : List RawName) (l : RawLine) → Sub (line_marks (with_values values l)) (line_marks l ++ names_marks values)
 given values (raw_lines.Alias location alias x) = sub_front (line_marks (raw_lines.Alias location alias x)) (names_marks values)
 given values (raw_lines.Inst location tags results i) =
-    sub_put (location_marks location) (sub_put (flat_map tag_marks tags) (sub_put (names_marks results) (keep (sub_behind (operand_marks i.operands) (names_marks values) (sub_same (names_marks values))))))
+    let last = names_marks values in
+    let own = inst_marks i in
+    sub_put (location_marks location) (flat_map tag_marks tags ++ (names_marks results ++ own)) last
+    (sub_put (flat_map tag_marks tags) (names_marks results ++ own) last
+    (sub_put (names_marks results) own last (keep (sub_behind (operand_marks i.operands) last (sub_same last)))))
 
 lines_sub : (l : RawLine) (parts : List LinePart) → Sub (flat_map line_marks (lines_from l parts)) (line_marks l ++ flat_map part_marks parts)
 lines_sub l [] = sub_same (line_marks l ++ [])

@@ -30,5 +30,5 @@ pub use raw::{
     RawLine, RawModule, RawParam, RawSignature, RawTag,
 };
 pub use shares::read_raw;
-pub use texts::read_raw_alone;
 pub use simple::{SimpleErr, read_simple, read_simple_text};
+pub use texts::read_raw_alone;

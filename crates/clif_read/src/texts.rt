@@ -32,11 +32,7 @@ fn error_at(stop: Stop, spot: usize) -> TextErr
 /// # Errors
 ///
 /// Those of `read_raw`.
-pub fn read_raw_alone(
-    alloc: Global,
-    text: &[u8],
-    tokens: &Tokens,
-) -> Result<RawModule, TextErr>
+pub fn read_raw_alone(alloc: Global, text: &[u8], tokens: &Tokens) -> Result<RawModule, TextErr>
     requires whole { tokens_of text.now ≡ Ok tokens.now }
     ensures found { IfOk result (λ m. IsModule (lexemes text.now tokens.now) m) }
     ensures stop { IfErr result (λ e. Stopped (lexemes text.now tokens.now) (length text.now) e) }

@@ -30,8 +30,8 @@ pub use lists::{RawNames, one_item};
 pub use numbers::number;
 pub use opening::Opening;
 pub use raw::{
-    RawArg, RawEntry, RawFlag, RawInst, RawName, RawNumber, RawOperands, RawTarget, RawText,
-    RawTrap,
+    RawArg, RawEntry, RawFlag, RawInst, RawName, RawNumber, RawOpcode, RawOperands, RawTarget,
+    RawText, RawTrap,
 };
 pub use reader::Reader;
 pub use stop::Stop;

@@ -9,5 +9,5 @@ mod words;
 
 pub use class::Class;
 pub use items::{Meaning, token_meaning, word_meaning};
-pub use opcodes::{OPCODES, Opcode, OpcodeRow, opcode_at, opcode_rows};
+pub use opcodes::{OPCODES, Opcode, OpcodeRow, opcode_at, opcode_of, opcode_rows};
 pub use words::Entry;

@@ -1,6 +1,7 @@
 //! Laws of finished bodies: functions without a body, each of which has its law as its contract.
 ghost use Rattle.inline_pass.specs.FinishedLaws.{FinishedEquation, FinishedKeep, OrderInUse, PassIsFinished, RenumberedFinishedKeep};
 ghost use Rattle.inline_pass.specs.GoingLaws.{Begins, Calls, Passes, Takes, TakesLast, Turns};
+ghost use Rattle.inline_pass.specs.Putting.{FinishedFit, Splices};
 ghost use Rattle.inline_pass.specs.OtherBodies.{FinishedRespectNumbers};
 ghost use Rattle.inline_pass.specs.Kept.{FinishedAccepted, FinishedWritable, RenumberedFinishedAccepted, RenumberedFinishedWritable};
 
@@ -80,6 +81,16 @@ pub fn loop_calls()
 /// Behind an own line at which nothing is inlined.
 pub fn loop_passes()
     ensures { Passes }
+{}
+
+/// The splice of the code at an own line, by numbers that leave the caller's as they are, gives what the loop needs of it.
+pub fn loop_splices()
+    ensures { Splices }
+{}
+
+/// What the loop needs of the function and of the bodies before its first splice.
+pub fn finished_fit()
+    ensures { FinishedFit }
 {}
 
 /// Behind a plain call that is inlined.

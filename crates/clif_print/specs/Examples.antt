@@ -18,7 +18,7 @@ use Rattle.ir_core.specs.declared.signatures.Purpose.TheVariants as purpose
 use Rattle.ir_core.specs.declared.signatures.Ty.{Ty}
 use Rattle.ir_core.specs.declared.signatures.Ty.TheVariants.{I8, I16, I32, I64, I128}
 use Rattle.ir_core.specs.Module.{Instruction, Line, Block, Function}
-use Rattle.ir_core.specs.Module.{Const, Pure, PureImm, Load, Store, StackStore, Nop, Trap, Jump, BrTable, Direct, Indirect, Plain, Branches, Return, Call}
+use Rattle.ir_core.specs.Module.{Const, Pure, PureImm, Load, Store, StackStore, Nop, Trap, Jump, BrTable, Direct, Indirect, TryIndirect, Plain, Branches, Return, Call, TryCall}
 use Rattle.ir_text.specs.Text.{text_of}
 use Rattle.ir_core.specs.Calling.{inlined}
 
@@ -104,20 +104,22 @@ suffixed = record {
   slots = [];
   sigs = [];
   callees = [];
-  types = (0, I64) ∷ (1, I64) ∷ (2, I64) ∷ (3, I64) ∷ (4, I128) ∷ (5, I128) ∷ (6, I8) ∷ (7, I64) ∷ (8, I32) ∷ [];
+  types = (0, I64) ∷ (1, I64) ∷ (2, I64) ∷ (3, I64) ∷ (4, I128) ∷ (5, I128) ∷ (6, I8) ∷ (7, I64) ∷ (8, I64) ∷ (9, I64) ∷ [];
   blocks = block 0 (0 ∷ 1 ∷ [])
       (typed I64 (2 ∷ []) (Plain (Pure Iadd (3 ∷ 0 ∷ []))) ∷ typed I64 (3 ∷ []) (Plain (Pure Imul (2 ∷ 1 ∷ []))) ∷ typed I64 (4 ∷ []) (Plain (Pure Iconcat (0 ∷ 1 ∷ [])))
       ∷ typed I128 (5 ∷ []) (Plain (PureImm Band 4 (record { width = W128; value = 2 ^ 64 - 1 }))) ∷ bare (6 ∷ []) (Plain (Const (record { width = W8; value = 255 })))
       ∷ typed I64 (7 ∷ []) (Plain (PureImm Iadd 0 (record { width = W64; value = 2 ^ 64 - 1 })))
-      ∷ bare (8 ∷ []) (Plain (Load (access.Uload I64 4) (record no_flags { notrap = true; aligned = true; vmctx = true }) 0 (negsuc 7)))
+      ∷ typed I64 (8 ∷ []) (Plain (Load (access.Uload I64 4) (record no_flags { notrap = true; aligned = true; vmctx = true }) 0 (negsuc 7)))
+      ∷ typed I32 (9 ∷ []) (Plain (Load (access.Uload I64 4) no_flags 0 (pos 0)))
       ∷ typed I8 [] (Plain (Store None (record no_flags { big = true }) 6 0 (pos 2))) ∷ bare [] (Plain Nop)
-      ∷ bare [] (Call (Indirect 0 0) (1 ∷ [])) ∷ bare [] (Branches (BrTable 6 (to 0 []) (to 0 [] ∷ to 0 (arg.Value 0 ∷ []) ∷ []))) ∷ []) ∷ [];
+      ∷ bare [] (Call (Indirect 0 0) (1 ∷ [])) ∷ bare [] (TryCall (TryIndirect 0) 0 (1 ∷ []) (to 0 []) [])
+      ∷ bare [] (Branches (BrTable 6 (to 0 []) (to 0 [] ∷ to 0 (arg.Value 0 ∷ []) ∷ []))) ∷ []) ∷ [];
 }
 
 abbrev pub suffixed_text : List ℕ
 suffixed_text =
     codes "function %f(i64, i64) fast {\nblock0(v0: i64, v1: i64):\n    v2 = iadd.i64 v3, v0\n    v3 = imul v2, v1\n    v4 = iconcat v0, v1\n    v5 = band_imm v4, 18446744073709551615\n"
-    ++ codes "    v6 = iconst.i8 -1\n    v7 = iadd_imm v0, -1\n    v8 = uload32 notrap aligned vmctx v0-8\n    store big v6, v0+2\n    nop\n    call_indirect sig0, v0(v1)\n    br_table v6, block0, [block0, block0(v0)]\n}\n"
+    ++ codes "    v6 = iconst.i8 -1\n    v7 = iadd_imm v0, -1\n    v8 = uload32 notrap aligned vmctx v0-8\n    v9 = uload32.i32 v0\n    store big v6, v0+2\n    nop\n    call_indirect sig0, v0(v1)\n    try_call_indirect v0(v1), sig0, block0, []\n    br_table v6, block0, [block0, block0(v0)]\n}\n"
 
 pub record WorkedTexts : Type 0 where
   pub thrown_is : text_of (inlined ∷ []) ≡ thrown_text

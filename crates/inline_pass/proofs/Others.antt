@@ -414,7 +414,7 @@ module _ (p : Policy) (m : Module) (is : IsModule m) (ok : Accepted m) (f : Func
       by (h, there, same) = (h, found_in (apart m f.name x) h there, sym (some_same same))
 
   -- it is one of the module of finished bodies
-  passed_is : (x : FuncName) (h : Function) → find_function x m ≡ Some h → find_function x (passed p m) ≡ Some (finished p m h)
+  pub passed_is : (x : FuncName) (h : Function) → find_function x m ≡ Some h → find_function x (passed p m) ≡ Some (finished p m h)
   passed_is x h q = function_map (finished p m) (finished_named p m) x m h q
 
   kept : IsModule (passed p m) × Accepted (passed p m)

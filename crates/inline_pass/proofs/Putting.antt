@@ -22,6 +22,8 @@ use Rattle.inline_outcomes.proofs.Merging.{own_callee}
 use Rattle.inline_outcomes.proofs.Places.{find_hit, find_skip}
 use Rattle.inline_acceptance.proofs.Alone.{Free, free_same}
 use Rattle.inline_acceptance.proofs.KeptFunctions.{get_in}
+use Rattle.inline_acceptance.proofs.KeptLists.{each_in}
+use Rattle.inline_acceptance.proofs.KeptModules.{find_function_in}
 use Rattle.inline_numbering.specs.Renamed.{Renamed}
 use Rattle.inline_numbering.specs.Carried.{Carries, SiteUnder, splicing_under}
 use Rattle.inline_numbering.proofs.Carried.{kind_same}
@@ -32,7 +34,10 @@ use Rattle.inline_numbering.proofs.Places as places
 use Rattle.inline_pass.specs.Sites.{Place, called}
 use Rattle.inline_pass.specs.Going.{Task, Ahead, Twins, Going, before_line, stands, with_body, spliced_twins}
 use Rattle.inline_pass.specs.GoingLaws.{Inlines, Put, PutWithin}
-use Rattle.inline_pass.specs.Putting.{Fit, FinishedFit, KeepsCaller, code_splice, Spliced, Splices}
+use Rattle.inline_pass.specs.Putting.{Fit, FinishedFit, KeepsCaller, code_splice, Spliced, Splices, DoneIsFinished}
+use Rattle.inline_pass.specs.Finished.{finished, passed}
+use Rattle.inline_pass.proofs.Finishing.{found_by_name, finished_equation}
+use Rattle.inline_pass.proofs.Kept.{finished_accepted}
 use Rattle.inline_pass.proofs.Going.{here_is, get_first}
 use Rattle.inline_pass.proofs.Passing.{Found, found, then_some, at_place, splice_is}
 use Rattle.inline_pass.proofs.Others as others
@@ -265,3 +270,11 @@ finished_fit p m is ok f there = (
   record { whole = others.f_whole p m is ok f there; accepted = (others.free_f p m is ok f there).accepted; states = others.f_states p m is ok f there },
   λ x g e. let t = others.good p m is ok f there x g e in record { whole = t.0.whole; accepted = t.0.accepted; states = t.1 },
 )
+
+pub done_is_finished : DoneIsFinished
+done_is_finished p m is ok f there twins count done whole =
+    let kept = finished_accepted p m is ok in
+    let here : In (finished p m f) (passed p m) = find_function_in f.name (passed p m) (finished p m f) (others.passed_is p m is ok f there f.name f (found_by_name m is.names f there)) in
+    let w : Whole (finished p m f) = each_in Whole (passed p m) kept.0.whole (finished p m f) here in
+    let same : Renamed twins.names (finished p m f) twins.code = subst (λ z. Renamed twins.names z twins.code) (sym (finished_equation p m is f there)) done.same in
+    ((w, whole, sym (renamed_is_same twins.names (finished p m f) twins.code w whole same)), done.counted)

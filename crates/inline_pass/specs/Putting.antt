@@ -14,8 +14,9 @@ use Rattle.ir_semantics.specs.Renaming.{Renaming}
 use Rattle.ir_semantics.specs.Splice.{Naming, Splicing, Within, kind_of, spliced}
 use Rattle.inline_pass.specs.Policy.{Policy}
 use Rattle.inline_pass.specs.Sites.{Place}
-use Rattle.inline_pass.specs.Finished.{finished_body}
-use Rattle.inline_pass.specs.Going.{Task, Ahead, Twins, Going, before_line, spliced_twins}
+use Rattle.inline_pass.specs.Finished.{finished, finished_body}
+use Rattle.inline_pass.specs.Inlined.{inlined}
+use Rattle.inline_pass.specs.Going.{Task, Ahead, Twins, Going, Done, before_line, spliced_twins}
 use Rattle.inline_pass.specs.GoingLaws.{Inlines, Put, PutWithin}
 
 -- whole, accepted where no other function is known, and its declarations of what has a body state the body's signature
@@ -32,6 +33,10 @@ FinishedFit =
     (p : Policy) (m : Module) → IsModule m → Accepted m → (f : Function) → In f m
     → Fit (finished_body p m f.name) f
     × ((x : FuncName) (g : Function) → finished_body p m f.name x ≡ Some g → Fit (finished_body p m f.name) g)
+
+-- f of m is finished with finished bodies
+abbrev pub finishing : Policy → Module → Function → Task
+finishing p m f = record { policy = p; bodies = finished_body p m f.name; function = f }
 
 -- numbers that leave those of the caller c as they are
 pub record KeepsCaller (n : Naming) (c : Function) : Type 0 where
@@ -68,3 +73,10 @@ Splices =
     → (n : Naming) → KeepsCaller n twins.code → IsSound (spliced (code_splice n twins place l h))
     → (names : Renaming)
     × Spliced task twins (spliced_twins twins ahead g (spliced (code_splice n twins place l h)) names) place n.after l
+
+-- when all own lines are behind, the code's body is the finished one up to numbering, and the count is its count
+abbrev pub DoneIsFinished : Type 0
+DoneIsFinished =
+    (p : Policy) (m : Module) → IsModule m → Accepted m → (f : Function) → In f m
+    → (twins : Twins) (count : ℕ) → Done (finishing p m f) twins count → Whole twins.code
+    → SameFunction (finished p m f) twins.code × (count ≡ inlined p m f)

@@ -1,8 +1,11 @@
 pub mod Acceptance
 pub mod Halves
+pub mod InRange
 pub mod IndirectTails
+pub mod IndirectTries
 pub mod Loops
 pub mod Operations
 pub mod SafetyExample
+pub mod Slots
 pub mod Tails
 pub mod Throws

@@ -155,18 +155,36 @@ module _ (p : Splicing) where
   within_piece c j i (ReturnCall t args) q = front (line_with i (Call (called_under callee_names t) (map p.naming.callee_value args)) (new_results c)) (front (to_after (new_results c)) q)
   within_piece c j i _ q = front (callee_line i) q
 
+  -- the site's table
+  abbrev pub outer_table : List (Entry BlockCall) → List (Entry BlockCall)
+  outer_table table = map (entry_under caller_names) table
+
+  -- a call of the callee as a `try_call`, with its callee's signature
+  abbrev pub call_as_try : Line → CallTarget → List ℕ → BlockCall → List (Entry BlockCall) → Line
+  call_as_try i t args normal table =
+      try_with i (try_target (called_under callee_names t)) (named_sig (called_under callee_names t)) args normal table
+
+  -- a `try_call` of the callee, whose table comes before the site's
+  abbrev pub joined_try : Line → TryTarget → ℕ → List ℕ → BlockCall → List (Entry BlockCall) → List (Entry BlockCall) → Line
+  joined_try i t sig args own inner table =
+      try_with i (try_target_under callee_names t) (sig_after p.caller p.callee sig) args
+      (target_under callee_names own) (map (entry_under callee_names) inner ++ outer_table table)
+
+  -- where a call that became a `try_call` goes on: its results are the parameters of a new block, which has the lines
+  abbrev pub to_rest : ℕ → ℕ → Line → BlockCall
+  to_rest c j i = record { block = p.naming.new_block c j; args = map arg.Ret (from 0 (length i.results)) }
+
+  abbrev pub rest_block : ℕ → ℕ → Line → List Line → Block
+  rest_block c j i lines = record { number = p.naming.new_block c j; params = map p.naming.callee_value i.results; lines = lines }
+
   -- at a `try_call` a return jumps to the normal target, and each call gets the site's table
   abbrev pub tries_piece : BlockCall → List (Entry BlockCall) → ℕ → ℕ → Line → Instruction → Piece → Piece
   tries_piece normal table c j i (Return vs) q = front (to_normal normal vs) q
   tries_piece normal table c j i (Call t args) q =
-      record {
-        lines = try_with i (try_target (called_under callee_names t)) (named_sig (called_under callee_names t)) args (record { block = p.naming.new_block c j; args = map arg.Ret (from 0 (length i.results)) }) (map (entry_under caller_names) table) ∷ [];
-        more = record { number = p.naming.new_block c j; params = map p.naming.callee_value i.results; lines = q.lines } ∷ q.more;
-      }
+      record { lines = call_as_try i t args (to_rest c j i) (outer_table table) ∷ []; more = rest_block c j i q.lines ∷ q.more }
   tries_piece normal table c j i (TryCall t sig args own inner) q =
-      front (try_with i (try_target_under callee_names t) (sig_after p.caller p.callee sig) args (target_under callee_names own) (map (entry_under callee_names) inner ++ map (entry_under caller_names) table)) q
-  tries_piece normal table c j i (ReturnCall t args) q =
-      front (try_with i (try_target (called_under callee_names t)) (named_sig (called_under callee_names t)) args (target_under caller_names normal) (map (entry_under caller_names) table)) q
+      front (joined_try i t sig args own inner table) q
+  tries_piece normal table c j i (ReturnCall t args) q = front (call_as_try i t args (target_under caller_names normal) (outer_table table)) q
   tries_piece normal table c j i _ q = front (callee_line i) q
 
   abbrev pub piece_by : Kind → ℕ → ℕ → Line → Piece → Piece

@@ -161,20 +161,29 @@ numbers [] = Some []
 numbers (tag.User n ∷ ts) = cons_some (Some n) (numbers ts)
 numbers (tag.Slot k ∷ ts) = None
 
--- ---- the step: the frame x is past the line l
+-- ---- the step: the frame is past the line; `below` are the frames that wait
+
+-- the frame waits too, at its line
+abbrev pub waiting : Line → Frame → List Wait → List Wait
+waiting line frame below = record { line = line; frame = frame } ∷ below
 
 abbrev pub act : Module → Line → Frame → List Wait → World → Effect → Moment
-act m l x s w (Go values slots memory) = must w (bind l.results values x.env) Stuck (λ e. On (record x { env = e; slots = slots }) s (record w { memory = memory }))
-act m l x s w (Enter b values) = enter x b values s w
-act m l x s w (Give values) = resume values s w
-act m l x s w ShowTags = must w (shown (record { line = l; frame = x } ∷ s)) Unwritten (λ sh. On x s (with_event w (Point sh)))
-act m l x s w (Do c args false) = invoke (found m x.func c) args [] (shown (record { line = l; frame = x } ∷ s)) (record { line = l; frame = x } ∷ s) w
-act m l x s w (Do c args true) = must w (numbers l.tags) Stuck (λ ns. invoke (found m x.func c) args (x.extra ++ ns) (shown (record { line = l; frame = x } ∷ s)) s w)
-act m l x s w (Stop end) = Over w end
+act m line frame below world (Go values slots memory) =
+    must world (bind line.results values frame.env) Stuck (λ env. On (record frame { env = env; slots = slots }) below (record world { memory = memory }))
+act m line frame below world (Enter block values) = enter frame block values below world
+act m line frame below world (Give values) = resume values below world
+act m line frame below world ShowTags =
+    must world (shown (waiting line frame below)) Unwritten (λ tags. On frame below (with_event world (Point tags)))
+act m line frame below world (Do callee args false) =
+    invoke (found m frame.func callee) args [] (shown (waiting line frame below)) (waiting line frame below) world
+act m line frame below world (Do callee args true) =
+    must world (numbers line.tags) Stuck (λ own. invoke (found m frame.func callee) args (frame.extra ++ own) (shown (waiting line frame below)) below world)
+act m line frame below world (Stop end) = Over world end
 
 abbrev pub step_at : Module → Frame → List Line → List Wait → World → Moment
-step_at m x [] s w = Over w Stuck
-step_at m x (l ∷ ls) s w = act m l (record x { rest = ls }) s w (effect (names m) x.func x.env x.slots w.memory l.inst)
+step_at m frame [] below world = Over world Stuck
+step_at m frame (line ∷ rest) below world =
+    act m line (record frame { rest = rest }) below world (effect (names m) frame.func frame.env frame.slots world.memory line.inst)
 
 abbrev pub step : Module → Frame → List Wait → World → Moment
-step m x s w = step_at m x x.rest s w
+step m frame below world = step_at m frame frame.rest below world

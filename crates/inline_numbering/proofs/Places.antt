@@ -42,7 +42,7 @@ find_under r (b ∷ bs) x d i =
           (t.0, find_skip x b bs e ∙ t.1, find_skip (r.block x) (block_under r b) (map (block_under r) bs) off ∙ t.2)
     ]
 
-get_map : (f : Line → Line) (ls : List Line) (i : ℕ) (l : Line) → slice_get ls i ≡ Some l → slice_get (map f ls) i ≡ Some (f l)
+pub get_map : (f : Line → Line) (ls : List Line) (i : ℕ) (l : Line) → slice_get ls i ≡ Some l → slice_get (map f ls) i ≡ Some (f l)
 get_map f [] i l h = cc
 get_map f (x ∷ ls) zero l h = ap (λ (z : Line). Some (f z)) (some_same h)
 get_map f (x ∷ ls) (suc i) l h = get_map f ls i l h
@@ -52,12 +52,12 @@ get_map_none f [] i h = refl
 get_map_none f (x ∷ ls) zero h = cc
 get_map_none f (x ∷ ls) (suc i) h = get_map_none f ls i h
 
-take_map : (f : Line → Line) (i : ℕ) (ls : List Line) → take i (map f ls) ≡ map f (take i ls)
+pub take_map : (f : Line → Line) (i : ℕ) (ls : List Line) → take i (map f ls) ≡ map f (take i ls)
 take_map f zero ls = refl
 take_map f (suc i) [] = refl
 take_map f (suc i) (x ∷ ls) = ap (λ z. f x ∷ z) (take_map f i ls)
 
-drop_map : (f : Line → Line) (i : ℕ) (ls : List Line) → drop i (map f ls) ≡ map f (drop i ls)
+pub drop_map : (f : Line → Line) (i : ℕ) (ls : List Line) → drop i (map f ls) ≡ map f (drop i ls)
 drop_map f zero ls = refl
 drop_map f (suc i) [] = refl
 drop_map f (suc i) (x ∷ ls) = drop_map f i ls

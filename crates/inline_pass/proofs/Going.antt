@@ -23,7 +23,7 @@ use Rattle.inline_pass.specs.GoingLaws.{untouched, Begins, Calls, Refused, Passe
 
 -- ---- lists
 
-get_first : (xs : List Line) (n : ℕ) (l : Line) (ls : List Line) → drop n xs ≡ l ∷ ls → slice_get xs n ≡ Some l
+pub get_first : (xs : List Line) (n : ℕ) (l : Line) (ls : List Line) → drop n xs ≡ l ∷ ls → slice_get xs n ≡ Some l
 get_first [] zero l ls e = cc
 get_first [] (suc n) l ls e = cc
 get_first (x ∷ xs) zero l ls e = let q : x ≡ l = cc in ap (λ z. Some z) q
@@ -82,7 +82,7 @@ in_code twins same x n i e =
 -- ---- at an own line
 
 module _ (task : Task) (ahead : Ahead) (l : Line) (twins : Twins) (place : Place) (count : ℕ) (g : Going task (before_line l ahead) twins place count) where
-  here_is : stands twins ahead ≡ (g.block, place.1)
+  pub here_is : stands twins ahead ≡ (g.block, place.1)
   here_is =
       let a : ahead.line ≡ ahead.line + 0 = omega arith in
       let e : place.1 + 0 ≡ place.1 = omega arith in

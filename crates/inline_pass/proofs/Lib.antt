@@ -6,6 +6,7 @@ pub mod Kept
 pub mod Others
 pub mod Outcomes
 pub mod Passing
+pub mod Putting
 pub mod Renumbered
 pub mod Rows
 pub mod Tracking

@@ -124,13 +124,13 @@ within_or_not Within = inl refl
 within_or_not Last = inr (λ e. cc)
 within_or_not (Tries normal table) = inr (λ e. cc)
 
-kind_back : (r : Renaming) (z : Kind) → kind_under r z ≡ Within → z ≡ Within
+pub kind_back : (r : Renaming) (z : Kind) → kind_under r z ≡ Within → z ≡ Within
 kind_back r Within e = refl
 kind_back r Last e = cc
 kind_back r (Tries normal table) e = cc
 
 -- a block of the caller stays one
-own_there : (S : Splicing) → Distinct S.naming → Stands S → (x : ℕ) → In x (block_numbers S.caller.blocks) → In (S.naming.caller_block x) (block_numbers (spliced S).blocks)
+pub own_there : (S : Splicing) → Distinct S.naming → Stands S → (x : ℕ) → In x (block_numbers S.caller.blocks) → In (S.naming.caller_block x) (block_numbers (spliced S).blocks)
 own_there S names stands x i =
     let k = block_found x S.caller.blocks i in
     let r = f_found S names S.caller.blocks stands.block stands.block_found stands.lines x k.0 k.1 in
@@ -177,7 +177,7 @@ module _ (b c g h : Function) (r : Renaming) (rb : Renamed r b c) (fb : Free b) 
   numbers : Different (map r.block (block_numbers b.blocks))
   numbers = differ b c r rb fc.whole.blocks
 
-  other_found : find_block (r.block at) c.blocks ≡ Some (block_under r f.block)
+  pub other_found : find_block (r.block at) c.blocks ≡ Some (block_under r f.block)
   other_found =
       let u = places.find_under r b.blocks at numbers at_in in
       let e : u.0 ≡ f.block = some_same (sym u.1 ∙ f.found) in
@@ -186,13 +186,13 @@ module _ (b c g h : Function) (r : Renaming) (rb : Renamed r b c) (fb : Free b) 
   cut : f.block.lines ≡ take i f.block.lines ++ (f.line ∷ drop (suc i) f.block.lines)
   cut = cut_list f.block.lines i f.line f.get
 
-  stands_b : Stands p
+  pub stands_b : Stands p
   stands_b = record { block = f.block; block_found = f.found; lines = cut }
 
   stands_c : Stands q
   stands_c = record { block = block_under r f.block; block_found = other_found; lines = ap (map (line_under r)) cut ∙ map_append (line_under r) (take i f.block.lines) (f.line ∷ drop (suc i) f.block.lines) }
 
-  site : SiteUnder r s p c h
+  pub site : SiteUnder r s p c h
   site = record { stands = stands_b; caller = rb; callee = rg; caller_whole = fb.whole; caller_after_whole = fc.whole; callee_whole = fg.whole; callee_after_whole = fh.whole }
 
   b_is : splice_with sides b at i g ≡ spliced p
@@ -218,7 +218,7 @@ module _ (b c g h : Function) (r : Renaming) (rb : Renamed r b c) (fb : Free b) 
         signature = ap (λ (ss : List Sig). slice_get ss f.callee.sig) rb.sigs ∙ (sig ∙ ap (λ z. Some z) (sym rg.sig));
       }
 
-  free_b : Free (spliced p)
+  pub free_b : Free (spliced p)
   free_b = splice_free p refl call_b fb fg
 
   free_c : Free (spliced q)
@@ -274,22 +274,22 @@ record Both (b c : Function) (n k : ℕ) : Type 0 where
   same : SameFunction b c
   count : k ≡ n
 
+-- declarations of what has a body state its signature
+abbrev pub States : (FuncName → Option Function) → Function → Type 0
+States bodies b = (d : Callee) → In d b.callees → (g : Function) → bodies d.name ≡ Some g → slice_get b.sigs d.sig ≡ Some g.sig
+
+pub states_more : (bodies : FuncName → Option Function) (b g : Function) → States bodies b → States bodies g → (d : Callee) → In d (callees_after b g) → (g1 : Function) → bodies d.name ≡ Some g1 → slice_get (sigs_after b g) d.sig ≡ Some g1.sig
+states_more bodies b g sb sg d i g1 e =
+    elim (in_items (same_callee (sigs_after b g)) d b.callees (callees_with b g g.callees) i) [
+      | inl j ↦ own_sig b g d.sig g1.sig (sb d j g1 e)
+      | inr j ↦
+          let u = in_with b g d g.callees j in
+          ap (λ z. slice_get (sigs_after b g) z.sig) u.2 ∙ other_sig b g u.0.sig g1.sig (sg u.0 u.1 g1 (ap (λ z. bodies z.name) (sym u.2) ∙ e))
+    ]
+
 module _ (policy : Policy) (bodies others : FuncName → Option Function) (alike : (x : FuncName) → SameBody (bodies x) (others x)) where
-  -- declarations of what has a body state its signature
-  abbrev States : Function → Type 0
-  States b = (d : Callee) → In d b.callees → (g : Function) → bodies d.name ≡ Some g → slice_get b.sigs d.sig ≡ Some g.sig
-
-  states_more : (b g : Function) → States b → States g → (d : Callee) → In d (callees_after b g) → (g1 : Function) → bodies d.name ≡ Some g1 → slice_get (sigs_after b g) d.sig ≡ Some g1.sig
-  states_more b g sb sg d i g1 e =
-      elim (in_items (same_callee (sigs_after b g)) d b.callees (callees_with b g g.callees) i) [
-        | inl j ↦ own_sig b g d.sig g1.sig (sb d j g1 e)
-        | inr j ↦
-            let u = in_with b g d g.callees j in
-            ap (λ z. slice_get (sigs_after b g) z.sig) u.2 ∙ other_sig b g u.0.sig g1.sig (sg u.0 u.1 g1 (ap (λ z. bodies z.name) (sym u.2) ∙ e))
-      ]
-
-  module _ (good : (x : FuncName) (g : Function) → bodies x ≡ Some g → Free g × States g) where
-    module _ (s : Place) (ss : List Place) (now now' : Place → Place) (b c : Function) (r : Renaming) (rb : Renamed r b c) (fb : Free b) (fc : Free c) (sb : States b) (places_are : (z : Place) → In z (s ∷ ss) → Beside b c r (now z) (now' z)) where
+  module _ (good : (x : FuncName) (g : Function) → bodies x ≡ Some g → Free g × States bodies g) where
+    module _ (s : Place) (ss : List Place) (now now' : Place → Place) (b c : Function) (r : Renaming) (rb : Renamed r b c) (fb : Free b) (fc : Free c) (sb : States bodies b) (places_are : (z : Place) → In z (s ∷ ss) → Beside b c r (now z) (now' z)) where
       abbrev at : ℕ
       at = (now s).0
 
@@ -313,7 +313,7 @@ module _ (policy : Policy) (bodies others : FuncName → Option Function) (alike
       Further b1 c1 = Both (inline_by bodies policy then_now ss b1) (inline_by others policy then_now' ss c1) (inlined_by bodies policy then_now ss b1) (inlined_by others policy then_now' ss c1)
 
       abbrev Goes : Type 0
-      Goes = (b1 c1 : Function) (r1 : Renaming) → Renamed r1 b1 c1 → Free b1 → Free c1 → States b1 → ((z : Place) → In z ss → Beside b1 c1 r1 (then_now z) (then_now' z)) → Further b1 c1
+      Goes = (b1 c1 : Function) (r1 : Renaming) → Renamed r1 b1 c1 → Free b1 → Free c1 → States bodies b1 → ((z : Place) → In z ss → Beside b1 c1 r1 (then_now z) (then_now' z)) → Further b1 c1
 
       abbrev Stays : Type 0
       Stays = Both (inline_by bodies policy now ss b) (inline_by others policy now' ss c) (inlined_by bodies policy now ss b) (inlined_by others policy now' ss c)
@@ -367,7 +367,7 @@ module _ (policy : Policy) (bodies others : FuncName → Option Function) (alike
             (subst (λ z. Renamed names z c1) (sym b1_is) (subst (λ z. Renamed names (spliced (at_place b g at i y f)) z) (sym c1_is) (renamed b c g h r rb fb fc gh fg at i y f sig)))
             (subst Free (sym b1_is) (free_b b c g h r rb fb fc gh fg at i y f sig))
             (subst Free (sym c1_is) (free_c b c g h r rb fb fc gh fg at i y f sig))
-            (subst States (sym b1_is) (states_more b g sb (good y g has).1))
+            (subst (States bodies) (sym b1_is) (states_more bodies b g sb (good y g has).1))
             (λ z j.
             let from = beside b c g h r rb fb fc gh fg at i y f sig (now z) (now' z) (places_are z (inr j)) in
             let moved_to : moved (r.block at) i (now' z) ≡ then_now' z = ap₂ (λ x n. moved x n (now' z)) to (sym here.line) in
@@ -390,7 +390,7 @@ module _ (policy : Policy) (bodies others : FuncName → Option Function) (alike
               let u = then_some (called b at i) bodies g e in
               choose (splice_with sides b at i g) (splice_with sides c at' i' h) (goes g h gh u.0 u.1 u.2 go) stay (takes policy g (splice_with sides b at i g)) (takes policy h (splice_with sides c at' i' h)) (takes_both g h gh u.0 u.1 u.2)
 
-    loop : (ss : List Place) (now now' : Place → Place) (b c : Function) (r : Renaming) → Renamed r b c → Free b → Free c → States b → ((z : Place) → In z ss → Beside b c r (now z) (now' z)) → Both (inline_by bodies policy now ss b) (inline_by others policy now' ss c) (inlined_by bodies policy now ss b) (inlined_by others policy now' ss c)
+    loop : (ss : List Place) (now now' : Place → Place) (b c : Function) (r : Renaming) → Renamed r b c → Free b → Free c → States bodies b → ((z : Place) → In z ss → Beside b c r (now z) (now' z)) → Both (inline_by bodies policy now ss b) (inline_by others policy now' ss c) (inlined_by bodies policy now ss b) (inlined_by others policy now' ss c)
     loop [] now now' b c r rb fb fc sb places_are = record { same = (fb.whole, fc.whole, sym (renamed_is_same r b c fb.whole fc.whole rb)); count = refl }
     loop (s ∷ ss) now now' b c r rb fb fc sb places_are =
         one s ss now now' b c r rb fb fc sb places_are (loop ss now now' b c r rb fb fc sb (λ z i. places_are z (inr i)))
@@ -414,13 +414,13 @@ module _ (p : Policy) (m : Module) (is : IsModule m) (ok : Accepted m) (f : Func
       by (h, there, same) = (h, found_in (apart m f.name x) h there, sym (some_same same))
 
   -- it is one of the module of finished bodies
-  passed_is : (x : FuncName) (h : Function) → find_function x m ≡ Some h → find_function x (passed p m) ≡ Some (finished p m h)
+  pub passed_is : (x : FuncName) (h : Function) → find_function x m ≡ Some h → find_function x (passed p m) ≡ Some (finished p m h)
   passed_is x h q = function_map (finished p m) (finished_named p m) x m h q
 
   kept : IsModule (passed p m) × Accepted (passed p m)
   kept = finished_accepted p m is ok
 
-  good : (x : FuncName) (g : Function) → bodies x ≡ Some g → Free g × ((d : Callee) → In d g.callees → (g1 : Function) → bodies d.name ≡ Some g1 → slice_get g.sigs d.sig ≡ Some g1.sig)
+  pub good : (x : FuncName) (g : Function) → bodies x ≡ Some g → Free g × ((d : Callee) → In d g.callees → (g1 : Function) → bodies d.name ≡ Some g1 → slice_get g.sigs d.sig ≡ Some g1.sig)
   good x g e =
       let u = body_is x g e in
       let i : In g (passed p m) = find_function_in x (passed p m) g (passed_is x u.0 u.1 ∙ ap (λ z. Some z) (sym u.2)) in
@@ -432,10 +432,13 @@ module _ (p : Policy) (m : Module) (is : IsModule m) (ok : Accepted m) (f : Func
             accepted (item.Callee k.0) signature_mismatch d k.1 g1 (passed_is d.name u1.0 u1.1 ∙ ap (λ z. Some z) (sym u1.2)),
       )
 
-  f_whole : Whole f
+  pub f_whole : Whole f
   f_whole = each_in Whole m is.whole f there
 
-  f_states : (d : Callee) → In d f.callees → (g1 : Function) → bodies d.name ≡ Some g1 → slice_get f.sigs d.sig ≡ Some g1.sig
+  pub free_f : Free f
+  free_f = free_of m f f_whole (ok f there)
+
+  pub f_states : (d : Callee) → In d f.callees → (g1 : Function) → bodies d.name ≡ Some g1 → slice_get f.sigs d.sig ≡ Some g1.sig
   f_states d j g1 e1 =
       let u1 = body_is d.name g1 e1 in
       let k = in_get f.callees d j in
@@ -446,7 +449,6 @@ module _ (p : Policy) (m : Module) (is : IsModule m) (ok : Accepted m) (f : Func
 
   respect : (others : FuncName → Option Function) → ((x : FuncName) → SameBody (bodies x) (others x)) → SameFunction (finished p m f) (finish_by others p f) × (inlined_with others p f ≡ inlined p m f)
   respect others alike =
-      let free_f = free_of m f f_whole (ok f there) in
       let both = loop p bodies others alike good (own_sites f.blocks) (λ q. q) (λ q. q) f f own_names (renamed_itself f) free_f free_f f_states (λ z i. beside_itself z) in
       (subst (λ z. SameFunction z (finish_by others p f)) (sym (finished_equation p m is f there)) both.same, both.count)
 

@@ -4,7 +4,7 @@ use Rattle.std.specs.Prelude.{slice_get, if◌then◌else◌}
 use Rattle.std.proofs.lemmas.Bool.{cases_eq, cases_lt}
 use Rattle.ir_core.specs.declared.names.FuncName.{FuncName}
 use Rattle.ir_core.specs.declared.declarations.Callee.{Callee}
-use Rattle.ir_core.specs.Module.{CallTarget, Direct, Indirect, Instruction, Plain, Branches, SequencePoint, Return, Call, ReturnCall, TryCall, Line, Block, Function, TryDirect, TryIndirect}
+use Rattle.ir_core.specs.Module.{CallTarget, Direct, Indirect, call_target, Instruction, Plain, Branches, SequencePoint, Return, Call, ReturnCall, TryCall, Line, Block, Function}
 use Rattle.ir_core.specs.Lookup.{find_block}
 use Rattle.ir_core.specs.Lists.{In}
 use Rattle.ir_semantics.specs.Renaming.{block_under, called_under, instruction_under, line_under}
@@ -60,8 +60,7 @@ target_stays S (Indirect s a) = refl
 callee_stays : (S : Splicing) (i : Instruction) → callee_of (instruction_under (caller_names S) i) ≡ callee_of i
 callee_stays S (Call t args) = target_stays S t
 callee_stays S (ReturnCall t args) = target_stays S t
-callee_stays S (TryCall (TryDirect k) sg args n u) = refl
-callee_stays S (TryCall (TryIndirect a) sg args n u) = refl
+callee_stays S (TryCall t sg args n u) = ap named_callee (try_target_called (caller_names S) t sg) ∙ target_stays S (call_target t sg)
 callee_stays S (Plain a) = refl
 callee_stays S (Branches a) = refl
 callee_stays S SequencePoint = refl

@@ -9,11 +9,10 @@ use Rattle.ir_core.specs.Lookup.{and_then, block_numbers}
 use Rattle.ir_core.specs.Lists.{Each, In, Different}
 use Rattle.ir_core.specs.Edits.{lines_of}
 use Rattle.ir_semantics.specs.Renaming.{Renaming}
-use Rattle.ir_semantics.specs.Splice.{sides, splice_with}
 use Rattle.inline_numbering.specs.Renamed.{Renamed}
 use Rattle.inline_pass.specs.Policy.{Policy}
-use Rattle.inline_pass.specs.Sites.{Place, sites_in, own_sites, moved, called}
-use Rattle.inline_pass.specs.Finished.{inline_by, finish_by}
+use Rattle.inline_pass.specs.Sites.{Place, sites_in, own_sites}
+use Rattle.inline_pass.specs.Finished.{callee_at, spliced_at, after_splice, inline_by, finish_by}
 use Rattle.inline_pass.specs.Inlined.{inlined_by, inlined_with}
 
 -- the function to be finished, and the bodies that go into it
@@ -58,18 +57,18 @@ stands twins ahead = twins.now (ahead.block, ahead.line)
 
 -- the body of what is called there, where it is one to be inlined
 abbrev pub body_called : Task → Twins → Ahead → Option Function
-body_called task twins ahead = and_then (called twins.body (stands twins ahead).0 (stands twins ahead).1) task.bodies
+body_called task twins ahead = and_then (callee_at twins.body (stands twins ahead)) task.bodies
 
 -- the definition's body with another one there
 abbrev pub with_body : Twins → Ahead → Function → Function
-with_body twins ahead g = splice_with sides twins.body (stands twins ahead).0 (stands twins ahead).1 g
+with_body twins ahead g = spliced_at twins.body (stands twins ahead) g
 
 -- and with it the code's
 abbrev pub spliced_twins : Twins → Ahead → (body code : Function) → Renaming → Twins
 spliced_twins twins ahead g code names =
     record {
       body = with_body twins ahead g;
-      now = λ q. moved (stands twins ahead).0 (stands twins ahead).1 (twins.now q);
+      now = after_splice (stands twins ahead) twins.now;
       code = code;
       names = names;
     }

@@ -11,7 +11,8 @@ use Rattle.ir_semantics.specs.Renaming.{Renaming}
 use Rattle.ir_semantics.specs.Splice.{sides}
 use Rattle.inline_numbering.specs.Renamed.{Renamed}
 use Rattle.inline_pass.specs.Policy.{takes}
-use Rattle.inline_pass.specs.Sites.{Place, is_site, called}
+use Rattle.inline_pass.specs.Sites.{Place, is_site}
+use Rattle.inline_pass.specs.Finished.{callee_at}
 use Rattle.inline_pass.specs.Going.{Task, Ahead, Twins, Going, Done, before_block, before_line, behind_line, stands, body_called, with_body, spliced_twins}
 
 abbrev pub own_names : Renaming
@@ -33,7 +34,7 @@ Calls =
     (task : Task) (ahead : Ahead) (l : Line) (twins : Twins) (place : Place) (count : ℕ)
     → Going task (before_line l ahead) twins place count
     → (j : ℕ) (d : Callee) → callee_of l.inst ≡ Some j → slice_get task.function.callees j ≡ Some d
-    → called twins.body (stands twins ahead).0 (stands twins ahead).1 ≡ Some d.name
+    → callee_at twins.body (stands twins ahead) ≡ Some d.name
 
 -- there is no body for what is called, or the policy doesn't take it
 abbrev pub Refused : Task → Ahead → Twins → Type 0

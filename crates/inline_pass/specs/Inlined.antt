@@ -3,22 +3,20 @@ use Rattle.std.specs.Prelude.{ℕ, suc, List, [], ◌∷◌, map, sum, Option, S
 use Rattle.ir_core.specs.declared.names.FuncName.{FuncName}
 use Rattle.ir_core.specs.Module.{Function, Module}
 use Rattle.ir_core.specs.Lookup.{and_then}
-use Rattle.ir_semantics.specs.Splice.{sides, splice_with}
 use Rattle.inline_pass.specs.Policy.{Policy, takes}
-use Rattle.inline_pass.specs.Sites.{Place, own_sites, moved, called}
-use Rattle.inline_pass.specs.Finished.{finished_body}
+use Rattle.inline_pass.specs.Sites.{Place, own_sites}
+use Rattle.inline_pass.specs.Finished.{callee_at, spliced_at, after_splice, finished_body}
 
--- of some sites in turn, as they are inlined into b
+-- of some sites in turn, as they are inlined into a body
 abbrev pub inlined_by : (FuncName → Option Function) → Policy → (Place → Place) → List Place → Function → ℕ
-inlined_by bodies p now [] b = 0
-inlined_by bodies p now (s ∷ ss) b =
-    elim (and_then (called b (now s).0 (now s).1) bodies) [
-      | None ↦ inlined_by bodies p now ss b
-      | Some g ↦
-          let next : Place → Place = λ q. moved (now s).0 (now s).1 (now q) in
-          if takes p g (splice_with sides b (now s).0 (now s).1 g) then
-          suc (inlined_by bodies p next ss (splice_with sides b (now s).0 (now s).1 g))
-          else inlined_by bodies p now ss b
+inlined_by bodies policy now [] body = 0
+inlined_by bodies policy now (site ∷ sites) body =
+    elim (and_then (callee_at body (now site)) bodies) [
+      | None ↦ inlined_by bodies policy now sites body
+      | Some callee ↦
+          if takes policy callee (spliced_at body (now site) callee)
+          then suc (inlined_by bodies policy (after_splice (now site) now) sites (spliced_at body (now site) callee))
+          else inlined_by bodies policy now sites body
     ]
 
 -- while a function is finished with these bodies

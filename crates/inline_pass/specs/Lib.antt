@@ -7,4 +7,5 @@ pub mod Kept
 pub mod OtherBodies
 pub mod Pass
 pub mod Policy
+pub mod Putting
 pub mod Sites

@@ -1,6 +1,7 @@
 //! Laws of finished bodies: functions without a body, each of which has its law as its contract.
 ghost use Rattle.inline_pass.specs.FinishedLaws.{FinishedEquation, FinishedKeep, OrderInUse, PassIsFinished, RenumberedFinishedKeep};
 ghost use Rattle.inline_pass.specs.GoingLaws.{Begins, Calls, Passes, Takes, TakesLast, Turns};
+ghost use Rattle.inline_pass.specs.Putting.{DoneIsFinished, FinishedFit, Splices};
 ghost use Rattle.inline_pass.specs.OtherBodies.{FinishedRespectNumbers};
 ghost use Rattle.inline_pass.specs.Kept.{FinishedAccepted, FinishedWritable, RenumberedFinishedAccepted, RenumberedFinishedWritable};
 
@@ -82,6 +83,16 @@ pub fn loop_passes()
     ensures { Passes }
 {}
 
+/// The splice of the code at an own line, by numbers that leave the caller's as they are, gives what the loop needs of it.
+pub fn loop_splices()
+    ensures { Splices }
+{}
+
+/// What the loop needs of the function and of the bodies before its first splice.
+pub fn finished_fit()
+    ensures { FinishedFit }
+{}
+
 /// Behind a plain call that is inlined.
 pub fn loop_takes()
     ensures { Takes }
@@ -95,4 +106,9 @@ pub fn loop_takes_last()
 /// Behind the last line of an own block: the next one begins, or the body is finished.
 pub fn loop_turns()
     ensures { Turns }
+{}
+
+/// At the end the code's body is the finished one up to numbering, and the count is the number of its inlined sites.
+pub fn loop_ends_finished()
+    ensures { DoneIsFinished }
 {}

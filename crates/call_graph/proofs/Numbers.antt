@@ -5,7 +5,8 @@ use Rattle.std.proofs.lemmas.Bool.{eqb-true}
 use Rattle.ir_core.specs.declared.names.FuncName.{FuncName}
 use Rattle.ir_core.specs.Module.{Function, Module}
 use Rattle.ir_core.specs.Lookup.{same_name, find_function}
-use Rattle.ir_core.specs.Lists.{In}
+use Rattle.std.proofs.lemmas.List.{length-map}
+use Rattle.ir_core.specs.Lists.{In, Each, Below}
 use Rattle.ir_core.specs.Whole.{DifferentNames}
 use Rattle.ir_core.proofs.Equal.{name_equal, equal_name}
 use Rattle.ir_core.proofs.Members.{in_left, in_right, in_cases}
@@ -14,7 +15,7 @@ use Rattle.call_graph.specs.Reach.{called_names, calls_of, reaches, one_piece}
 use Rattle.call_graph.specs.Laws.{Leads, calls, by_way}
 use Rattle.call_graph.proofs.Walks.{reach_is_by_lists, or_cases}
 use Rattle.call_graph.proofs.Ranks.{reaches_on, call_reaches}
-use Rattle.call_graph.specs.Calls.{number_of, with_number, numbers_of, has, put_new, each_once, calls_in, graph_of}
+use Rattle.call_graph.specs.Calls.{number_of, with_number, numbers_of, has, put_new, each_once, calls_in, graph_of, InRange}
 use Rattle.call_graph.specs.Numbers.{called, Reaches, itself, by_call, CallsByNumbers, PiecesByNumbers}
 use Rattle.call_graph.proofs.Placing.{mutual_of, of_mutual}
 
@@ -151,6 +152,23 @@ same_function m y f h e k = cc
 pub calls_by_numbers : CallsByNumbers
 calls_by_numbers m d x y f h e k =
     ((λ i. let r = is_called m d x y f e i in subst (λ (z : Function). In z.name (calls_of m f.name)) (same_function m y r.0 h r.1 k) r.2), by_name m d x y f h e k)
+
+pub each_of : (n : ℕ) (ks : List ℕ) → ((k : ℕ) → In k ks → k < n) → Below n ks
+each_of n [] h = tt
+each_of n (k ∷ ks) h = (h k (inl refl), each_of n ks (λ j i. h j (inr i)))
+
+calls_below : (m : Module) (f : Function) → Below (length m) (calls_in m f)
+calls_below m f = each_of (length m) (calls_in m f) (λ k i.
+    let j : In k (numbers_of m (called_names f f.blocks)) = elim (in_once (numbers_of m (called_names f f.blocks)) [] k i) [ inl z ↦ elim z [ ] | inr j ↦ j ] in
+    let r = in_numbers m (called_names f f.blocks) k j in
+    (place_cases r.0 m (Some k) (sym r.2)).0)
+
+each_below : (g : Function → List ℕ) (n : ℕ) → ((f : Function) → Below n (g f)) → (m : Module) → Each (Below n) (map g m)
+each_below g n h [] = tt
+each_below g n h (f ∷ m) = (h f, each_below g n h m)
+
+pub graph_in_range : (m : Module) → InRange (graph_of m)
+graph_in_range m = subst (λ (n : ℕ). Each (Below n) (graph_of m)) (sym (length-map m (calls_in m))) (each_below (calls_in m) (length m) (calls_below m) m)
 
 -- ---- reach
 

@@ -6,3 +6,5 @@ pub mod Numbers
 pub mod Order
 pub mod OrderLaws
 pub mod Reach
+pub mod Search
+pub mod Trails

@@ -5,6 +5,7 @@
 mod calls;
 pub mod laws;
 mod making;
+mod search;
 
 pub use calls::Graph;
 pub use making::graph;

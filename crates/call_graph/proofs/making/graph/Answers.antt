@@ -1,6 +1,8 @@
-use Rattle.std.proofs.Common.{◌≡◌, ◌+◌, ◌∷◌, ◌++◌, [], ℕ, List, map, drop, ap, sym, ◌∙◌, append_assoc}
+use Rattle.std.proofs.lemmas.List.{append-nil, drop_all}
+use Rattle.std.proofs.Common.{subst, arith, ◌≡◌, ◌+◌, ◌∷◌, ◌++◌, [], ℕ, List, map, drop, ap, sym, ◌∙◌, append_assoc}
 use Rattle.ir_core.specs.Module.{Function}
-use Rattle.call_graph.specs.Calls.{calls_in}
+use Rattle.call_graph.specs.Calls.{calls_in, graph_of, InRange}
+use Rattle.call_graph.proofs.Numbers.{graph_in_range}
 use Rattle.call_graph.proofs.Marking.{next_left}
 use Rattle.call_graph.proofs.making.graph.Goals as goal
 
@@ -15,3 +17,11 @@ loop-i-preserved c =
       fresh = c.in_ok-called.ensures.stale;
       long = c.in_ok-called.ensures.long;
     }
+
+pub invariant_of-result : goal.invariant_of-result
+invariant_of-result c =
+    let all : c.loop-i.calls.items ≡ graph_of c.args.module.now =
+        sym (append-nil c.loop-i.calls.items)
+        ∙ ap (λ (l : List Function). c.loop-i.calls.items ++ map (calls_in c.args.module.now) l) (sym (drop_all c.loop-i.i c.args.module.now (let e = c.len-i-end.ensures.count in let f = c.loop-i-test.false in omega (arith, e, f))))
+        ∙ c.loop-i.invariant.left in
+    subst InRange (sym all) (graph_in_range c.args.module.now)

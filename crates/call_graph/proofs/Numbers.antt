@@ -49,7 +49,7 @@ one_place (a ∷ m) d zero (suc y) f g e k n = let s : a ≡ f = cc in absurd (n
 one_place (a ∷ m) d (suc x) zero f g e k n = let s : a ≡ g = cc in absurd (not_none m x f e (ap (λ z. find_function z m) (n ∙ ap (λ (z : Function). z.name) (sym s)) ∙ d.0))
 one_place (a ∷ m) d (suc x) (suc y) f g e k n = ap suc (one_place m d.1 x y f g e k n)
 
-some_at : (m : Module) (k : ℕ) → k < length m → (g : Function) × (slice_get m k ≡ Some g)
+pub some_at : (m : Module) (k : ℕ) → k < length m → (g : Function) × (slice_get m k ≡ Some g)
 some_at [] k l = absurd (omega (arith, l))
 some_at (f ∷ m) zero l = (f, refl)
 some_at (f ∷ m) (suc k) l = some_at m k (omega (arith, l))
@@ -172,7 +172,7 @@ graph_in_range m = subst (λ (n : ℕ). Each (Below n) (graph_of m)) (sym (lengt
 
 -- ---- reach
 
-to_names : (m : Module) → DifferentNames m → (x y : ℕ) (f : Function) → slice_get m x ≡ Some f → Reaches (graph_of m) x y → (h : Function) × (slice_get m y ≡ Some h) × ((f.name ≡ h.name) ⊎ (reaches m f.name h.name ≡ true))
+pub to_names : (m : Module) → DifferentNames m → (x y : ℕ) (f : Function) → slice_get m x ≡ Some f → Reaches (graph_of m) x y → (h : Function) × (slice_get m y ≡ Some h) × ((f.name ≡ h.name) ⊎ (reaches m f.name h.name ≡ true))
 to_names m d x y f e itself = (f, e, inl refl)
 to_names m d x y f e (by_call {y = w} i r) =
     let u = is_called m d x w f e i in

@@ -7,4 +7,7 @@ pub mod Order
 pub mod OrderLaws
 pub mod Reach
 pub mod Search
+pub mod Stacks
 pub mod Trails
+pub mod Turns
+pub mod Waiting

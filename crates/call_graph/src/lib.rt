@@ -5,7 +5,11 @@
 mod calls;
 pub mod laws;
 mod making;
+
+mod ready;
 mod search;
+mod stack;
+mod turns;
 
 pub use calls::Graph;
 pub use making::graph;

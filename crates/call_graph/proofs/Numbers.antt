@@ -76,7 +76,7 @@ calls_are m d x f e = ap calls_by ((place_cases f.name m (Some x) (sym (number_i
 
 -- ---- the calls of one function
 
-has_in : (k : ℕ) (ks : List ℕ) → has k ks ≡ true → In k ks
+pub has_in : (k : ℕ) (ks : List ℕ) → has k ks ≡ true → In k ks
 has_in k [] h = absurd cc
 has_in k (x ∷ ks) h = elim (or_cases (nat_eq k x) (has k ks) h) [ inl q ↦ inl (eqb-true k x q) | inr q ↦ inr (has_in k ks q) ]
 

@@ -1,7 +1,7 @@
 -- A piece that settles, and a piece that is placed, keep what is known of pieces that wait.
-use Rattle.std.proofs.Common.{◌≡◌, ◌⊎◌, inl, inr, ℕ, zero, suc, ◌+◌, ◌<◌, ◌≤◌, List, [], ◌∷◌, ◌++◌, length, get_or, set, Bool, true, false, nat_eq, eq-eqb, refl, sym, ap, ◌∙◌, subst, arith}
-use Rattle.std.specs.Prelude.{if◌then◌else◌}
-use Rattle.std.proofs.lemmas.List.{get_or-set_same, get_or-set_other, length-set, get_or_past}
+use Rattle.std.proofs.Common.{◌≡◌, ◌⊎◌, inl, inr, ℕ, zero, suc, ◌+◌, ◌<◌, ◌≤◌, List, [], ◌∷◌, ◌++◌, length, get_or, set, Some, Bool, true, false, nat_eq, eq-eqb, refl, sym, ap, ◌∙◌, subst, arith}
+use Rattle.std.specs.Prelude.{slice_get, if◌then◌else◌}
+use Rattle.std.proofs.lemmas.List.{get_or-set_same, get_or-set_other, length-set, get_or_past, get_or_read}
 use Rattle.std.proofs.lemmas.Bool.{cases_eq, cases_lt, eqb-true}
 use Rattle.ir_core.specs.Lists.{In, Each, Below}
 use Rattle.ir_core.proofs.Members.{in_left, in_right, in_cases}
@@ -9,7 +9,7 @@ use Rattle.call_graph.specs.Calls.{InRange}
 use Rattle.call_graph.specs.Numbers.{called}
 use Rattle.call_graph.specs.Turns.{own, IsPiece, Pieced, members_from, members, Calls, Waits, Next, Turns, turn, Ordered}
 use Rattle.call_graph.specs.Waiting.{Table, first_left, Added, Decided, Settles, after_place, Keeps}
-use Rattle.call_graph.proofs.Stepping.{below_in}
+use Rattle.call_graph.proofs.Stepping.{below_in, in_slice}
 
 -- ---- pieces
 
@@ -102,6 +102,14 @@ set_at cs p c l = get_or-set_same cs p c [] l
 
 pub set_off : (cs : List (List ℕ)) (p r : ℕ) (c : List ℕ) → (r ≡ p → ⊥) → called (set cs p c) r ≡ called cs r
 set_off cs p r c e = get_or-set_other cs p r c [] e
+
+pub top_in : (cs : List (List ℕ)) (w : ℕ) (placed : List Bool) (x y r : List ℕ) (q : ℕ) → w < length cs → x ≡ get_or cs w x → y ≡ first_left placed x → r ≡ get_or (set cs w y) w r
+    → Some q ≡ slice_get r 0 → In q (called cs w)
+top_in cs w placed x y r q l a b d e =
+    let i : In q r = in_slice r 0 q (sym e) in
+    let s : r ≡ called (set cs w y) w = get_or_read (set cs w y) w r (let f = length-set cs w y in omega (arith, f, l)) d [] in
+    let j : In q (first_left placed x) = subst (In q) (s ∙ set_at cs w y l ∙ b) i in
+    subst (In q) (get_or_read cs w x l a []) (left_from placed x q j)
 
 -- ---- a piece settles
 
@@ -255,7 +263,7 @@ module _ (calls : List (List ℕ)) (piece : List ℕ) (h : Pieced calls piece) (
     | inr j ↦ let r = in_members piece p q (subst (In q) its_members j) in let e = a.1 in inr (sym e ∙ r.1)
   ]
 
-  first_in : In p after.list
+  pub first_in : In p after.list
   first_in = in_right p t.list (called t.members p) (subst (In p) (sym its_members) (of_members piece p p fits.0.0 fits.0.1))
 
   still_out : (q : ℕ) → IsPiece piece q → (In q t.list → ⊥) → (q ≡ p → ⊥) → In q after.list → ⊥

@@ -8,6 +8,7 @@ pub mod OrderLaws
 pub mod Reach
 pub mod Search
 pub mod Stacks
+pub mod Tables
 pub mod Trails
 pub mod Turns
 pub mod Waiting

@@ -1,8 +1,10 @@
 -- Pieces that wait for others, while pieces are placed in turn.
-use Rattle.std.specs.Prelude.{◌≡◌, ◌⊎◌, ℕ, ◌<◌, List, [], ◌∷◌, ◌++◌, length, get_or, set, Bool, true, false, if◌then◌else◌}
+use Rattle.std.specs.Prelude.{◌≡◌, ◌⊎◌, ℕ, ◌<◌, ◌≤◌, List, [], ◌∷◌, ◌++◌, length, get_or, set, drop, Bool, true, false, nat_eq, if◌then◌else◌}
 use Rattle.ir_core.specs.Lists.{In}
+use Rattle.call_graph.specs.Calls.{has}
 use Rattle.call_graph.specs.Numbers.{called}
-use Rattle.call_graph.specs.Turns.{IsPiece, Calls, members, Turns}
+use Rattle.call_graph.specs.Search.{total}
+use Rattle.call_graph.specs.Turns.{IsPiece, Calls, members_from, members, Turns}
 
 -- for each piece its functions, those it calls and that may not be placed yet, and those that wait for it; pieces that are
 -- ready, and those that may have to wait
@@ -23,6 +25,11 @@ top_placed placed (q ∷ qs) = get_or placed q false
 abbrev pub first_left : List Bool → List ℕ → List ℕ
 first_left placed [] = []
 first_left placed (q ∷ qs) = if get_or placed q false then first_left placed qs else q ∷ qs
+
+-- other pieces that some calls lead to, put in front
+abbrev pub others : List ℕ → ℕ → List ℕ → List ℕ → List ℕ
+others piece p [] cs = cs
+others piece p (t ∷ ts) cs = others piece p ts (if nat_eq (get_or piece t 0) p then cs else get_or piece t 0 ∷ cs)
 
 pub record Added (p : ℕ) (was now : List ℕ) : Type 0 where
   pub there : In p now
@@ -73,3 +80,18 @@ pub record Keeps (calls : List (List ℕ)) (piece : List ℕ) (t : Table) : Type
   pub woke : (w : ℕ) → In w t.woken → IsPiece piece w × (In w t.list → ⊥)
   pub kept : (r : ℕ) → IsPiece piece r → (In r t.list → ⊥) → called t.members r ≡ members piece r
   pub turns : Turns calls piece t.list
+
+-- pieces that are not placed
+abbrev pub unplaced : List ℕ → List ℕ → ℕ
+unplaced piece list = total (λ p. if has p list then 0 else 1) (length piece)
+
+-- before any piece is placed: functions from k on are in the table
+pub record Filled (calls : List (List ℕ)) (piece : List ℕ) (k : ℕ) (its_members callees : List (List ℕ))
+    (woken : List ℕ) : Type 0 where
+  pub members_long : length its_members ≡ length piece
+  pub callees_long : length callees ≡ length piece
+  pub members : (p : ℕ) → p < length piece → called its_members p ≡ members_from p k (drop k piece)
+  pub sound : (r q : ℕ) → In q (called callees r) → Calls calls piece r q
+  pub complete : (r q : ℕ) (c : Calls calls piece r q) → k ≤ c.caller → In q (called callees r)
+  pub woken_all : (r : ℕ) → IsPiece piece r → k ≤ r → In r woken
+  pub woken_from : (r : ℕ) → In r woken → IsPiece piece r

@@ -49,7 +49,8 @@ impl Stack {
 
     /// Moves all items to the end of a list, the topmost first.
     pub(crate) fn pour(&mut self, list: &mut Vec<usize>) -> Result<(), AllocError>
-        ensures { OnOk result (list.new.items ≡ list.old.items ++ self.old) }
+        ensures list { OnOk result (list.new.items ≡ list.old.items ++ self.old) }
+        ensures emptied { OnOk result (self.new ≡ []) }
     {
         'items: while let Some(item) = self.pop() {
             list.push(item)?;

@@ -42,7 +42,7 @@ not_none (k ∷ m) (suc i) f e h = go (same_name k.name f.name) h (not_none m i 
     go true h ih = cc
     go false h ih = ih h
 
-one_place : (m : Module) → DifferentNames m → (x y : ℕ) (f g : Function) → slice_get m x ≡ Some f → slice_get m y ≡ Some g → f.name ≡ g.name → x ≡ y
+pub one_place : (m : Module) → DifferentNames m → (x y : ℕ) (f g : Function) → slice_get m x ≡ Some f → slice_get m y ≡ Some g → f.name ≡ g.name → x ≡ y
 one_place [] d x y f g e k n = absurd cc
 one_place (a ∷ m) d zero zero f g e k n = refl
 one_place (a ∷ m) d zero (suc y) f g e k n = let s : a ≡ f = cc in absurd (not_none m y g k (ap (λ z. find_function z m) (sym n ∙ ap (λ (z : Function). z.name) (sym s)) ∙ d.0))
@@ -60,7 +60,7 @@ number_found m n k e =
     let s = some_at m k p.0 in
     (s.0, s.1, find_name m n s.0 (p.1 ∙ s.1))
 
-number_is : (m : Module) → DifferentNames m → (x : ℕ) (f : Function) → slice_get m x ≡ Some f → number_of m f.name ≡ Some x
+pub number_is : (m : Module) → DifferentNames m → (x : ℕ) (f : Function) → slice_get m x ≡ Some f → number_of m f.name ≡ Some x
 number_is m d x f e = go (number_of m f.name) refl
   where
     go : (o : Option ℕ) → number_of m f.name ≡ o → number_of m f.name ≡ Some x
@@ -135,7 +135,7 @@ calls_at g (a ∷ m) zero f e = let s : a ≡ f = cc in ap g s
 calls_at g (a ∷ m) (suc x) f e = calls_at g m x f e
 
 -- what is called by numbers is a function that is called by its name
-is_called : (m : Module) → DifferentNames m → (x y : ℕ) (f : Function) → slice_get m x ≡ Some f → In y (called (graph_of m) x) → (h : Function) × (slice_get m y ≡ Some h) × In h.name (calls_of m f.name)
+pub is_called : (m : Module) → DifferentNames m → (x y : ℕ) (f : Function) → slice_get m x ≡ Some f → In y (called (graph_of m) x) → (h : Function) × (slice_get m y ≡ Some h) × In h.name (calls_of m f.name)
 is_called m d x y f e i =
     let r = in_numbers m (called_names f f.blocks) y (elim (in_once (numbers_of m (called_names f f.blocks)) [] y (subst (In y) (calls_at (calls_in m) m x f e) i)) [ inl z ↦ elim z [ ] | inr j ↦ j ]) in
     let s = number_found m r.0 y r.2 in

@@ -34,19 +34,19 @@ same_truth true b h k = sym (h refl)
 same_truth false true h k = k refl
 same_truth false false h k = refl
 
-not_true : (a : Bool) → not a ≡ true → a ≡ true → ⊥
+pub not_true : (a : Bool) → not a ≡ true → a ≡ true → ⊥
 not_true true h k = cc
 not_true false h k = cc
 
-is_not : (a : Bool) → (a ≡ true → ⊥) → not a ≡ true
+pub is_not : (a : Bool) → (a ≡ true → ⊥) → not a ≡ true
 is_not true h = absurd (h refl)
 is_not false h = refl
 
 module _ (m : Module) where
-  one_number : (x y : FuncName) → one_piece m x y ≡ true → piece_number m x ≡ piece_number m y
+  pub one_number : (x y : FuncName) → one_piece m x y ≡ true → piece_number m x ≡ piece_number m y
   one_number x y h = same_place (one_piece m x) (one_piece m y) (λ n. same_truth (one_piece m x n) (one_piece m y n) (piece_on m y x n (piece_back m x y h)) (piece_on m x y n h)) (names_of m)
 
-  by_number : (x y : FuncName) → In x (names_of m) → piece_number m x ≡ piece_number m y → one_piece m x y ≡ true
+  pub by_number : (x y : FuncName) → In x (names_of m) → piece_number m x ≡ piece_number m y → one_piece m x y ≡ true
   by_number x y i e =
       let r = one_passes (one_piece m x) (one_piece m y) (names_of m) x i (of_mutual m x x (inl refl)) e in
       piece_on m x r.0 y r.1 (piece_back m y r.0 r.2)

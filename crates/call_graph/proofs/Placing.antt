@@ -31,7 +31,7 @@ false_for_one test (k ∷ ns) h = go (test k) refl (false_for_one test ns) h
     go true q ih h = let r = ih h in (r.0, inr r.1, r.2)
     go false q ih h = (k, inl refl, q)
 
-in_those : (test : FuncName → Bool) (ns : List FuncName) (n : FuncName) → In n (those test ns) → In n ns × (test n ≡ true)
+pub in_those : (test : FuncName → Bool) (ns : List FuncName) (n : FuncName) → In n (those test ns) → In n ns × (test n ≡ true)
 in_those test [] n i = elim i [ ]
 in_those test (k ∷ ns) n i = go (test k) refl (in_those test ns n) i
   where
@@ -40,7 +40,7 @@ in_those test (k ∷ ns) n i = go (test k) refl (in_those test ns n) i
     go true q ih (inr i) = let r = ih i in (inr r.0, r.1)
     go false q ih i = let r = ih i in (inr r.0, r.1)
 
-those_in : (test : FuncName → Bool) (ns : List FuncName) (n : FuncName) → In n ns → test n ≡ true → In n (those test ns)
+pub those_in : (test : FuncName → Bool) (ns : List FuncName) (n : FuncName) → In n ns → test n ≡ true → In n (those test ns)
 those_in test [] n i h = elim i [ ]
 those_in test (k ∷ ns) n i h = go (test k) refl (λ j. those_in test ns n j h) i
   where
@@ -80,7 +80,7 @@ none_counted test (k ∷ ns) h n i = go (test k) refl h (none_counted test ns) i
     go false q h ih (inl e) = ap test e ∙ q
     go false q h ih (inr i) = ih h n i
 
-at_most : (test : FuncName → Bool) (ns : List FuncName) → count test ns ≤ length ns
+pub at_most : (test : FuncName → Bool) (ns : List FuncName) → count test ns ≤ length ns
 at_most test [] = omega arith
 at_most test (n ∷ ns) = go (test n) (at_most test ns)
   where
@@ -137,7 +137,7 @@ module _ (m : Module) where
     callees_before : CalleesBefore m [] placed
 
   -- the callees of a piece that is ready
-  callees_there : (placed : List FuncName) (x : FuncName) → ready m placed x ≡ true → (z : FuncName) → In z (piece m x) → (y : FuncName) → In y (calls_of m z) → apart m z y ≡ true → In y (names_of m) → In y placed
+  pub callees_there : (placed : List FuncName) (x : FuncName) → ready m placed x ≡ true → (z : FuncName) → In z (piece m x) → (y : FuncName) → In y (calls_of m z) → apart m z y ≡ true → In y (names_of m) → In y placed
   callees_there placed x r z i y c a n = by (one_piece m z y) (stands y placed) (stands y (names_of m)) a (stands_of y (names_of m) n) (true_for_each (λ w. one_piece m z w || stands w placed || not (stands w (names_of m))) (calls_of m z) (true_for_each (callees_placed m placed) (piece m x) r z i) y c) (in_of y placed)
     where
       by : (p s t : Bool) → not p ≡ true → t ≡ true → (p || s || not t) ≡ true → (s ≡ true → In y placed) → In y placed
@@ -212,10 +212,10 @@ module _ (m : Module) where
 
   -- ---- turns
 
-  abbrev unplaced : List FuncName → FuncName → Bool
+  abbrev pub unplaced : List FuncName → FuncName → Bool
   unplaced placed k = not (stands k placed)
 
-  fewer : (placed : List FuncName) (x : FuncName) → In x (names_of m) → stands x placed ≡ false → count (unplaced (placed ++ piece m x)) (names_of m) < count (unplaced placed) (names_of m)
+  pub fewer : (placed : List FuncName) (x : FuncName) → In x (names_of m) → stands x placed ≡ false → count (unplaced (placed ++ piece m x)) (names_of m) < count (unplaced placed) (names_of m)
   fewer placed x i n =
       count_less (unplaced (placed ++ piece m x)) (unplaced placed) (λ k q. keep k (stands k placed) refl q) (names_of m) x i (ap not (stands_of x (placed ++ piece m x) (in_right x placed (piece m x) (those_in (one_piece m x) (names_of m) x i (of_mutual x x (inl refl)))))) (ap not n)
     where

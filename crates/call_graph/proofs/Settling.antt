@@ -13,7 +13,7 @@ use Rattle.call_graph.proofs.Stepping.{below_in, in_slice}
 
 -- ---- pieces
 
-called_below : (n : ℕ) (cs : List (List ℕ)) (x y : ℕ) → Each (Below n) cs → In y (called cs x) → y < n
+pub called_below : (n : ℕ) (cs : List (List ℕ)) (x y : ℕ) → Each (Below n) cs → In y (called cs x) → y < n
 called_below n [] x y e i = elim i [ ]
 called_below n (c ∷ cs) zero y e i = below_in n c y e.0 i
 called_below n (c ∷ cs) (suc x) y e i = called_below n cs x y e.1 i

@@ -18,7 +18,7 @@ use Rattle.call_graph.specs.Turns.{own, IsPiece, Pieced, members_from, members, 
 use Rattle.call_graph.proofs.Standing.{stands_of, in_of, not_standing}
 use Rattle.call_graph.proofs.Ranks.{count}
 use Rattle.call_graph.proofs.Placing.{in_those, those_in, callees_there, fewer, unplaced, at_most}
-use Rattle.call_graph.proofs.Pieces.{one_number, by_number, not_true, is_not}
+use Rattle.call_graph.proofs.PieceNumbers.{one_number, by_number, not_true, is_not}
 use Rattle.call_graph.proofs.Numbers.{some_at, one_place, number_is, calls_by_numbers, is_called}
 use Rattle.call_graph.proofs.Numbered.{leasts_are_numbers}
 use Rattle.call_graph.proofs.Searching.{reaches_then}
@@ -259,3 +259,9 @@ module _ (m : Module) (d : DifferentNames m) (leasts : List ℕ) (l : Leasts (gr
         stops : (k : ℕ) (names : List FuncName) → next_of m names (names_of m) ≡ None → placed_in k m names ≡ names
         stops zero names e = refl
         stops (suc k) names e = ap (λ (c : Option FuncName). elim c [ None ↦ names | Some x ↦ placed_in k m (names ++ piece m x) ]) e
+
+pub orders : (m : Module) → DifferentNames m → (calls : List (List ℕ)) → calls ≡ graph_of m → (leasts list : List ℕ) → Leasts calls leasts → Pieced calls leasts → Ordered calls leasts list
+    → (leasts ≡ map (λ f. piece_number m f.name) m) × (list ≡ numbers_of m (bottom_up m))
+orders m d its e leasts list l h o =
+    let k : Leasts (graph_of m) leasts = subst (λ (c : List (List ℕ)). Leasts c leasts) e l in
+    (leasts_are_numbers m d leasts k, order_by_numbers m d leasts k (subst (λ (c : List (List ℕ)). Pieced c leasts) e h) list (subst (λ (c : List (List ℕ)). Ordered c leasts list) e o))

@@ -5,6 +5,7 @@ pub mod NumberLaws
 pub mod Numbers
 pub mod Order
 pub mod OrderLaws
+pub mod Orders
 pub mod Reach
 pub mod Search
 pub mod Stacks

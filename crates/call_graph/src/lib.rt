@@ -5,7 +5,7 @@
 mod calls;
 pub mod laws;
 mod making;
-
+mod ordering;
 mod ready;
 mod search;
 mod stack;
@@ -13,3 +13,7 @@ mod turns;
 
 pub use calls::Graph;
 pub use making::graph;
+pub use ordering::{Order, pieces};
+
+#[cfg(test)]
+mod tests;

@@ -1,4 +1,4 @@
-use Rattle.call_graph.proofs.Pieces as pieces
+use Rattle.call_graph.proofs.PieceNumbers as pieces
 use Rattle.call_graph.proofs.laws.apart_by_numbers.Goals as goal
 
 pub returns : goal.returns

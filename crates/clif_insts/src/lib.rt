@@ -8,7 +8,7 @@ mod control;
 mod flags;
 mod forms;
 mod insts;
-mod laws;
+pub mod laws;
 mod lists;
 mod memory;
 mod numbers;

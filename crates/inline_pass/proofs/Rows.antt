@@ -12,7 +12,7 @@ use Rattle.ir_core.specs.Signatures.{same_sig}
 use Rattle.ir_semantics.specs.Splice.{sides, splice_with}
 use Rattle.ir_semantics.specs.Canon.{canonical}
 use Rattle.ir_core.specs.Size.{size_of}
-use Rattle.ir_examples.proofs.Written.{signature, declares, f, g}
+use Rattle.ir_semantics.proofs.Written.{signature, declares, f, g}
 use Rattle.call_graph.specs.Order.{BottomUp, bottom_up, piece_number}
 use Rattle.inline_pass.specs.Finished.{passed}
 use Rattle.inline_pass.specs.Pass.{pass}

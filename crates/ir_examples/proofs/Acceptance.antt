@@ -17,7 +17,7 @@ use Rattle.ir_core.specs.Lookup.{find_block}
 use Rattle.ir_core.specs.Lists.{In, Each}
 use Rattle.ir_semantics.specs.Available.{Reach, begin, next, branch, Available}
 use Rattle.ir_semantics.specs.Accepted.{Rule, no_terminator, entry_target, count_mismatch, type_mismatch, convention, signature_mismatch, slot_range, tag_place, not_available, KeptAtLine, Declared}
-use Rattle.ir_examples.proofs.Written.{signature, slot, declares, f, h}
+use Rattle.ir_semantics.proofs.Written.{signature, slot, declares, f, h}
 
 -- a rule holds at a line of a block
 abbrev KeptAt : Function → ℕ → ℕ → Rule → Type 0

@@ -20,7 +20,7 @@ use Rattle.ir_semantics.specs.Machine.{Going, Returned, Trapped}
 use Rattle.ir_semantics.specs.Runs.{outcome}
 use Rattle.ir_semantics.specs.Splice.{sides, splice_with, replace}
 use Rattle.ir_semantics.specs.Canon.{canonical}
-use Rattle.ir_examples.proofs.Written.{signature, declares, f, g, t, i64s, world, ends}
+use Rattle.ir_semantics.proofs.Written.{signature, declares, f, g, t, i64s, world, ends}
 
 -- An indirect tail call out of the callee.
 abbrev indirect_tail_callee : Function

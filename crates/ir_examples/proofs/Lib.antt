@@ -6,4 +6,3 @@ pub mod Operations
 pub mod SafetyExample
 pub mod Tails
 pub mod Throws
-pub mod Written

@@ -19,7 +19,7 @@ use Rattle.ir_semantics.specs.Machine.{Going, Returned, Unwritten}
 use Rattle.ir_semantics.specs.Runs.{outcome}
 use Rattle.ir_semantics.specs.Splice.{sides, splice_with, replace}
 use Rattle.ir_semantics.specs.Canon.{canonical}
-use Rattle.ir_examples.proofs.Written.{signature, slot, declares, f, g, i64s, world, ends}
+use Rattle.ir_semantics.proofs.Written.{signature, slot, declares, f, g, i64s, world, ends}
 
 -- A loop and two returns.
 abbrev loop_callee : Function

@@ -17,7 +17,7 @@ use Rattle.ir_core.specs.declared.signatures.Conv.TheVariants.{Fast}
 use Rattle.ir_core.specs.Module.{Const, Pure, PureImm, Store, FuncAddr, Indirect, Plain, Return, Call, Function, Module}
 use Rattle.ir_semantics.specs.Machine.{Returned, Trapped}
 use Rattle.ir_semantics.specs.Runs.{outcome}
-use Rattle.ir_examples.proofs.Written.{signature, declares, no_flags, f, g, h, i64s, world, ends}
+use Rattle.ir_semantics.proofs.Written.{signature, declares, no_flags, f, g, h, i64s, world, ends}
 
 -- Arithmetic.
 abbrev arithmetic_sdiv : Function

@@ -22,7 +22,7 @@ use Rattle.ir_semantics.specs.Site.{Site}
 use Rattle.ir_core.specs.Whole.{Whole, IsModule}
 use Rattle.ir_semantics.specs.Accepted.{Rule, no_terminator, entry_target, count_mismatch, type_mismatch, convention, signature_mismatch, slot_range, tag_place, not_available, KeptAtLine, KeptAtBlock, KeptAtCallee, Declared, FunctionAccepted, Accepted}
 use Rattle.ir_semantics.proofs.SafetyTypes.{some_same, head_same}
-use Rattle.ir_examples.proofs.Written.{signature, declares, f, g}
+use Rattle.ir_semantics.proofs.Written.{signature, declares, f, g}
 
 abbrev line_of : Instruction → Option Ty → Line
 line_of inst ty = record { inst = inst; ty = ty; results = 1 ∷ []; tags = [] }

@@ -20,7 +20,7 @@ use Rattle.ir_semantics.specs.Machine.{User as ShownUser}
 use Rattle.ir_semantics.specs.Runs.{outcome}
 use Rattle.ir_semantics.specs.Splice.{sides, splice_with, replace}
 use Rattle.ir_semantics.specs.Canon.{canonical}
-use Rattle.ir_examples.proofs.Written.{signature, slot, declares, f, g, h, i64s, world, ends}
+use Rattle.ir_semantics.proofs.Written.{signature, slot, declares, f, g, h, i64s, world, ends}
 
 -- A tail call out of the callee, at a plain call.
 abbrev tail_callee : Function

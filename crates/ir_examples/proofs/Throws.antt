@@ -17,7 +17,7 @@ use Rattle.ir_semantics.specs.Machine.{Host, Caught, Throws, Returned, Threw}
 use Rattle.ir_semantics.specs.Runs.{outcome}
 use Rattle.ir_semantics.specs.Splice.{sides, splice_with, replace}
 use Rattle.ir_semantics.specs.Canon.{canonical}
-use Rattle.ir_examples.proofs.Written.{signature, declares, f, g, h, i64s, world, ends}
+use Rattle.ir_semantics.proofs.Written.{signature, declares, f, g, h, i64s, world, ends}
 
 -- A throw through a plain call of the callee.
 abbrev throw_callee : Function

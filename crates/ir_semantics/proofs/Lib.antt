@@ -3,3 +3,4 @@ pub mod SafetyRuns
 pub mod SafetyStands
 pub mod SafetySteps
 pub mod SafetyTypes
+pub mod Written

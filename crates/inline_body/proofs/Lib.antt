@@ -1,0 +1,16 @@
+pub mod Along
+pub mod Behind
+pub mod Fills
+pub mod Found
+pub mod LastBody
+pub mod OwnNames
+pub mod BodyBlocks
+pub mod Putting
+pub mod SameNames
+pub mod SiteBlocks
+pub mod SiteOpening
+pub mod Spliced
+pub mod Steps
+pub mod TableWritten
+pub mod Walks
+pub mod WithinBody

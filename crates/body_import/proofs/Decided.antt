@@ -11,7 +11,7 @@ module _ {A : Type 0} (same : A → A → Bool) (key : A → List ℕ) (decide :
   new_by_key [] x = refl
   new_by_key (y ∷ ys) x = ap₂ (λ (b c : Bool). if b then false else c) (decide y x) (new_by_key ys x)
 
-  place_by_key : (ys : List A) (x : A) → first_place same ys x ≡ first_place same_bytes (map key ys) (key x)
+  pub place_by_key : (ys : List A) (x : A) → first_place same ys x ≡ first_place same_bytes (map key ys) (key x)
   place_by_key [] x = refl
   place_by_key (y ∷ ys) x = ap₂ (λ (b : Bool) (n : ℕ). if b then 0 else suc n) (decide y x) (place_by_key ys x)
 
@@ -23,7 +23,7 @@ module _ {A : Type 0} (same : A → A → Bool) (key : A → List ℕ) (decide :
       go true h = refl
       go false h = ap (λ z. key y ∷ z) h
 
-  items_by_key : (ys xs : List A) → map key (with_items same ys xs) ≡ with_items same_bytes (map key ys) (map key xs)
+  pub items_by_key : (ys xs : List A) → map key (with_items same ys xs) ≡ with_items same_bytes (map key ys) (map key xs)
   items_by_key ys [] = refl
   items_by_key ys (x ∷ xs) = items_by_key (with_item same ys x) xs ∙ ap (λ z. with_items same_bytes z (map key xs)) (item_by_key ys x)
 

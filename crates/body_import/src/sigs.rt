@@ -1,7 +1,6 @@
 //! Signatures taken over.
-ghost use Rattle.std.specs.Prelude.{◌≡◌, ℕ, ◌+◌, ◌-◌, ◌<◌, ◌^◌, ◌++◌, ◌∷◌, [], List, length, map, get_or, Bool, IfOk, OnOk};
-ghost use Rattle.std.specs.Prelude.{slice_get};
-ghost use Rattle.ir_semantics.specs.Import.{with_items, new_place};
+ghost use Rattle.std.specs.Prelude.{◌≡◌, ℕ, ◌+◌, ◌-◌, ◌<◌, ◌^◌, ◌++◌, ◌∷◌, [], List, length, map, ◌≤◌, Bool, IfOk, OnOk};
+ghost use Rattle.ir_semantics.specs.Import.{with_items, first_place};
 ghost use Rattle.ir_core.specs.Signatures.{same_sig};
 ghost use Rattle.ir_core.specs.declared.signatures.Sig.{Sig};
 ghost use Rattle.body_import.specs.Keys.{Knows};
@@ -90,7 +89,9 @@ pub fn import_sigs(
 ) -> Result<SigImport, AllocError>
     requires { count + length sigs.now < 2 ^ 32 - 1 }
     ensures added { IfOk result (λ i. (own : List Sig) → Knows 0 (map key_of_sig own) places.now → count ≡ length own → with_items same_sig own sigs.now ≡ own ++ i.added) }
-    ensures table { IfOk result (λ i. (own : List Sig) → Knows 0 (map key_of_sig own) places.now → count ≡ length own → (k : ℕ) → new_place same_sig (with_items same_sig own sigs.now) (slice_get sigs.now k) ≡ get_or i.table k (length (with_items same_sig own sigs.now))) }
+    ensures table { IfOk result (λ i. (own : List Sig) → Knows 0 (map key_of_sig own) places.now → count ≡ length own → i.table ≡ map (first_place same_sig (with_items same_sig own sigs.now)) sigs.now) }
+    ensures as_many { IfOk result (λ i. length i.table ≡ length sigs.now) }
+    ensures fewer { IfOk result (λ i. length i.added ≤ length sigs.now) }
 {
     let merge = merge_keys(alloc, places, count, sig_keys(alloc, sigs)?)?;
     Ok(SigImport {

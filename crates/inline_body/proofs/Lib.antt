@@ -12,5 +12,4 @@ pub mod SiteOpening
 pub mod Spliced
 pub mod Steps
 pub mod TableWritten
-pub mod Walks
 pub mod WithinBody

@@ -4,7 +4,7 @@ use Rattle.ir_semantics.specs.Renaming.{target_under}
 use Rattle.ir_core.specs.Uses.{arg_values_used, targets_used}
 use Rattle.ir_core.proofs.Members.{each_left, each_right}
 use Rattle.inline_body.specs.Named.{names_of, Moves, blocks_of}
-use Rattle.inline_body.proofs.Walks.{next_is, grown}
+use Rattle.body_import.proofs.Walks.{next_is, grown}
 use Rattle.inline_body.proofs.names.Names.targets.Goals as goal
 
 pub target-requires-clause-values : goal.target-requires-clause-values

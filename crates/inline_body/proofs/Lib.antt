@@ -13,3 +13,7 @@ pub mod Spliced
 pub mod Steps
 pub mod TableWritten
 pub mod WithinBody
+pub mod ResultTypes
+pub mod UsesUnder
+pub mod BodyRanges
+pub mod BodyDefinitions

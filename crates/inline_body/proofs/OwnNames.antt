@@ -6,8 +6,8 @@ use Rattle.debug_tags.specs.declared.tags.Tag.TheVariants as tag
 use Rattle.ir_core.specs.declared.instructions.Arg.{Arg}
 use Rattle.ir_core.specs.declared.instructions.Arg.TheVariants as arg
 use Rattle.ir_core.specs.declared.instructions.BlockCall.{BlockCall}
-use Rattle.ir_core.specs.Module.{Simple, Nop, Const, Pure, PureImm, Load, Store, StackLoad, StackStore, FuncAddr, Trap, Trapz, Trapnz, Branch, Jump, Brif, BrTable, CallTarget, Direct, Indirect, Instruction, Plain, Branches, SequencePoint, Return, Call, ReturnCall, TryCall, Line, Block}
-use Rattle.ir_semantics.specs.Renaming.{Renaming, arg_under, target_under, tag_under, entry_under, simple_under, branch_under, called_under, instruction_under, line_under, block_under}
+use Rattle.ir_core.specs.Module.{Simple, Nop, Const, Pure, PureImm, Load, Store, StackLoad, StackStore, FuncAddr, Trap, Trapz, Trapnz, Branch, Jump, Brif, BrTable, CallTarget, Direct, Indirect, TryTarget, TryDirect, TryIndirect, Instruction, Plain, Branches, SequencePoint, Return, Call, ReturnCall, TryCall, Line, Block}
+use Rattle.ir_semantics.specs.Renaming.{Renaming, arg_under, target_under, tag_under, entry_under, simple_under, branch_under, called_under, try_target_under, instruction_under, line_under, block_under}
 
 module _ (u : Renaming) (value : (v : ℕ) → u.value v ≡ v) (block : (b : ℕ) → u.block b ≡ b) (slot : (k : ℕ) → u.slot k ≡ k) (sig : (k : ℕ) → u.sig k ≡ k) (callee : (k : ℕ) → u.callee k ≡ k) where
   pub values_kept : (vs : List ℕ) → map u.value vs ≡ vs
@@ -59,6 +59,10 @@ module _ (u : Renaming) (value : (v : ℕ) → u.value v ≡ v) (block : (b : �
   called_kept (Direct k) = ap Direct (callee k)
   called_kept (Indirect k a) = ap₂ Indirect (sig k) (value a)
 
+  try_kept : (t : TryTarget) → try_target_under u t ≡ t
+  try_kept (TryDirect k) = ap TryDirect (callee k)
+  try_kept (TryIndirect a) = ap TryIndirect (value a)
+
   pub instruction_kept : (i : Instruction) → instruction_under u i ≡ i
   instruction_kept (Plain p) = ap Plain (simple_kept p)
   instruction_kept (Branches c) = ap Branches (branch_kept c)
@@ -67,7 +71,7 @@ module _ (u : Renaming) (value : (v : ℕ) → u.value v ≡ v) (block : (b : �
   instruction_kept (Call t args) = ap₂ Call (called_kept t) (values_kept args)
   instruction_kept (ReturnCall t args) = ap₂ ReturnCall (called_kept t) (values_kept args)
   instruction_kept (TryCall t k args normal table) =
-      ap₂ (λ (y : CallTarget) (z : ℕ). TryCall y z (map u.value args) (target_under u normal) (map (entry_under u) table)) (called_kept t) (sig k)
+      ap₂ (λ (y : TryTarget) (z : ℕ). TryCall y z (map u.value args) (target_under u normal) (map (entry_under u) table)) (try_kept t) (sig k)
       ∙ (ap (λ (z : List ℕ). TryCall (t) (k) z (target_under u normal) (map (entry_under u) table)) (values_kept args)
       ∙ ap₂ (TryCall (t) (k) (args)) (target_kept normal) (entries_kept table))
 

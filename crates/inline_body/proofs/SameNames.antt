@@ -6,8 +6,8 @@ use Rattle.debug_tags.specs.declared.tags.Tag.TheVariants as tag
 use Rattle.ir_core.specs.declared.instructions.Arg.{Arg}
 use Rattle.ir_core.specs.declared.instructions.Arg.TheVariants as arg
 use Rattle.ir_core.specs.declared.instructions.BlockCall.{BlockCall}
-use Rattle.ir_core.specs.Module.{Simple, Nop, Const, Pure, PureImm, Load, Store, StackLoad, StackStore, FuncAddr, Trap, Trapz, Trapnz, Branch, Jump, Brif, BrTable, CallTarget, Direct, Indirect, Instruction, Plain, Branches, SequencePoint, Return, Call, ReturnCall, TryCall, Line, Block}
-use Rattle.ir_semantics.specs.Renaming.{Renaming, arg_under, target_under, tag_under, entry_under, simple_under, branch_under, called_under, instruction_under, line_under, block_under}
+use Rattle.ir_core.specs.Module.{Simple, Nop, Const, Pure, PureImm, Load, Store, StackLoad, StackStore, FuncAddr, Trap, Trapz, Trapnz, Branch, Jump, Brif, BrTable, CallTarget, Direct, Indirect, TryTarget, TryDirect, TryIndirect, Instruction, Plain, Branches, SequencePoint, Return, Call, ReturnCall, TryCall, Line, Block}
+use Rattle.ir_semantics.specs.Renaming.{Renaming, arg_under, target_under, tag_under, entry_under, simple_under, branch_under, called_under, try_target_under, instruction_under, line_under, block_under}
 
 module _ (u w : Renaming) (value : (v : ℕ) → u.value v ≡ w.value v) (block : (b : ℕ) → u.block b ≡ w.block b) (slot : (k : ℕ) → u.slot k ≡ w.slot k) (sig : (k : ℕ) → u.sig k ≡ w.sig k) (callee : (k : ℕ) → u.callee k ≡ w.callee k) where
   pub values_same : (vs : List ℕ) → map u.value vs ≡ map w.value vs
@@ -59,6 +59,10 @@ module _ (u w : Renaming) (value : (v : ℕ) → u.value v ≡ w.value v) (block
   called_same (Direct k) = ap Direct (callee k)
   called_same (Indirect k a) = ap₂ Indirect (sig k) (value a)
 
+  try_same : (t : TryTarget) → try_target_under u t ≡ try_target_under w t
+  try_same (TryDirect k) = ap TryDirect (callee k)
+  try_same (TryIndirect a) = ap TryIndirect (value a)
+
   pub instruction_same : (i : Instruction) → instruction_under u i ≡ instruction_under w i
   instruction_same (Plain p) = ap Plain (simple_same p)
   instruction_same (Branches c) = ap Branches (branch_same c)
@@ -67,9 +71,9 @@ module _ (u w : Renaming) (value : (v : ℕ) → u.value v ≡ w.value v) (block
   instruction_same (Call t args) = ap₂ Call (called_same t) (values_same args)
   instruction_same (ReturnCall t args) = ap₂ ReturnCall (called_same t) (values_same args)
   instruction_same (TryCall t k args normal table) =
-      ap₂ (λ (y : CallTarget) (z : ℕ). TryCall y z (map u.value args) (target_under u normal) (map (entry_under u) table)) (called_same t) (sig k)
-      ∙ (ap (λ (z : List ℕ). TryCall (called_under w t) (w.sig k) z (target_under u normal) (map (entry_under u) table)) (values_same args)
-      ∙ ap₂ (TryCall (called_under w t) (w.sig k) (map w.value args)) (target_same normal) (entries_same table))
+      ap₂ (λ (y : TryTarget) (z : ℕ). TryCall y z (map u.value args) (target_under u normal) (map (entry_under u) table)) (try_same t) (sig k)
+      ∙ (ap (λ (z : List ℕ). TryCall (try_target_under w t) (w.sig k) z (target_under u normal) (map (entry_under u) table)) (values_same args)
+      ∙ ap₂ (TryCall (try_target_under w t) (w.sig k) (map w.value args)) (target_same normal) (entries_same table))
 
   line_same : (l : Line) → line_under u l ≡ line_under w l
   line_same l =

@@ -11,6 +11,7 @@ mod names;
 mod numbers;
 mod piece;
 mod placing;
+mod results;
 mod site;
 mod tables;
 
@@ -22,5 +23,6 @@ pub use lines::{copy_lines, inline_lines, jump};
 pub use names::Names;
 pub use piece::{Piece, put_piece};
 pub use placing::put_body;
+pub use results::{NewResults, new_types, number_results, result_types};
 pub use site::{Opened, append_lines, open};
 pub use tables::number_blocks;

@@ -13,6 +13,7 @@ use Rattle.ir_semantics.specs.Renaming.{tag_under, instruction_under, called_und
 use Rattle.inline_body.specs.declared.names.Names.{Names}
 use Rattle.inline_body.specs.Named.{names_of, Moves, Reached}
 use Rattle.inline_body.specs.Inlined.{takes_tags, copied_tags, copied_line, jump_line, call_in_place, inlined_line, inlined_lines, results_from, inlined_block, BlockReached}
+use Rattle.inline_body.specs.Results.{is_tail_call, tail_calls}
 use Rattle.inline_body.proofs.UsesUnder.{values_under, blocks_under, slots_under, callees_under, sigs_under, shown_under}
 
 below_mapped : (h : ℕ → ℕ) (m k : ℕ) → ((v : ℕ) → v < m → h v < k) → (xs : List ℕ) → Below m xs → Below k (map h xs)
@@ -69,28 +70,29 @@ module _ (n : Names) (G N : Counts) (fit : NamesInRange n G N) (outer : List Tag
       go true = both_shown l.tags h.shown
       go false = inner_shown l.tags h.shown
 
-  line_in_range : (rs : List ℕ) → Below N.values rs → (l : Line) (i : Instruction) → l.inst ≡ i → LineInRange G l → Each (LineInRange N) (inlined_line n outer after rs l i)
-  line_in_range rs hr l (Plain p) e h = (copied_in_range l h, tt)
-  line_in_range rs hr l (Branches b) e h = (copied_in_range l h, tt)
-  line_in_range rs hr l SequencePoint e h = (copied_in_range l h, tt)
-  line_in_range rs hr l (Return vs) e h =
+  line_in_range : (rs : List ℕ) (l : Line) (i : Instruction) → (is_tail_call i ≡ true → Below N.values rs) → l.inst ≡ i → LineInRange G l → Each (LineInRange N) (inlined_line n outer after rs l i)
+  line_in_range rs l (Plain p) hr e h = (copied_in_range l h, tt)
+  line_in_range rs l (Branches b) hr e h = (copied_in_range l h, tt)
+  line_in_range rs l SequencePoint hr e h = (copied_in_range l h, tt)
+  line_in_range rs l (Return vs) hr e h =
       let used : Below G.values (vs ++ []) = subst (λ (z : Instruction). Below G.values (values_used z)) e h.values in
       (jump_in_range N after (map (names_of n).value vs) after_there (below_mapped (names_of n).value G.values N.values fit.values vs (below_left G.values vs [] used)), tt)
-  line_in_range rs hr l (Call t args) e h = (copied_in_range l h, tt)
-  line_in_range rs hr l (ReturnCall t args) e h =
-      let whole = line_with_tags l (outer ++ map (tag_under (names_of n)) l.tags) (both_shown l.tags h.shown) rs hr h in
+  line_in_range rs l (Call t args) hr e h = (copied_in_range l h, tt)
+  line_in_range rs l (ReturnCall t args) hr e h =
+      let whole = line_with_tags l (outer ++ map (tag_under (names_of n)) l.tags) (both_shown l.tags h.shown) rs (hr refl) h in
       let z : LineInRange N (record { inst = instruction_under (names_of n) (ReturnCall t args); ty = l.ty; results = rs; tags = outer ++ map (tag_under (names_of n)) l.tags }) = subst (λ (z : Instruction). LineInRange N (record { inst = instruction_under (names_of n) z; ty = l.ty; results = rs; tags = outer ++ map (tag_under (names_of n)) l.tags })) e whole in
-      (record { values = z.values; blocks = z.blocks; slots = z.slots; shown = z.shown; callees = z.callees; sigs = z.sigs; results = z.results }, (jump_in_range N after rs after_there hr, tt))
-  line_in_range rs hr l (TryCall t sig args normal table) e h = (copied_in_range l h, tt)
+      (record { values = z.values; blocks = z.blocks; slots = z.slots; shown = z.shown; callees = z.callees; sigs = z.sigs; results = z.results }, (jump_in_range N after rs after_there (hr refl), tt))
+  line_in_range rs l (TryCall t sig args normal table) hr e h = (copied_in_range l h, tt)
 
-  lines_in_range : (rs : List ℕ) → Below N.values rs → (ls : List Line) → Each (LineInRange G) ls → Each (LineInRange N) (inlined_lines n outer after rs ls)
-  lines_in_range rs hr [] h = tt
-  lines_in_range rs hr (l ∷ ls) h = each_join (LineInRange N) (inlined_line n outer after rs l l.inst) (inlined_lines n outer after rs ls) (line_in_range rs hr l l.inst refl h.0) (lines_in_range rs hr ls h.1)
+  lines_in_range : (rs : List ℕ) (ls : List Line) → (0 < tail_calls ls → Below N.values rs) → Each (LineInRange G) ls → Each (LineInRange N) (inlined_lines n outer after rs ls)
+  lines_in_range rs [] hr h = tt
+  lines_in_range rs (l ∷ ls) hr h =
+      each_join (LineInRange N) (inlined_line n outer after rs l l.inst) (inlined_lines n outer after rs ls) (line_in_range rs l l.inst (λ t. hr (let one : Bool → ℕ = λ b. if b then 1 else 0 in let c : one (is_tail_call l.inst) ≡ one true = ap one t in omega (arith, c))) refl h.0) (lines_in_range rs ls (λ k. hr (omega (arith, k))) h.1)
 
-  pub blocks_in_range : (starts : List ℕ) (count : ℕ) → (bs : List Block) → Each (λ b. Below N.values (results_from starts count b.number)) bs → Each (BlockInRange G) bs → Each (BlockInRange N) (map (inlined_block n outer after starts count) bs)
+  pub blocks_in_range : (starts : List ℕ) (count : ℕ) → (bs : List Block) → Each (λ b. 0 < tail_calls b.lines → Below N.values (results_from starts count b.number)) bs → Each (BlockInRange G) bs → Each (BlockInRange N) (map (inlined_block n outer after starts count) bs)
   blocks_in_range starts count [] hr h = tt
   blocks_in_range starts count (b ∷ bs) hr h =
-      (record { params = below_mapped (names_of n).value G.values N.values fit.values b.params (h.0).params; lines = lines_in_range (results_from starts count b.number) hr.0 b.lines (h.0).lines }, blocks_in_range starts count bs hr.1 h.1)
+      (record { params = below_mapped (names_of n).value G.values N.values fit.values b.params (h.0).params; lines = lines_in_range (results_from starts count b.number) b.lines hr.0 (h.0).lines }, blocks_in_range starts count bs hr.1 h.1)
 
 -- what the copies ask of the callee's lines
 pub record NamesReach (n : Names) (G : Counts) : Type 0 where

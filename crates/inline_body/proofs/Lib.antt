@@ -17,3 +17,4 @@ pub mod ResultTypes
 pub mod UsesUnder
 pub mod BodyRanges
 pub mod BodyDefinitions
+pub mod PieceReady

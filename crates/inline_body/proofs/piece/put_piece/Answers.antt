@@ -9,10 +9,10 @@ use Rattle.inline_body.proofs.Spliced.{splice_is}
 use Rattle.inline_body.proofs.piece.put_piece.Goals as goal
 
 pub put_body-requires-clause-undefined : goal.put_body-requires-clause-undefined
-put_body-requires-clause-undefined c = λ v i j. c.requires.undefined v i (subst (λ (z : Function). In v (definitions z.blocks)) c.append.ensures.body j)
+put_body-requires-clause-undefined c = λ v i j. c.requires.ready.undefined v i (subst (λ (z : Function). In v (definitions z.blocks)) c.append.ensures.body j)
 
 pub put_body-requires-clause-lines_undefined : goal.put_body-requires-clause-lines_undefined
-put_body-requires-clause-lines_undefined c = λ v i j. c.requires.lines_undefined v i (subst (λ (z : Function). In v (definitions z.blocks)) c.append.ensures.body j)
+put_body-requires-clause-lines_undefined c = λ v i j. c.requires.ready.lines_undefined v i (subst (λ (z : Function). In v (definitions z.blocks)) c.append.ensures.body j)
 
 pub returns-clause-spliced : goal.returns-clause-spliced
 returns-clause-spliced c = λ p is.

@@ -1,0 +1,28 @@
+//! A call of a function replaced by the function's body.
+#![tactic(auto)]
+
+mod appending;
+mod blocks;
+mod copies;
+mod inserting;
+pub mod laws;
+mod lines;
+mod names;
+mod numbers;
+mod piece;
+mod placing;
+mod results;
+mod site;
+mod tables;
+
+pub use appending::append_to_blocks;
+pub use blocks::{BlockLines, InlinedBlocks, inline_blocks};
+pub use copies::{copy_inst, copy_tags};
+pub use inserting::insert_blocks;
+pub use lines::{copy_lines, inline_lines, jump};
+pub use names::Names;
+pub use piece::{Piece, put_piece};
+pub use placing::put_body;
+pub use results::{NewResults, new_types, number_results, result_types};
+pub use site::{Opened, append_lines, open};
+pub use tables::number_blocks;

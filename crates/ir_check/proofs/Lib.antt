@@ -2,3 +2,4 @@ pub mod Firsts
 pub mod Tests
 pub mod ByTests
 pub mod Walking
+pub mod Walks

@@ -2,3 +2,4 @@ pub mod Faults
 pub mod Twins
 pub mod Laws
 pub mod Accepting
+pub mod RowTypes

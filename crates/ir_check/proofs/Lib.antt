@@ -3,3 +3,4 @@ pub mod Tests
 pub mod ByTests
 pub mod Walking
 pub mod Walks
+pub mod Ranged

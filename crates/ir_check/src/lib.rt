@@ -5,8 +5,10 @@ mod calls;
 mod checked;
 mod counts;
 pub mod laws;
+mod forms;
 mod row_types;
 mod rules;
 mod types;
+mod typing;
 
 pub use checked::Checked;

@@ -1,0 +1,113 @@
+//! TypeMismatch at one instruction.
+ghost use Rattle.std.specs.Prelude.{◌≡◌, ◌<◌, ◌&&◌, [], ◌∷◌, Some, None, length};
+ghost use Rattle.clk_num.specs.Rows.{row};
+ghost use Rattle.clk_num.specs.Views.{data_of};
+ghost use Rattle.ir_core.specs.Forms.{controlling};
+ghost use Rattle.ir_core.specs.Lists.{Below};
+ghost use Rattle.ir_core.specs.Lookup.{and_then, param_types};
+ghost use Rattle.ir_core.specs.Module.{Const, Pure, PureImm, Load, Store};
+ghost use Rattle.ir_core.specs.Sound.{IsSound, LineInRange, counts_of};
+ghost use Rattle.ir_core.specs.Viewed.{line_of};
+ghost use Rattle.ir_semantics.specs.Accepted.{type_at, widths_of_values};
+ghost use Rattle.ir_check.specs.RowTypes.{widths_of_row};
+ghost use Rattle.ir_check.specs.Twins.{have_types, is_type, simple_types, types, called_types};
+
+use crate::calls::{callee_sig, is_same_type, named_sig, width};
+use crate::forms::{
+    find_access_suffix, find_access_type, has_access_form, has_store_form, have_flags_form, is_in_range, is_same_width,
+    takes_immediate,
+};
+use crate::row_types::{RowTypes, find_row_of_one, find_row_of_three, find_row_of_two};
+use crate::types::{
+    has_one_type, has_row_types, has_target_types, have_param_types, have_target_types, is_same_suffix, type_of_width,
+};
+use clk_num::{Bits, Op, Width};
+use ir_core::{Access, Flags, Func, Inst, InstData, Param, Sig, Ty, Value};
+
+/// A constant has no suffix, and one result of its type.
+fn const_has_types(func: &Func, added: &InstData, bits: &Bits) -> bool
+    requires line { LineInRange (counts_of func.now.function) (line_of added.now) }
+    ensures { result ≡ simple_types func.now.function (line_of added.now) (Const (data_of bits.now)) }
+{
+    is_same_suffix(added.ty, None)
+        && !is_same_width(bits.width(), Width::W128)
+        && is_in_range(bits)
+        && has_one_type(func, added.results.as_slice(), type_of_width(bits.width()))
+}
+
+/// The types of the results of an operation on these values.
+fn find_row(func: &Func, op: Op, args: &[Value]) -> Option<RowTypes>
+    requires inside { Below (length func.now.function.types) args.now }
+    ensures { widths_of_row result ≡ and_then (widths_of_values func.now.function args.now) (row op) }
+{
+    match args {
+        [a] => find_row_of_one(op, width(func.ty(*a))),
+        [a, b] => find_row_of_two(op, width(func.ty(*a)), width(func.ty(*b))),
+        [a, b, c] => find_row_of_three(op, width(func.ty(*a)), width(func.ty(*b)), width(func.ty(*c))),
+        _ => None,
+    }
+}
+
+/// The type of the operand that gives a suffix that may be left out.
+fn find_suffix(func: &Func, op: Op, args: &[Value]) -> Option<Ty>
+    requires inside { Below (length func.now.function.types) args.now }
+    ensures { result ≡ type_at func.now.function (controlling op args.now) }
+{
+    let value = match op {
+        Op::Select => {
+            if 1 < args.len() {
+                args[1]
+            } else {
+                return None;
+            }
+        }
+        Op::Uextend(_) | Op::Sextend(_) | Op::Ireduce(_) => return None,
+        _ => {
+            if 0 < args.len() {
+                args[0]
+            } else {
+                return None;
+            }
+        }
+    };
+    Some(func.ty(value))
+}
+
+/// An operation with an immediate of the operand's type.
+fn immediate_has_types(func: &Func, added: &InstData, op: Op, arg: Value, imm: &Bits) -> bool
+    requires line { LineInRange (counts_of func.now.function) (line_of added.now) }
+    requires inside { arg < length func.now.function.types }
+    ensures { result ≡ simple_types func.now.function (line_of added.now) (PureImm op arg (data_of imm.now)) }
+{
+    let ty = func.ty(arg);
+    takes_immediate(op)
+        && is_in_range(imm)
+        && (is_same_suffix(added.ty, Some(ty))
+            && is_same_width(imm.width(), width(ty))
+            && has_row_types(func, added.results.as_slice(), find_row_of_two(op, width(ty), imm.width())))
+}
+
+/// A load from an address, of the type of its access.
+fn load_has_types(func: &Func, added: &InstData, access: Access, flags: Flags, address: Value, offset: i32) -> bool
+    requires line { LineInRange (counts_of func.now.function) (line_of added.now) }
+    requires inside { address < length func.now.function.types }
+    ensures { result ≡ simple_types func.now.function (line_of added.now) (Load access flags address offset) }
+{
+    is_same_suffix(added.ty, find_access_suffix(access))
+        && have_flags_form(flags)
+        && has_access_form(access)
+        && is_same_type(func.ty(address), Ty::I64)
+        && has_one_type(func, added.results.as_slice(), find_access_type(access))
+}
+
+/// A store to an address, of the type of the value.
+fn store_has_types(func: &Func, added: &InstData, narrow: Option<u8>, flags: Flags, value: Value, address: Value, offset: i32) -> bool
+    requires value { value < length func.now.function.types }
+    requires address { address < length func.now.function.types }
+    ensures { result ≡ simple_types func.now.function (line_of added.now) (Store narrow flags value address offset) }
+{
+    let ty = func.ty(value);
+    have_flags_form(flags)
+        && is_same_type(func.ty(address), Ty::I64)
+        && (is_same_suffix(added.ty, Some(ty)) && has_store_form(narrow, ty))
+}

@@ -4,3 +4,4 @@ pub mod ByTests
 pub mod Walking
 pub mod Walks
 pub mod Ranged
+pub mod Rowed

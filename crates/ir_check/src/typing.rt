@@ -1,5 +1,5 @@
 //! TypeMismatch at one instruction.
-ghost use Rattle.std.specs.Prelude.{◌≡◌, ◌<◌, ◌&&◌, [], ◌∷◌, Some, None, length};
+ghost use Rattle.std.specs.Prelude.{◌≡◌, ◌<◌, ◌&&◌, [], ◌∷◌, None, length, drop};
 ghost use Rattle.clk_num.specs.Rows.{row};
 ghost use Rattle.clk_num.specs.Views.{data_of};
 ghost use Rattle.ir_core.specs.Forms.{controlling};
@@ -7,12 +7,16 @@ ghost use Rattle.ir_core.specs.Lists.{Below};
 ghost use Rattle.ir_core.specs.Lookup.{and_then, param_types};
 ghost use Rattle.ir_core.specs.Module.{Const, Pure, PureImm, Load, Store};
 ghost use Rattle.ir_core.specs.Sound.{IsSound, LineInRange, counts_of};
-ghost use Rattle.ir_core.specs.Viewed.{line_of};
+ghost use Rattle.std.specs.List.{list_all};
+ghost use Rattle.ir_core.specs.Signatures.{same_type};
+ghost use Rattle.ir_core.specs.Uses.{arg_values_used, blocks_used, values_used, targets};
+ghost use Rattle.ir_core.specs.declared.signatures.Ty.TheVariants.{I64};
+ghost use Rattle.ir_core.specs.Viewed.{line_of, instruction_of};
 ghost use Rattle.ir_semantics.specs.Accepted.{type_at, widths_of_values};
 ghost use Rattle.ir_check.specs.RowTypes.{widths_of_row};
-ghost use Rattle.ir_check.specs.Twins.{have_types, is_type, simple_types, types, called_types};
+ghost use Rattle.ir_check.specs.Twins.{have_types, is_type, simple_types, by_value, same_list, target_types};
 
-use crate::calls::{callee_sig, is_same_type, named_sig, width};
+use crate::calls::{is_same_type, width};
 use crate::forms::{
     find_access_suffix, find_access_type, has_access_form, has_store_form, have_flags_form, is_in_range, is_same_width,
     takes_immediate,
@@ -22,7 +26,7 @@ use crate::types::{
     has_one_type, has_row_types, has_target_types, have_param_types, have_target_types, is_same_suffix, type_of_width,
 };
 use clk_num::{Bits, Op, Width};
-use ir_core::{Access, Flags, Func, Inst, InstData, Param, Sig, Ty, Value};
+use ir_core::{Access, BlockCall, Flags, Func, Inst, InstData, Param, Sig, Ty, Value};
 
 /// A constant has no suffix, and one result of its type.
 fn const_has_types(func: &Func, added: &InstData, bits: &Bits) -> bool
@@ -110,4 +114,75 @@ fn store_has_types(func: &Func, added: &InstData, narrow: Option<u8>, flags: Fla
     have_flags_form(flags)
         && is_same_type(func.ty(address), Ty::I64)
         && (is_same_suffix(added.ty, Some(ty)) && has_store_form(narrow, ty))
+}
+
+/// An operation on values of the types of one of its rows.
+fn pure_has_types(func: &Func, added: &InstData, op: Op, args: &[Value]) -> bool
+    requires line { LineInRange (counts_of func.now.function) (line_of added.now) }
+    requires inside { Below (length func.now.function.types) args.now }
+    ensures { result ≡ simple_types func.now.function (line_of added.now) (Pure op args.now) }
+{
+    has_row_types(func, added.results.as_slice(), find_row(func, op, args))
+        && is_same_suffix(added.ty, find_suffix(func, op, args))
+}
+
+/// No suffix, one result of this type.
+fn gives_type(func: &Func, added: &InstData, ty: Ty) -> bool
+    requires line { LineInRange (counts_of func.now.function) (line_of added.now) }
+    ensures { result ≡ (is_type added.now.ty None && have_types func.now.function added.now.results (ty ∷ [])) }
+{
+    is_same_suffix(added.ty, None) && has_one_type(func, added.results.as_slice(), ty)
+}
+
+/// The suffix is the value's type.
+fn names_type(func: &Func, added: &InstData, value: Value) -> bool
+    requires inside { value < length func.now.function.types }
+    ensures { result ≡ by_value func.now.function (line_of added.now) value }
+{
+    is_same_suffix(added.ty, Some(func.ty(value)))
+}
+
+/// No suffix, and arguments of the signature's types.
+fn passes_types(func: &Func, added: &InstData, sig: &Sig, args: &[Value]) -> bool
+    requires inside { Below (length func.now.function.types) args.now }
+    ensures { result ≡ (is_type added.now.ty None && have_types func.now.function args.now (param_types sig.now.params)) }
+{
+    is_same_suffix(added.ty, None) && have_param_types(func, args, sig.params.as_slice())
+}
+
+/// Whether two lists of parameters have the same types.
+fn are_same_types(a: &[Param], b: &[Param]) -> bool
+    ensures { result ≡ same_list same_type (param_types a.now) (param_types b.now) }
+{
+    if a.len() != b.len() {
+        return false;
+    }
+    for i in 0..a.len() {
+        if !is_same_type(a[i].ty, b[i].ty) {
+            return false;
+        }
+    }
+    true
+}
+
+/// A branch with no suffix but the value's type, whose targets' arguments have the types of the parameters.
+fn branch_has_types(func: &Func, inst: &Inst) -> bool
+    requires sound { IsSound func.now.function }
+    requires blocks { Below (length func.now.function.blocks) (blocks_used (instruction_of inst.now)) }
+    requires values { Below (length func.now.function.types) (values_used (instruction_of inst.now)) }
+    ensures { result ≡ list_all (target_types func.now.function [] []) (targets (instruction_of inst.now)) }
+{
+    have_target_types(func, &[], inst, 0)
+}
+
+/// The targets of a `try_call`: the normal one with the call's results, the others with an exception's payloads.
+fn try_has_types(func: &Func, sig: &Sig, normal: &BlockCall, inst: &Inst) -> bool
+    requires sound { IsSound func.now.function }
+    requires blocks { Below (length func.now.function.blocks) (blocks_used (instruction_of inst.now)) }
+    requires values { Below (length func.now.function.types) (values_used (instruction_of inst.now)) }
+    requires there { normal.now.block < length func.now.function.blocks }
+    requires args { Below (length func.now.function.types) (arg_values_used normal.now.args) }
+    ensures { result ≡ (target_types func.now.function (param_types sig.now.results) [] normal.now && list_all (target_types func.now.function [] (I64 ∷ I64 ∷ [])) (drop 1 (targets (instruction_of inst.now)))) }
+{
+    has_target_types(func, sig.results.as_slice(), &[], normal) && have_target_types(func, &[Ty::I64, Ty::I64], inst, 1)
 }

@@ -3,3 +3,4 @@ pub mod Twins
 pub mod Laws
 pub mod Accepting
 pub mod RowTypes
+pub mod Kinds

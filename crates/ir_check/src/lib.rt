@@ -4,7 +4,9 @@
 mod calls;
 mod checked;
 mod counts;
+mod kinds;
 pub mod laws;
+mod lines;
 mod forms;
 mod row_types;
 mod rules;
@@ -12,3 +14,4 @@ mod types;
 mod typing;
 
 pub use checked::Checked;
+pub use kinds::CheckKind;

@@ -9,11 +9,11 @@ ghost use Rattle.ir_core.specs.Viewed.{line_of, instruction_of};
 ghost use Rattle.ir_semantics.specs.Available.{terminates};
 ghost use Rattle.ir_semantics.specs.Splice.{first_number};
 ghost use Rattle.ir_semantics.specs.Values.{bytes_in, slot_place};
-ghost use Rattle.ir_check.specs.Twins.{ends_by, leaves, instruction_tags, instruction_convention, instruction_signature, instruction_slot};
+ghost use Rattle.ir_check.specs.Twins.{declared, ends_by, leaves, instruction_tags, instruction_convention, instruction_signature, instruction_slot};
 
 use crate::calls::{callee_sig, is_same_sig, is_tail, named_sig, width};
 use avail_flow::{ends_block, target_at};
-use ir_core::{Block, Func, Inst, InstData, Slot, Ty};
+use ir_core::{Block, Callee, Func, Inst, InstData, Module, Slot, Ty};
 
 /// NoTerminator: an instruction ends its block exactly where it is the last.
 pub fn ends_rightly(inst: &Inst, is_last: bool) -> bool
@@ -118,5 +118,16 @@ pub fn places_tags(added: &InstData) -> bool
         | Inst::TryCallIndirect { .. } => true,
         Inst::ReturnCall { .. } | Inst::ReturnCallIndirect { .. } => !added.tags.has_slot(),
         _ => added.tags.list().is_empty(),
+    }
+}
+
+/// SignatureMismatch: a declaration of a function of the module states its signature.
+pub fn declares_signature(module: &Module, func: &Func, callee: &Callee) -> bool
+    requires there { callee.now.sig < length func.now.function.sigs }
+    ensures { result ≡ declared «module».now func.now.function callee.now }
+{
+    match module.find(&callee.name) {
+        Some(i) => is_same_sig(named_sig(func, callee.sig), module.func(i).sig()),
+        None => true,
     }
 }

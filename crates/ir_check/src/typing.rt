@@ -14,9 +14,9 @@ ghost use Rattle.ir_core.specs.declared.signatures.Ty.TheVariants.{I64};
 ghost use Rattle.ir_core.specs.Viewed.{line_of, instruction_of};
 ghost use Rattle.ir_semantics.specs.Accepted.{type_at, widths_of_values};
 ghost use Rattle.ir_check.specs.RowTypes.{widths_of_row};
-ghost use Rattle.ir_check.specs.Twins.{have_types, is_type, simple_types, by_value, same_list, target_types};
+ghost use Rattle.ir_check.specs.Twins.{have_types, is_type, simple_types, by_value, same_list, target_types, types};
 
-use crate::calls::{is_same_type, width};
+use crate::calls::{callee_sig, is_same_type, named_sig, width};
 use crate::forms::{
     find_access_suffix, find_access_type, has_access_form, has_store_form, have_flags_form, is_in_range, is_same_width,
     takes_immediate,
@@ -185,4 +185,85 @@ fn try_has_types(func: &Func, sig: &Sig, normal: &BlockCall, inst: &Inst) -> boo
     ensures { result ≡ (target_types func.now.function (param_types sig.now.results) [] normal.now && list_all (target_types func.now.function [] (I64 ∷ I64 ∷ [])) (drop 1 (targets (instruction_of inst.now)))) }
 {
     has_target_types(func, sig.results.as_slice(), &[], normal) && have_target_types(func, &[Ty::I64, Ty::I64], inst, 1)
+}
+
+/// TypeMismatch, at one instruction.
+pub fn keeps_types(func: &Func, added: &InstData) -> bool
+    requires sound { IsSound func.now.function }
+    requires line { LineInRange (counts_of func.now.function) (line_of added.now) }
+    ensures { result ≡ types func.now.function (line_of added.now) }
+{
+    match &added.inst {
+        Inst::Nop => is_same_suffix(added.ty, None),
+        Inst::SequencePoint => is_same_suffix(added.ty, None),
+        Inst::Trap(_) => is_same_suffix(added.ty, None),
+        Inst::Const(bits) => const_has_types(func, added, bits),
+        Inst::Pure { op, args } => pure_has_types(func, added, *op, args.as_slice()),
+        Inst::PureImm { op, arg, imm } => immediate_has_types(func, added, *op, *arg, imm),
+        Inst::Load { access, flags, address, offset } => {
+            load_has_types(func, added, *access, *flags, *address, *offset)
+        }
+        Inst::Store { narrow, flags, value, address, offset } => {
+            store_has_types(func, added, *narrow, *flags, *value, *address, *offset)
+        }
+        Inst::StackLoad { ty, .. } => gives_type(func, added, *ty),
+        Inst::StackStore { value, .. } => names_type(func, added, *value),
+        Inst::FuncAddr(_) => gives_type(func, added, Ty::I64),
+        Inst::Trapz { cond, .. } => names_type(func, added, *cond),
+        Inst::Trapnz { cond, .. } => names_type(func, added, *cond),
+        Inst::Jump(_) => is_same_suffix(added.ty, None) && branch_has_types(func, &added.inst),
+        Inst::Brif { cond, .. } => names_type(func, added, *cond) && branch_has_types(func, &added.inst),
+        Inst::BrTable { index, .. } => {
+            is_same_suffix(added.ty, None)
+                && is_same_type(func.ty(*index), Ty::I32)
+                && branch_has_types(func, &added.inst)
+        }
+        Inst::Return(values) => {
+            is_same_suffix(added.ty, None)
+                && have_param_types(func, values.as_slice(), func.sig().results.as_slice())
+        }
+        Inst::Call { callee, args } => {
+            call_has_types(func, added, callee_sig(func, *callee), args.as_slice())
+        }
+        Inst::CallIndirect { sig, address, args } => {
+            is_same_type(func.ty(*address), Ty::I64)
+                && call_has_types(func, added, named_sig(func, *sig), args.as_slice())
+        }
+        Inst::ReturnCall { callee, args } => {
+            tail_has_types(func, added, callee_sig(func, *callee), args.as_slice())
+        }
+        Inst::ReturnCallIndirect { sig, address, args } => {
+            is_same_type(func.ty(*address), Ty::I64)
+                && tail_has_types(func, added, named_sig(func, *sig), args.as_slice())
+        }
+        Inst::TryCall { callee, args, normal, .. } => {
+            let sig = callee_sig(func, *callee);
+            passes_types(func, added, sig, args.as_slice()) && try_has_types(func, sig, normal.get(), &added.inst)
+        }
+        Inst::TryCallIndirect { sig, address, args, normal, .. } => {
+            let sig = named_sig(func, *sig);
+            is_same_type(func.ty(*address), Ty::I64)
+                && passes_types(func, added, sig, args.as_slice())
+                && try_has_types(func, sig, normal.get(), &added.inst)
+        }
+    }
+}
+
+/// A call's arguments and results have the types of the signature.
+fn call_has_types(func: &Func, added: &InstData, sig: &Sig, args: &[Value]) -> bool
+    requires line { LineInRange (counts_of func.now.function) (line_of added.now) }
+    requires inside { Below (length func.now.function.types) args.now }
+    ensures { result ≡ (is_type added.now.ty None && (have_types func.now.function args.now (param_types sig.now.params) && have_types func.now.function added.now.results (param_types sig.now.results))) }
+{
+    passes_types(func, added, sig, args)
+        && have_param_types(func, added.results.as_slice(), sig.results.as_slice())
+}
+
+/// A tail call's arguments have the types of the signature, and the signature's results those of the function's.
+fn tail_has_types(func: &Func, added: &InstData, sig: &Sig, args: &[Value]) -> bool
+    requires inside { Below (length func.now.function.types) args.now }
+    ensures { result ≡ (is_type added.now.ty None && (have_types func.now.function args.now (param_types sig.now.params) && same_list same_type (param_types sig.now.results) (param_types func.now.function.sig.results))) }
+{
+    passes_types(func, added, sig, args)
+        && are_same_types(sig.results.as_slice(), func.sig().results.as_slice())
 }

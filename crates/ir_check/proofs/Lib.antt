@@ -5,3 +5,4 @@ pub mod Walking
 pub mod Walks
 pub mod Ranged
 pub mod Rowed
+pub mod Using

@@ -12,6 +12,7 @@ mod row_types;
 mod rules;
 mod types;
 mod typing;
+mod uses;
 
 pub use checked::Checked;
 pub use kinds::CheckKind;

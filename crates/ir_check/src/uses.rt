@@ -2,7 +2,7 @@
 ghost use Rattle.std.specs.Prelude.{◌≡◌, ◌↔◌, ◌<◌, IsTrue, length, [], ◌∷◌};
 ghost use Rattle.ir_core.specs.Lookup.{block_numbers};
 ghost use Rattle.ir_core.specs.Lists.{In, Each, Below};
-ghost use Rattle.ir_core.specs.Uses.{arg_values_used, targets_used, targets, values_used};
+ghost use Rattle.ir_core.specs.Uses.{arg_values_used, operands, targets_used, targets, values_used};
 ghost use Rattle.ir_core.specs.Viewed.{instruction_of};
 ghost use Rattle.ir_semantics.specs.Available.{Available};
 
@@ -64,4 +64,54 @@ fn are_targets_available(avail: &Avail<'_>, block: Block, index: u32, inst: &Ins
         i += 1;
     }
     true
+}
+
+/// Whether a value is available at the point.
+fn is_available(avail: &Avail<'_>, block: Block, index: u32, value: Value) -> bool
+    requires block { In block (block_numbers avail.now.blocks) }
+    requires inside { value < length avail.now.types }
+    ensures { IsTrue result ↔ Each (Available avail.now block index) (value ∷ []) }
+{
+    avail.at(value, Point { block, index })
+}
+
+/// Whether each of an instruction's own operands is available at the point.
+fn are_operands_available(avail: &Avail<'_>, block: Block, index: u32, inst: &Inst) -> bool
+    requires block { In block (block_numbers avail.now.blocks) }
+    requires inside { Below (length avail.now.types) (operands (instruction_of inst.now)) }
+    ensures { IsTrue result ↔ Each (Available avail.now block index) (operands (instruction_of inst.now)) }
+{
+    match inst {
+        Inst::Nop => true,
+        Inst::SequencePoint => true,
+        Inst::Const(_) => true,
+        Inst::StackLoad { .. } => true,
+        Inst::FuncAddr(_) => true,
+        Inst::Jump(_) => true,
+        Inst::Trap(_) => true,
+        Inst::PureImm { arg, .. } => is_available(avail, block, index, *arg),
+        Inst::Load { address, .. } => is_available(avail, block, index, *address),
+        Inst::Store { value, address, .. } => {
+            is_available(avail, block, index, *value) && is_available(avail, block, index, *address)
+        }
+        Inst::StackStore { value, .. } => is_available(avail, block, index, *value),
+        Inst::Trapz { cond, .. } => is_available(avail, block, index, *cond),
+        Inst::Trapnz { cond, .. } => is_available(avail, block, index, *cond),
+        Inst::Brif { cond, .. } => is_available(avail, block, index, *cond),
+        Inst::BrTable { index: operand, .. } => is_available(avail, block, index, *operand),
+        Inst::Pure { args, .. } => are_available(avail, block, index, args.as_slice()),
+        Inst::Return(args) => are_available(avail, block, index, args.as_slice()),
+        Inst::Call { args, .. } => are_available(avail, block, index, args.as_slice()),
+        Inst::ReturnCall { args, .. } => are_available(avail, block, index, args.as_slice()),
+        Inst::TryCall { args, .. } => are_available(avail, block, index, args.as_slice()),
+        Inst::CallIndirect { address, args, .. } => {
+            is_available(avail, block, index, *address) && are_available(avail, block, index, args.as_slice())
+        }
+        Inst::ReturnCallIndirect { address, args, .. } => {
+            is_available(avail, block, index, *address) && are_available(avail, block, index, args.as_slice())
+        }
+        Inst::TryCallIndirect { address, args, .. } => {
+            is_available(avail, block, index, *address) && are_available(avail, block, index, args.as_slice())
+        }
+    }
 }

@@ -63,3 +63,11 @@ targets_split ts i t at = ap targets_used (left_at ts i t at)
 
 pub past : {A : Type 0} (xs : List A) (i : ℕ) → length xs ≤ i → drop i xs ≡ []
 past xs i high = left_past xs i (slice_get_past xs i high)
+
+-- ---- of two parts
+
+pub first_refused : (P : ℕ → Type 0) (xs ys : List ℕ) (r : Bool) → IsTrue r ↔ Each P xs → r ≡ false → IsTrue false ↔ Each P (xs ++ ys)
+first_refused P xs ys r t f = (λ h. absurd cc, λ e. let y : r ≡ true = t.1 (each_left P xs ys e) in absurd cc)
+
+pub first_held : (P : ℕ → Type 0) (xs ys : List ℕ) (r s : Bool) → IsTrue r ↔ Each P xs → r ≡ true → IsTrue s ↔ Each P ys → IsTrue s ↔ Each P (xs ++ ys)
+first_held P xs ys r s t y u = (λ h. each_join P xs ys (t.0 y) (u.0 h), λ e. u.1 (each_right P xs ys e))

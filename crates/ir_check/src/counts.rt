@@ -84,7 +84,11 @@ pub fn keeps_counts(func: &Func, added: &InstData) -> bool
         Inst::Return(values) => {
             results == 0 && values.as_slice().len() == func.sig().results.as_slice().len()
         }
-        Inst::Call { callee, args } => counts_call(callee_sig(func, *callee), args.as_slice(), results),
+        Inst::Call { callee, args } => counts_call(
+            callee_sig(func, *callee),
+            args.as_slice(),
+            results,
+        ),
         Inst::CallIndirect { sig, args, .. } => {
             counts_call(named_sig(func, *sig), args.as_slice(), results)
         }
@@ -107,7 +111,8 @@ pub fn keeps_counts(func: &Func, added: &InstData) -> bool
                 && counts_targets(func, Some(sig.results.as_slice().len()), &added.inst)
         }
         Inst::Pure { op, .. } | Inst::PureImm { op, .. } => results == count_op_results(*op),
-        Inst::Const(_) | Inst::Load { .. } | Inst::StackLoad { .. } | Inst::FuncAddr(_) => results == 1,
+        Inst::Const(_) | Inst::Load { .. } | Inst::StackLoad { .. } | Inst::FuncAddr(_) => results
+            == 1,
         Inst::Nop
         | Inst::SequencePoint
         | Inst::Store { .. }

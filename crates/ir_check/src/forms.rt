@@ -15,7 +15,8 @@ pub fn takes_immediate(op: Op) -> bool
     ensures { result ≡ has_immediate op }
 {
     match op {
-        Op::Iadd | Op::Imul | Op::Band | Op::Bor | Op::Bxor | Op::Ishl | Op::Ushr | Op::Sshr => true,
+        Op::Iadd | Op::Imul | Op::Band | Op::Bor | Op::Bxor | Op::Ishl | Op::Ushr | Op::Sshr =>
+            true,
         Op::Icmp(_) => true,
         _ => false,
     }
@@ -72,20 +73,8 @@ pub fn find_access_suffix(access: Access) -> Option<Ty>
 {
     match access {
         Access::Full(_) => None,
-        Access::Uload(_, bytes) => {
-            if bytes == 4 {
-                Some(Ty::I64)
-            } else {
-                None
-            }
-        }
-        Access::Sload(_, bytes) => {
-            if bytes == 4 {
-                Some(Ty::I64)
-            } else {
-                None
-            }
-        }
+        Access::Uload(_, bytes) => { if bytes == 4 { Some(Ty::I64) } else { None } }
+        Access::Sload(_, bytes) => { if bytes == 4 { Some(Ty::I64) } else { None } }
     }
 }
 

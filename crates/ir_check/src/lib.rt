@@ -4,10 +4,10 @@
 mod calls;
 mod checked;
 mod counts;
+mod forms;
 mod kinds;
 pub mod laws;
 mod lines;
-mod forms;
 mod row_types;
 mod rules;
 mod types;

@@ -14,7 +14,12 @@ use crate::typing::keeps_types;
 use ir_core::{Block, Func, InstData};
 
 /// The first rule but availability that an instruction does not keep. `first` is the function's first block.
-pub fn find_line_fault(func: &Func, first: Block, added: &InstData, is_last: bool) -> Option<CheckKind>
+pub fn find_line_fault(
+    func: &Func,
+    first: Block,
+    added: &InstData,
+    is_last: bool,
+) -> Option<CheckKind>
     requires sound { IsSound func.now.function }
     requires line { LineInRange (counts_of func.now.function) (line_of added.now) }
     ensures { rule_named result ≡ failing_rule (line_keeps func.now.function first is_last (line_of added.now)) first_rules }

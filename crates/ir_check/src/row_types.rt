@@ -64,7 +64,11 @@ fn one_where(fits: bool, t: Width) -> Option<RowTypes>
 fn two_where(fits: bool, t: Width, u: Width) -> Option<RowTypes>
     ensures { widths_of_row result ≡ (if fits then Some (t ∷ u ∷ []) else None) }
 {
-    if fits { Some(RowTypes::Two(t, u)) } else { None }
+    if fits {
+        Some(RowTypes::Two(t, u))
+    } else {
+        None
+    }
 }
 
 /// The types of the results of an operation on one value of this type.

@@ -99,9 +99,11 @@ pub fn stays_in_slot(func: &Func, added: &InstData) -> bool
 {
     match &added.inst {
         Inst::StackLoad { ty, slot, offset } => is_in_slot(func, *slot, *offset, count_bytes(*ty)),
-        Inst::StackStore { value, slot, offset } => {
-            is_in_slot(func, *slot, *offset, count_bytes(func.ty(*value)))
-        }
+        Inst::StackStore {
+            value,
+            slot,
+            offset,
+        } => { is_in_slot(func, *slot, *offset, count_bytes(func.ty(*value))) }
         _ => true,
     }
 }

@@ -88,7 +88,12 @@ pub fn has_row_types(func: &Func, results: &[Value], row: Option<RowTypes>) -> b
     match row {
         None => false,
         Some(RowTypes::One(a)) => has_one_type(func, results, type_of_width(a)),
-        Some(RowTypes::Two(a, b)) => has_two_types(func, results, type_of_width(a), type_of_width(b)),
+        Some(RowTypes::Two(a, b)) => has_two_types(
+            func,
+            results,
+            type_of_width(a),
+            type_of_width(b),
+        ),
     }
 }
 
@@ -101,17 +106,31 @@ fn find_arg_type(func: &Func, results: &[Param], payloads: &[Ty], arg: Arg) -> O
         Arg::Value(value) => Some(func.ty(value)),
         Arg::Ret(i) => {
             let i = i as usize;
-            if i < results.len() { Some(results[i].ty) } else { None }
+            if i < results.len() {
+                Some(results[i].ty)
+            } else {
+                None
+            }
         }
         Arg::Exn(i) => {
             let i = i as usize;
-            if i < payloads.len() { Some(payloads[i]) } else { None }
+            if i < payloads.len() {
+                Some(payloads[i])
+            } else {
+                None
+            }
         }
     }
 }
 
 /// Whether what stands in a target has the types of the block's parameters.
-fn have_arg_types(func: &Func, results: &[Param], payloads: &[Ty], args: &[Arg], params: &[Value]) -> bool
+fn have_arg_types(
+    func: &Func,
+    results: &[Param],
+    payloads: &[Ty],
+    args: &[Arg],
+    params: &[Value],
+) -> bool
     requires args { Below (length func.now.function.types) (arg_values_used args.now) }
     requires params { Below (length func.now.function.types) params.now }
     ensures { result ≡ same_types (map (arg_type func.now.function (param_types results.now) payloads.now) args.now) (types_of func.now.function params.now) }
@@ -120,7 +139,10 @@ fn have_arg_types(func: &Func, results: &[Param], payloads: &[Ty], args: &[Arg],
         return false;
     }
     for i in 0..args.len() {
-        if !is_same_suffix(find_arg_type(func, results, payloads, args[i]), Some(func.ty(params[i]))) {
+        if !is_same_suffix(
+            find_arg_type(func, results, payloads, args[i]),
+            Some(func.ty(params[i])),
+        ) {
             return false;
         }
     }
@@ -135,7 +157,13 @@ pub fn has_target_types(func: &Func, results: &[Param], payloads: &[Ty], target:
     requires args { Below (length func.now.function.types) (arg_values_used target.now.args) }
     ensures { result ≡ target_types func.now.function (param_types results.now) payloads.now target.now }
 {
-    have_arg_types(func, results, payloads, target.args.as_slice(), func.params(target.block))
+    have_arg_types(
+        func,
+        results,
+        payloads,
+        target.args.as_slice(),
+        func.params(target.block),
+    )
 }
 
 /// Whether each target from a place on has the types of its block's parameters.

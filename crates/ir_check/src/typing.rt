@@ -18,12 +18,13 @@ ghost use Rattle.ir_check.specs.Twins.{have_types, is_type, simple_types, by_val
 
 use crate::calls::{callee_sig, is_same_type, named_sig, width};
 use crate::forms::{
-    find_access_suffix, find_access_type, has_access_form, has_store_form, have_flags_form, is_in_range, is_same_width,
-    takes_immediate,
+    find_access_suffix, find_access_type, has_access_form, has_store_form, have_flags_form,
+    is_in_range, is_same_width, takes_immediate,
 };
 use crate::row_types::{RowTypes, find_row_of_one, find_row_of_three, find_row_of_two};
 use crate::types::{
-    has_one_type, has_row_types, has_target_types, have_param_types, have_target_types, is_same_suffix, type_of_width,
+    has_one_type, has_row_types, has_target_types, have_param_types, have_target_types,
+    is_same_suffix, type_of_width,
 };
 use clk_num::{Bits, Op, Width};
 use ir_core::{Access, BlockCall, Flags, Func, Inst, InstData, Param, Sig, Ty, Value};
@@ -47,7 +48,12 @@ fn find_row(func: &Func, op: Op, args: &[Value]) -> Option<RowTypes>
     match args {
         [a] => find_row_of_one(op, width(func.ty(*a))),
         [a, b] => find_row_of_two(op, width(func.ty(*a)), width(func.ty(*b))),
-        [a, b, c] => find_row_of_three(op, width(func.ty(*a)), width(func.ty(*b)), width(func.ty(*c))),
+        [a, b, c] => find_row_of_three(
+            op,
+            width(func.ty(*a)),
+            width(func.ty(*b)),
+            width(func.ty(*c)),
+        ),
         _ => None,
     }
 }
@@ -88,11 +94,22 @@ fn immediate_has_types(func: &Func, added: &InstData, op: Op, arg: Value, imm: &
         && is_in_range(imm)
         && (is_same_suffix(added.ty, Some(ty))
             && is_same_width(imm.width(), width(ty))
-            && has_row_types(func, added.results.as_slice(), find_row_of_two(op, width(ty), imm.width())))
+            && has_row_types(
+                func,
+                added.results.as_slice(),
+                find_row_of_two(op, width(ty), imm.width()),
+            ))
 }
 
 /// A load from an address, of the type of its access.
-fn load_has_types(func: &Func, added: &InstData, access: Access, flags: Flags, address: Value, offset: i32) -> bool
+fn load_has_types(
+    func: &Func,
+    added: &InstData,
+    access: Access,
+    flags: Flags,
+    address: Value,
+    offset: i32,
+) -> bool
     requires line { LineInRange (counts_of func.now.function) (line_of added.now) }
     requires inside { address < length func.now.function.types }
     ensures { result ≡ simple_types func.now.function (line_of added.now) (Load access flags address offset) }
@@ -105,7 +122,15 @@ fn load_has_types(func: &Func, added: &InstData, access: Access, flags: Flags, a
 }
 
 /// A store to an address, of the type of the value.
-fn store_has_types(func: &Func, added: &InstData, narrow: Option<u8>, flags: Flags, value: Value, address: Value, offset: i32) -> bool
+fn store_has_types(
+    func: &Func,
+    added: &InstData,
+    narrow: Option<u8>,
+    flags: Flags,
+    value: Value,
+    address: Value,
+    offset: i32,
+) -> bool
     requires value { value < length func.now.function.types }
     requires address { address < length func.now.function.types }
     ensures { result ≡ simple_types func.now.function (line_of added.now) (Store narrow flags value address offset) }
@@ -184,7 +209,8 @@ fn try_has_types(func: &Func, sig: &Sig, normal: &BlockCall, inst: &Inst) -> boo
     requires args { Below (length func.now.function.types) (arg_values_used normal.now.args) }
     ensures { result ≡ (target_types func.now.function (param_types sig.now.results) [] normal.now && list_all (target_types func.now.function [] (I64 ∷ I64 ∷ [])) (drop 1 (targets (instruction_of inst.now)))) }
 {
-    has_target_types(func, sig.results.as_slice(), &[], normal) && have_target_types(func, &[Ty::I64, Ty::I64], inst, 1)
+    has_target_types(func, sig.results.as_slice(), &[], normal)
+        && have_target_types(func, &[Ty::I64, Ty::I64], inst, 1)
 }
 
 /// TypeMismatch, at one instruction.
@@ -200,19 +226,27 @@ pub fn keeps_types(func: &Func, added: &InstData) -> bool
         Inst::Const(bits) => const_has_types(func, added, bits),
         Inst::Pure { op, args } => pure_has_types(func, added, *op, args.as_slice()),
         Inst::PureImm { op, arg, imm } => immediate_has_types(func, added, *op, *arg, imm),
-        Inst::Load { access, flags, address, offset } => {
-            load_has_types(func, added, *access, *flags, *address, *offset)
-        }
-        Inst::Store { narrow, flags, value, address, offset } => {
-            store_has_types(func, added, *narrow, *flags, *value, *address, *offset)
-        }
+        Inst::Load {
+            access,
+            flags,
+            address,
+            offset,
+        } => { load_has_types(func, added, *access, *flags, *address, *offset) }
+        Inst::Store {
+            narrow,
+            flags,
+            value,
+            address,
+            offset,
+        } => { store_has_types(func, added, *narrow, *flags, *value, *address, *offset) }
         Inst::StackLoad { ty, .. } => gives_type(func, added, *ty),
         Inst::StackStore { value, .. } => names_type(func, added, *value),
         Inst::FuncAddr(_) => gives_type(func, added, Ty::I64),
         Inst::Trapz { cond, .. } => names_type(func, added, *cond),
         Inst::Trapnz { cond, .. } => names_type(func, added, *cond),
         Inst::Jump(_) => is_same_suffix(added.ty, None) && branch_has_types(func, &added.inst),
-        Inst::Brif { cond, .. } => names_type(func, added, *cond) && branch_has_types(func, &added.inst),
+        Inst::Brif { cond, .. } => names_type(func, added, *cond)
+            && branch_has_types(func, &added.inst),
         Inst::BrTable { index, .. } => {
             is_same_suffix(added.ty, None)
                 && is_same_type(func.ty(*index), Ty::I32)
@@ -236,11 +270,23 @@ pub fn keeps_types(func: &Func, added: &InstData) -> bool
             is_same_type(func.ty(*address), Ty::I64)
                 && tail_has_types(func, added, named_sig(func, *sig), args.as_slice())
         }
-        Inst::TryCall { callee, args, normal, .. } => {
+        Inst::TryCall {
+            callee,
+            args,
+            normal,
+            ..
+        } => {
             let sig = callee_sig(func, *callee);
-            passes_types(func, added, sig, args.as_slice()) && try_has_types(func, sig, normal.get(), &added.inst)
+            passes_types(func, added, sig, args.as_slice())
+                && try_has_types(func, sig, normal.get(), &added.inst)
         }
-        Inst::TryCallIndirect { sig, address, args, normal, .. } => {
+        Inst::TryCallIndirect {
+            sig,
+            address,
+            args,
+            normal,
+            ..
+        } => {
             let sig = named_sig(func, *sig);
             is_same_type(func.ty(*address), Ty::I64)
                 && passes_types(func, added, sig, args.as_slice())

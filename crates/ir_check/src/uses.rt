@@ -105,13 +105,28 @@ fn are_operands_available(avail: &Avail<'_>, block: Block, index: u32, inst: &In
         Inst::ReturnCall { args, .. } => are_available(avail, block, index, args.as_slice()),
         Inst::TryCall { args, .. } => are_available(avail, block, index, args.as_slice()),
         Inst::CallIndirect { address, args, .. } => {
-            is_available(avail, block, index, *address) && are_available(avail, block, index, args.as_slice())
+            is_available(avail, block, index, *address)
+                && are_available(avail, block, index, args.as_slice())
         }
         Inst::ReturnCallIndirect { address, args, .. } => {
-            is_available(avail, block, index, *address) && are_available(avail, block, index, args.as_slice())
+            is_available(avail, block, index, *address)
+                && are_available(avail, block, index, args.as_slice())
         }
         Inst::TryCallIndirect { address, args, .. } => {
-            is_available(avail, block, index, *address) && are_available(avail, block, index, args.as_slice())
+            is_available(avail, block, index, *address)
+                && are_available(avail, block, index, args.as_slice())
         }
     }
+}
+
+/// NotAvailable: whether each value that the instruction at the point uses is available there.
+pub fn uses_available(avail: &Avail<'_>, block: Block, index: u32, inst: &Inst) -> bool
+    requires block { In block (block_numbers avail.now.blocks) }
+    requires inside { Below (length avail.now.types) (values_used (instruction_of inst.now)) }
+    ensures { IsTrue result ↔ Each (Available avail.now block index) (values_used (instruction_of inst.now)) }
+{
+    if !are_operands_available(avail, block, index, inst) {
+        return false;
+    }
+    are_targets_available(avail, block, index, inst)
 }

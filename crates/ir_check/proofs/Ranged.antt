@@ -1,5 +1,5 @@
 -- Values and targets of an instruction are in range.
-use Rattle.std.proofs.Common.{◌≡◌, ℕ, zero, suc, ◌<◌, List, [], ◌∷◌, ◌++◌, map, length, Some, get_or, refl, sym, ap, subst, ◌∙◌, arith}
+use Rattle.std.proofs.Common.{◌≡◌, ℕ, zero, suc, ◌<◌, List, [], ◌∷◌, map, length, Some, get_or, refl, sym, ap, subst, ◌∙◌}
 use Rattle.std.specs.Prelude.{slice_get}
 use Rattle.std.proofs.lemmas.Option.{slice_get_read, same_Some}
 use Rattle.ir_core.specs.declared.signatures.Ty.{Ty}
@@ -8,7 +8,6 @@ use Rattle.ir_core.specs.declared.instructions.Arg.TheVariants as arg
 use Rattle.ir_core.specs.declared.instructions.BlockCall.{BlockCall}
 use Rattle.ir_core.specs.Module.{Instruction, Block, Function}
 use Rattle.ir_core.specs.Edits.{params_of}
-use Rattle.ir_core.specs.Lookup.{find_block}
 use Rattle.ir_core.specs.Lists.{Below}
 use Rattle.ir_core.specs.Sound.{IsSound}
 use Rattle.ir_core.specs.Uses.{arg_values_used, targets_used, targets, operands, values_used}

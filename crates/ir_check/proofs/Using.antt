@@ -1,11 +1,11 @@
 -- Facts of each element, where a list is walked: of what is left exactly where of the whole.
-use Rattle.std.proofs.Common.{◌≡◌, ◌↔◌, ℕ, zero, suc, ◌+◌, ◌<◌, ◌≤◌, List, [], ◌∷◌, ◌++◌, length, drop, Option, Some, None, Bool, true, false, get_or, refl, sym, ap, subst, ◌∙◌, arith}
+use Rattle.std.proofs.Common.{◌≡◌, ◌↔◌, ℕ, ◌+◌, ◌<◌, ◌≤◌, List, [], ◌∷◌, ◌++◌, length, drop, Some, Bool, true, false, get_or, refl, sym, ap, subst, ◌∙◌}
 use Rattle.std.specs.Prelude.{slice_get, IsTrue}
 use Rattle.std.proofs.lemmas.Option.{slice_get_read, slice_get_past}
 use Rattle.ir_core.specs.declared.instructions.Arg.{Arg}
 use Rattle.ir_core.specs.declared.instructions.Arg.TheVariants as arg
 use Rattle.ir_core.specs.declared.instructions.BlockCall.{BlockCall}
-use Rattle.ir_core.specs.Lists.{Each, Below}
+use Rattle.ir_core.specs.Lists.{Each}
 use Rattle.ir_core.specs.Uses.{arg_values_used, targets_used}
 use Rattle.ir_core.proofs.Members.{each_left, each_right, each_join}
 use Rattle.avail_flow.proofs.Listing.{left_at, left_past}

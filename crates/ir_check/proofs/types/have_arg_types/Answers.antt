@@ -1,4 +1,4 @@
-use Rattle.std.proofs.Common.{length, arith}
+use Rattle.std.proofs.Common.{length}
 use Rattle.ir_check.proofs.Ranged.{arg_below}
 use Rattle.ir_check.proofs.types.have_arg_types.Goals as goal
 

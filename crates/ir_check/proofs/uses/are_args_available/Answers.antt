@@ -1,4 +1,4 @@
-use Rattle.std.proofs.Common.{◌+◌, length, drop, ap, ◌∙◌, ◌∷◌, []}
+use Rattle.std.proofs.Common.{◌+◌, length, drop, ap, ◌∷◌, []}
 use Rattle.ir_core.specs.Uses.{arg_values_used}
 use Rattle.ir_semantics.specs.Available.{Available}
 use Rattle.ir_check.proofs.Ranged.{arg_below}

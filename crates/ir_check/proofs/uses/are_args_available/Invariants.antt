@@ -1,6 +1,5 @@
-use Rattle.std.proofs.Common.{◌-◌, length, drop}
-use Rattle.ir_core.specs.Uses.{arg_values_used, targets_used, targets}
-use Rattle.ir_core.specs.Viewed.{instruction_of}
+use Rattle.std.proofs.Common.{drop}
+use Rattle.ir_core.specs.Uses.{arg_values_used}
 use Rattle.ir_semantics.specs.Available.{Available}
 use Rattle.ir_check.proofs.Using.{Left}
 use Rattle.ir_check.proofs.uses.are_args_available.Given as goal

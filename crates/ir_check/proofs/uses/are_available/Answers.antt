@@ -1,6 +1,6 @@
-use Rattle.std.proofs.Common.{◌+◌, ◌∷◌, [], length, drop}
+use Rattle.std.proofs.Common.{drop}
 use Rattle.ir_semantics.specs.Available.{Available}
-use Rattle.ir_check.proofs.Using.{refuses, goes_on, holds, one_value, values_split, past}
+use Rattle.ir_check.proofs.Using.{holds, past}
 use Rattle.ir_check.proofs.uses.are_available.Goals as goal
 
 pub returns : goal.returns

@@ -10,3 +10,4 @@ mod search;
 mod tree;
 
 pub use avail::{Avail, flow};
+pub use edges::{ends_block, target_at};

@@ -2,3 +2,5 @@ pub mod Faults
 pub mod Twins
 pub mod Laws
 pub mod Accepting
+pub mod RowTypes
+pub mod Kinds

@@ -73,13 +73,22 @@ ends_rightly true (Some l) = false
 ends_rightly false None = false
 ends_rightly false (Some l) = true
 
+-- the same, where it is told whether it is the last line
+abbrev pub ends_by : Bool → Bool → Bool
+ends_by true last = last
+ends_by false last = not last
+
 abbrev pub terminated : Block → ℕ → Line → Bool
 terminated b i l = ends_rightly (terminates l.inst) (slice_get b.lines (suc i))
 
 -- ---- EntryTarget
 
+-- the target is another block than the first
+abbrev pub leaves : ℕ → BlockCall → Bool
+leaves first t = not (nat_eq t.block first)
+
 abbrev pub not_first : Function → BlockCall → Bool
-not_first f t = not (nat_eq t.block (first_number f.blocks))
+not_first f t = leaves (first_number f.blocks) t
 
 abbrev pub entry_is_no_target : Function → Line → Bool
 entry_is_no_target f l = list_all (not_first f) (targets l.inst)

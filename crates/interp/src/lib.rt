@@ -1,0 +1,13 @@
+//! The reference interpreter: it makes the steps of a run one by one.
+//!
+//! Contracts see a run as the definition does (`ir_semantics`, `specs/Runs.antt`).
+#![tactic(auto)]
+
+mod blocks;
+mod branches;
+mod moves;
+mod outcome;
+mod simple;
+mod state;
+
+pub use outcome::{End, Event, Outcome, Shown};

@@ -1,23 +1,29 @@
 -- The places of numbers in a list, found from the front on.
-use Rattle.std.proofs.Common.{◌≡◌, ◌≢◌, ℕ, zero, suc, ◌+◌, ◌<◌, List, [], ◌∷◌, ◌++◌, length, take, drop, get_or, set, Bool, true, false, cond, nat_eq, refl, sym, ap, subst, ◌∙◌, inl, inr, arith, eq-eqb, get_or-set_same, get_or-set_other, drop-cons, add-one}
+use Rattle.std.proofs.Common.{◌⊎◌, ◌≡◌, ◌≢◌, ℕ, zero, suc, ◌+◌, ◌<◌, List, [], ◌∷◌, ◌++◌, length, take, drop, get_or, set, Bool, true, false, cond, nat_eq, refl, sym, ap, subst, ◌∙◌, inl, inr, arith, eq-eqb, get_or-set_same, get_or-set_other, drop-cons, add-one}
 use Rattle.std.proofs.lemmas.List.{take_more, take-append-drop, length-take-le}
 use Rattle.std.specs.Prelude.{if◌then◌else◌}
 use Rattle.std.proofs.lemmas.Bool.{eqb-true}
 use Rattle.ir_core.specs.Lists.{In, Different, Below}
-use Rattle.ir_text.specs.Numbering.{place}
+use Rattle.ir_core.specs.Lookup.{place}
+use Rattle.clif_print.specs.Placed.{IsEntry}
 
 -- the place of n, counted from k, and d where n is not there
 abbrev pub place_from : ℕ → ℕ → List ℕ → ℕ → ℕ
 place_from k d [] n = d
 place_from k d (x ∷ xs) n = if nat_eq x n then k else place_from (k + 1) d xs n
 
-pub place_is : (k d : ℕ) (xs : List ℕ) (n : ℕ) → d ≡ k + length xs → place_from k d xs n ≡ k + place xs n
-place_is k d [] n e = e
+-- the number is there, or d is what stands for it
+abbrev pub Entered : ℕ → ℕ → List ℕ → ℕ → ℕ → ℕ → Type 0
+Entered k d xs n entry at = ((entry < d) × (k + at ≡ entry)) ⊎ ((entry ≡ d) × (at ≡ n + length xs))
+
+pub place_is : (k d : ℕ) (xs : List ℕ) (n : ℕ) → d ≡ k + length xs → Entered k d xs n (place_from k d xs n) (place xs n)
+place_is k d [] n e = inr (refl, omega arith)
 place_is k d (x ∷ xs) n e = go (nat_eq x n) (place_is (k + 1) d xs n (omega arith))
   where
-    go : (b : Bool) → place_from (k + 1) d xs n ≡ (k + 1) + place xs n → cond b k (place_from (k + 1) d xs n) ≡ k + cond b 0 (suc (place xs n))
-    go true h = omega arith
-    go false h = omega arith
+    go : (b : Bool) → Entered (k + 1) d xs n (place_from (k + 1) d xs n) (place xs n) → Entered k d (x ∷ xs) n (cond b k (place_from (k + 1) d xs n)) (cond b 0 (suc (place xs n)))
+    go true h = inl (omega (arith, e), omega arith)
+    go false (inl h) = inl (h.0, omega (arith, h.1))
+    go false (inr h) = inr (h.0, omega (arith, h.1))
 
 -- one number more, which is new
 pub place_more : (k d : ℕ) (xs : List ℕ) (x n : ℕ) → (In x xs → ⊥) → place_from k d (xs ++ x ∷ []) n ≡ (if nat_eq x n then k + length xs else place_from k d xs n)
@@ -71,3 +77,11 @@ turn order places bound d i different range long lt found n =
     go false e =
         let other : n ≢ x = λ f. (let g = eq-eqb x n (sym f) in absurd cc) in
         get_or-set_other places x n i d other ∙ found n
+
+-- the whole table
+pub placed : (order places : List ℕ) (n : ℕ) → get_or places n (length order) ≡ place_from 0 (length order) order n → IsEntry order n (get_or places n (length order))
+placed order places n e = subst (IsEntry order n) (sym e) (go (place_from 0 (length order) order n) (place_is 0 (length order) order n (omega arith)))
+  where
+    go : (entry : ℕ) → Entered 0 (length order) order n entry (place order n) → IsEntry order n entry
+    go entry (inl h) = inl (h.0, omega (arith, h.1))
+    go entry (inr h) = inr h

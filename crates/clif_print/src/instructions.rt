@@ -2,7 +2,7 @@
 ghost use Rattle.std.specs.Prelude.{ℕ, List};
 ghost use Rattle.ir_text.specs.Numbering.{Numbering};
 ghost use Rattle.ir_text.specs.Pieces.{Text, spelled, comma, ◌▹◌};
-ghost use Rattle.ir_text.specs.Text.{instruction, value, address, slot_address, signature_reference, target, exception_table, op_suffix, condition, extending_suffix, load_opcode, store_opcode};
+ghost use Rattle.ir_text.specs.Text.{instruction, value, address, slot_address, signature_reference, target, exception_table, op_suffix, condition, suffix_but_i64, extending_suffix, load_opcode, store_opcode};
 ghost use Rattle.ir_core.specs.Viewed.{instruction_of};
 ghost use Rattle.ir_core.specs.declared.instructions.Inst.TheVariants as form;
 ghost use Rattle.clif_print.specs.Output.{Start, Puts};
@@ -14,7 +14,7 @@ use crate::operands::{
     put_target, put_target_list, put_trap_code, put_value,
 };
 use crate::output::{Output, put_numbered};
-use crate::words::{condition_word, op_word, type_of_width};
+use crate::words::{condition_word, op_word, ty_of};
 use clk_num::{Bits, Op, TrapCode};
 use exn_tables::Table;
 use ir_core::{Access, BlockCall, Flags, FuncRef, Inst, List, SigRef, Slot, Ty, Value, Values};
@@ -24,9 +24,9 @@ fn put_op_suffix<O: Output>(out: &mut O, op: Op, suffix: Option<Ty>)
     ensures { Puts O.holds out.old out.new (spelled (op_suffix op suffix)) }
 {
     match op {
-        Op::Uextend(width) => put_suffix(out, type_of_width(width)),
-        Op::Sextend(width) => put_suffix(out, type_of_width(width)),
-        Op::Ireduce(width) => put_suffix(out, type_of_width(width)),
+        Op::Uextend(width) => put_suffix(out, ty_of(width)),
+        Op::Sextend(width) => put_suffix(out, ty_of(width)),
+        Op::Ireduce(width) => put_suffix(out, ty_of(width)),
         _ => put_suffix_if(out, suffix),
     }
 }
@@ -45,7 +45,7 @@ fn put_const<O: Output>(out: &mut O, numbers: &FuncNumbers, suffix: Option<Ty>, 
     ensures { Puts O.holds out.old out.new (spelled (instruction numbers.now suffix (instruction_of (form.Const bits.now)))) }
 {
     out.put(b"iconst");
-    put_suffix(out, type_of_width(bits.width()));
+    put_suffix(out, ty_of(bits.width()));
     out.put(b" ");
     put_constant(out, bits);
 }
@@ -85,18 +85,30 @@ fn put_pure_imm<O: Output>(
     put_constant(out, imm);
 }
 
-/// Puts the suffix of a load that extends.
-fn put_extending_suffix<O: Output>(out: &mut O, ty: Ty, bytes: u8)
-    ensures { Puts O.holds out.old out.new (spelled (extending_suffix ty bytes)) }
+/// Puts a suffix, but for that of i64.
+fn put_suffix_but_i64<O: Output>(out: &mut O, suffix: Option<Ty>)
+    ensures { Puts O.holds out.old out.new (spelled (suffix_but_i64 suffix)) }
 {
-    if bytes == 4 && matches!(ty, Ty::I64) {
-        return;
+    match suffix {
+        None => {}
+        Some(Ty::I64) => {}
+        Some(ty) => put_suffix(out, ty),
     }
-    put_suffix(out, ty);
 }
 
-fn put_load_opcode<O: Output>(out: &mut O, access: Access)
-    ensures { Puts O.holds out.old out.new (spelled (load_opcode access)) }
+/// Puts the suffix of a load that extends: of 4 bytes that of the instruction, else the type of its result.
+fn put_extending_suffix<O: Output>(out: &mut O, suffix: Option<Ty>, ty: Ty, bytes: u8)
+    ensures { Puts O.holds out.old out.new (spelled (extending_suffix suffix ty bytes)) }
+{
+    if bytes == 4 {
+        put_suffix_but_i64(out, suffix);
+    } else {
+        put_suffix(out, ty);
+    }
+}
+
+fn put_load_opcode<O: Output>(out: &mut O, suffix: Option<Ty>, access: Access)
+    ensures { Puts O.holds out.old out.new (spelled (load_opcode suffix access)) }
 {
     match access {
         Access::Full(ty) => {
@@ -105,11 +117,11 @@ fn put_load_opcode<O: Output>(out: &mut O, access: Access)
         }
         Access::Uload(ty, bytes) => {
             put_numbered(out, b"uload", 8 * u32::from(bytes));
-            put_extending_suffix(out, ty, bytes);
+            put_extending_suffix(out, suffix, ty, bytes);
         }
         Access::Sload(ty, bytes) => {
             put_numbered(out, b"sload", 8 * u32::from(bytes));
-            put_extending_suffix(out, ty, bytes);
+            put_extending_suffix(out, suffix, ty, bytes);
         }
     }
 }
@@ -125,7 +137,7 @@ fn put_load<O: Output>(
 )
     ensures { Puts O.holds out.old out.new (spelled (instruction numbers.now suffix (instruction_of (form.Load access flags.now address offset)))) }
 {
-    put_load_opcode(out, access);
+    put_load_opcode(out, suffix, access);
     out.put(b" ");
     put_flags(out, flags);
     put_address(out, numbers, address, offset);

@@ -1,7 +1,7 @@
 //! Canonical numbers: values in order of definition in the text, blocks by their place.
 ghost use Rattle.std.specs.Prelude.{◌≡◌, ◌<◌, ◌++◌, List, IfOk, OnOk, Some, length, map, slice_get};
-ghost use Rattle.ir_core.specs.Lookup.{block_numbers, definitions, line_definitions};
-ghost use Rattle.ir_text.specs.Numbering.{Numbering, numbering_of, numberings_of, place};
+ghost use Rattle.ir_core.specs.Lookup.{block_numbers, definitions, line_definitions, place};
+ghost use Rattle.ir_text.specs.Numbering.{Numbering, numbering_of, numberings_of};
 ghost use Rattle.ir_core.specs.Sound.{IsWhole};
 ghost use Rattle.ir_core.specs.Viewed.{line_of};
 
@@ -27,14 +27,14 @@ impl Model for FuncNumbers {
 
 impl FuncNumbers {
     /// The number of a value.
-    pub(crate) fn value(&self, value: Value) -> u32
+    pub(crate) fn value(&self, value: Value) -> u64
         ensures { result ≡ place self.now.values value }
     {
         self.values.place(value.number())
     }
 
     /// The number of a block.
-    pub(crate) fn block(&self, block: Block) -> u32
+    pub(crate) fn block(&self, block: Block) -> u64
         ensures { result ≡ place self.now.blocks block }
     {
         self.blocks.place(block.number())

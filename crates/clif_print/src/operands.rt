@@ -27,7 +27,8 @@ pub(crate) fn put_value<O: Output>(out: &mut O, numbers: &FuncNumbers, number: V
 pub(crate) fn put_block_reference<O: Output>(out: &mut O, numbers: &FuncNumbers, block: Block)
     ensures { Puts O.holds out.old out.new (spelled (block_reference numbers.now block)) }
 {
-    put_numbered(out, b"block", numbers.block(block));
+    out.put(b"block");
+    out.put_digits(numbers.block(block));
 }
 
 /// Puts a signature's word.

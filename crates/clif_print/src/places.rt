@@ -1,7 +1,8 @@
 //! The places of numbers in a list.
 ghost use Rattle.std.specs.Prelude.{◌≡◌, ◌+◌, ◌<◌, ◌^◌, IfOk, length};
 ghost use Rattle.ir_core.specs.Lists.{Below, Different};
-ghost use Rattle.ir_text.specs.Numbering.{place};
+ghost use Rattle.ir_core.specs.Lookup.{place};
+ghost use Rattle.clif_print.specs.Placed.{IsEntry};
 
 use std::alloc::{AllocError, Global};
 use std::marker::Model;
@@ -42,9 +43,21 @@ impl Places {
         Ok(Places { order, places })
     }
 
-    /// The place of a number, and the length of the list where the list does not have it.
-    pub(crate) fn place(&self, number: u32) -> u32
+    /// The place of a number. What the list does not have comes behind all that it has.
+    pub(crate) fn place(&self, number: u32) -> u64
         ensures { result ≡ place self.now number }
+    {
+        let entry = self.entry(number);
+        if entry < self.len() {
+            u64::from(entry)
+        } else {
+            u64::from(number) + u64::from(self.len())
+        }
+    }
+
+    /// The place of a number, and the length of the list where the list does not have it.
+    fn entry(&self, number: u32) -> u32
+        ensures { IsEntry self.now number result }
     {
         match self.places.get(number as usize) {
             Some(place) => *place,

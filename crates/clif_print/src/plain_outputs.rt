@@ -73,7 +73,7 @@ impl Output for MemoryOutput {
         }
     }
 
-    fn put_digits(&mut self, number: u32) {
+    fn put_digits(&mut self, number: u64) {
         if self.waiting.has_room(MOST_DIGITS) {
             self.waiting.append_digits(number);
         } else {

@@ -94,7 +94,7 @@ impl<'a, K: Sink> Output for SinkOutput<'a, K> {
         }
     }
 
-    fn put_digits(&mut self, number: u32) {
+    fn put_digits(&mut self, number: u64) {
         if self.waiting.has_room(MOST_DIGITS) {
             self.waiting.append_digits(number);
         } else {

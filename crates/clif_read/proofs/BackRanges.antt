@@ -4,7 +4,7 @@ use Rattle.std.specs.Prelude.{◌⊎◌, nat_lt, position, is_some, unwrap_or}
 use Rattle.std.specs.List.{list_all, range_with_len, enumerate_from, position_or_len}
 use Rattle.std.proofs.lemmas.Bool.Decides.{nat_tests, leb_tells}
 use Rattle.std.proofs.lemmas.List.FromFn.{length-range_with_len}
-use Rattle.ir_text.specs.Numbering.{place}
+use Rattle.ir_core.specs.Lookup.{place}
 
 pub other_numbers : (a b : ℕ) → a < b → nat_eq a b ≡ false
 other_numbers a b h = grind (arith, nat_tests)

@@ -8,9 +8,9 @@ use Rattle.std.proofs.lemmas.List.{append-nil}
 use Rattle.std.proofs.lemmas.List.FromFn.{length-range_with_len}
 use Rattle.ir_core.specs.declared.signatures.Ty.{Ty}
 use Rattle.ir_core.specs.declared.signatures.Ty.TheVariants.{I64}
-use Rattle.ir_core.specs.Lookup.{type_in, type_of, line_definitions}
+use Rattle.ir_core.specs.Lookup.{type_in, type_of, line_definitions, place}
 use Rattle.ir_core.specs.Module.{Line, Function}
-use Rattle.ir_text.specs.Numbering.{Numbering, numbering_of, place}
+use Rattle.ir_text.specs.Numbering.{Numbering, numbering_of}
 use Rattle.ir_text.specs.Pieces.{Text, Nothing, Word, Numbered, Name, Signed, Mark, ◌▹◌, space, line_end, indent, comma, colon, equals, more, separated, in_parentheses}
 use Rattle.ir_text.specs.Text as text
 use Rattle.clif_read.specs.declared.simple.written.Assignment.{Assignment}

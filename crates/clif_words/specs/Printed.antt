@@ -113,7 +113,7 @@ opcode_of insts.SequencePoint = Some SequencePoint
 opcode_of (insts.Return vs) = Some Return
 opcode_of (insts.Call to args) = Some (call_opcode Call CallIndirect to)
 opcode_of (insts.ReturnCall to args) = Some (call_opcode ReturnCall ReturnCallIndirect to)
-opcode_of (insts.TryCall to sig args normal table) = Some (call_opcode TryCall TryCallIndirect to)
+opcode_of (insts.TryCall to sig args normal table) = Some (call_opcode TryCall TryCallIndirect (insts.call_target to sig))
 
 -- the canonical text of an instruction begins with the word of its opcode
 abbrev pub BeginsWithWord : Instruction → Type 0

@@ -3,10 +3,10 @@ use Rattle.std.proofs.Common.{◌≡◌, ℕ, zero, suc, ◌≤◌, inl, inr, �
 use Rattle.ir_core.specs.declared.names.FuncName.{FuncName}
 use Rattle.ir_core.specs.declared.signatures.Ty.{Ty}
 use Rattle.ir_core.specs.Module.{Function, Module}
-use Rattle.ir_core.specs.Lookup.{find_function, type_of, definitions, block_numbers}
+use Rattle.ir_core.specs.Lookup.{find_function, type_of, definitions, block_numbers, place}
 use Rattle.ir_core.specs.Lists.{In, Each, Different}
 use Rattle.ir_semantics.specs.Accepted.{FunctionAccepted, Accepted}
-use Rattle.ir_semantics.specs.Canon.{place, canonical_names, canonical, canonical_module}
+use Rattle.ir_semantics.specs.Canon.{canonical_names, canonical, canonical_module}
 use Rattle.ir_core.specs.Whole.{Whole, DifferentNames}
 use Rattle.inline_acceptance.specs.Kept.{NumberingAccepted}
 use Rattle.inline_outcomes.proofs.Local.{some_same}

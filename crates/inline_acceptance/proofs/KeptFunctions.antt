@@ -6,7 +6,7 @@ use Rattle.ir_core.specs.declared.signatures.Sig.{Sig}
 use Rattle.ir_core.specs.declared.declarations.Callee.{Callee}
 use Rattle.ir_core.specs.declared.instructions.BlockCall.{BlockCall}
 use Rattle.ir_core.specs.declared.places.Item.TheVariants as item
-use Rattle.ir_core.specs.Module.{Function, Module, Branches, Call, Instruction, Line, Block, Plain, Return, ReturnCall, SequencePoint, TryCall}
+use Rattle.ir_core.specs.Module.{Function, Module, Branches, Call, Instruction, Line, Block, Plain, Return, ReturnCall, SequencePoint, TryCall, call_target}
 use Rattle.ir_core.specs.Lookup.{same_name, find_block, find_function, signature_of}
 use Rattle.ir_core.specs.Lists.{In, Each}
 use Rattle.ir_core.specs.Uses.{targets, table_targets}
@@ -39,7 +39,7 @@ target_lands f n ts h t p =
 pub line_lands : (f : Function) (l : Line) (i : Instruction) → InstructionCounts f l i → (t : BlockCall) → In t (targets i) → (e : Block) × (find_block t.block f.blocks ≡ Some e)
 line_lands f l (Branches b) h t p = target_lands f None (targets (Branches b)) h.1 t p
 line_lands f l (TryCall c sig args normal table) h t p =
-    let u = some_and (signature_of f c) (λ s. (length args ≡ length s.params) × ((length l.results ≡ 0) × Each (TargetCounts f (Some (length s.results))) (normal ∷ table_targets table))) h in
+    let u = some_and (signature_of f (call_target c sig)) (λ s. (length args ≡ length s.params) × ((length l.results ≡ 0) × Each (TargetCounts f (Some (length s.results))) (normal ∷ table_targets table))) h in
     target_lands f (Some (length u.0.results)) (normal ∷ table_targets table) u.2.1.1 t p
 line_lands f l (Plain a) h t p = elim p [ ]
 line_lands f l SequencePoint h t p = elim p [ ]

@@ -11,7 +11,7 @@ use Rattle.ir_core.specs.declared.declarations.Callee.{Callee}
 use Rattle.ir_core.specs.declared.instructions.Arg.{Arg}
 use Rattle.ir_core.specs.declared.instructions.Arg.TheVariants as arg
 use Rattle.ir_core.specs.declared.instructions.BlockCall.{BlockCall}
-use Rattle.ir_core.specs.Module.{CallTarget, Direct, Indirect, Function, Module, Line, Block}
+use Rattle.ir_core.specs.Module.{CallTarget, Direct, Indirect, Function, Module, Line, Block, TryTarget, call_target}
 use Rattle.ir_core.specs.Lookup.{and_then, find_block, type_of, signature_of, param_types}
 use Rattle.ir_core.specs.Lists.{Each}
 use Rattle.ir_core.specs.Uses.{table_targets, values_used, targets_used, called_used, arg_values_used}
@@ -221,20 +221,20 @@ module _ (m : Module) (S : Splicing) (E : Setting m S) where
     pub available : Each (Available (spliced S) x i) (targets_used (normal ∷ table_targets table))
 
   module _ (x i c s : ℕ) (li : Line) (t : CallTarget) (args : List ℕ) (C T : Sig → Type 0) (counts : CallCounts S.callee t args C) (types : CallTypes S.callee li t args T) (av : Each (Available (spliced S) x i) (map S.naming.callee_value (called_used t ++ args))) where
-    pub try_kept : (sg : ℕ) (normal : BlockCall) (table : List (Entry BlockCall)) → slice_get (spliced S).sigs sg ≡ signature_of (spliced S) (called_under (callee_names S) t) → ((z : Sig) → signature_of S.callee t ≡ Some z → C z → T z → TargetsKept x i (param_types z.results) (length z.results) normal table) → LineKept (spliced S) x i (try_with S li (called_under (callee_names S) t) sg args normal table)
-    try_kept sg normal table named go =
+    pub try_kept : (t' : TryTarget) (sg : ℕ) (normal : BlockCall) (table : List (Entry BlockCall)) → call_target t' sg ≡ called_under (callee_names S) t → slice_get (spliced S).sigs sg ≡ signature_of (spliced S) (called_under (callee_names S) t) → ((z : Sig) → signature_of S.callee t ≡ Some z → C z → T z → TargetsKept x i (param_types z.results) (length z.results) normal table) → LineKept (spliced S) x i (try_with S li t' sg args normal table)
+    try_kept t' sg normal table same named go =
         let u = some_and (signature_of S.callee t) (λ z. (length args ≡ length z.params) × C z) counts in
         let w = some_and (signature_of S.callee t) (λ z. HaveTypes S.callee args (param_types z.params) × T z) types.2 in
         let both = λ (z : Sig) (q : signature_of S.callee t ≡ Some z). let a : u.0 ≡ z = some_same (sym u.1 ∙ q) in let b : w.0 ≡ z = some_same (sym w.1 ∙ q) in go z q (subst C a u.2.1) (subst T b w.2.1) in
         let one = both u.0 u.1 in
         record {
-          counts = call_counts S.callee (spliced S) (callee_names S) (RestG S (kind_of S.site.inst)) eg g_typed t args C (λ z. (0 ≡ 0) × Each (TargetCounts (spliced S) (Some (length z.results))) (normal ∷ table_targets table)) (λ z q p. (refl {a = 0}, (both z q).counts)) counts;
-          types = call_types S.callee (spliced S) (callee_names S) (RestG S (kind_of S.site.inst)) eg g_typed li (try_with S li (called_under (callee_names S) t) sg args normal table) (refl {a = li.ty}) t args T (λ z. TargetTypes (spliced S) (param_types z.results) [] normal × Each (TargetTypes (spliced S) [] (I64 ∷ I64 ∷ [])) (table_targets table)) (λ z q p. ((both z q).normal_types, (both z q).table_types)) types;
+          counts = subst (λ u. CallCounts (spliced S) u (map S.naming.callee_value args) (λ z. (Path ℕ 0 0) × Each (TargetCounts (spliced S) (Some (length z.results))) (normal ∷ table_targets table))) (sym same) (call_counts S.callee (spliced S) (callee_names S) (RestG S (kind_of S.site.inst)) eg g_typed t args C (λ z. (0 ≡ 0) × Each (TargetCounts (spliced S) (Some (length z.results))) (normal ∷ table_targets table)) (λ z q p. (refl {a = 0}, (both z q).counts)) counts);
+          types = subst (λ u. CallTypes (spliced S) (try_with S li t' sg args normal table) u (map S.naming.callee_value args) (λ z. TargetTypes (spliced S) (param_types z.results) [] normal × Each (TargetTypes (spliced S) [] (I64 ∷ I64 ∷ [])) (table_targets table))) (sym same) (call_types S.callee (spliced S) (callee_names S) (RestG S (kind_of S.site.inst)) eg g_typed li (try_with S li t' sg args normal table) (refl {a = li.ty}) t args T (λ z. TargetTypes (spliced S) (param_types z.results) [] normal × Each (TargetTypes (spliced S) [] (I64 ∷ I64 ∷ [])) (table_targets table)) (λ z q p. ((both z q).normal_types, (both z q).table_types)) types);
           convention = tt;
-          signature = named;
+          signature = named ∙ ap (signature_of (spliced S)) (sym same);
           slots = tt;
           tags = tt;
-          available = each_append (Available (spliced S) x i) (called_used (called_under (callee_names S) t) ++ map S.naming.callee_value args) (targets_used (normal ∷ table_targets table)) (subst (Each (Available (spliced S) x i)) (sym (called_used_under (callee_names S) t args)) av) one.available;
+          available = each_append (Available (spliced S) x i) (called_used (call_target t' sg) ++ map S.naming.callee_value args) (targets_used (normal ∷ table_targets table)) (subst (λ u. Each (Available (spliced S) x i) (called_used u ++ map S.naming.callee_value args)) (sym same) (subst (Each (Available (spliced S) x i)) (sym (called_used_under (callee_names S) t args)) av)) one.available;
         }
 
   -- the site's table, whatever the call returns

@@ -9,7 +9,7 @@ use Rattle.debug_tags.specs.declared.tags.Tag.TheVariants as tag
 use Rattle.ir_core.specs.declared.signatures.Ty.{Ty}
 use Rattle.ir_core.specs.declared.declarations.Callee.{Callee}
 use Rattle.ir_core.specs.declared.instructions.BlockCall.{BlockCall}
-use Rattle.ir_core.specs.Module.{Nop, Const, Pure, PureImm, Load, Store, StackLoad, StackStore, FuncAddr, Trap, Trapz, Trapnz, CallTarget, Direct, Indirect, Function, Module, Branches, Call, Instruction, Line, Block, Plain, Return, ReturnCall, SequencePoint, TryCall}
+use Rattle.ir_core.specs.Module.{Nop, Const, Pure, PureImm, Load, Store, StackLoad, StackStore, FuncAddr, Trap, Trapz, Trapnz, CallTarget, Direct, Indirect, Function, Module, Branches, Call, Instruction, Line, Block, Plain, Return, ReturnCall, SequencePoint, TryCall, TryDirect, TryIndirect, call_target}
 use Rattle.ir_core.specs.Lookup.{same_name, find_block, find_function, type_of, block_numbers, definitions}
 use Rattle.ir_core.specs.Lists.{In, Each, Different}
 use Rattle.ir_core.specs.Uses.{values_used, called_callees, slots_shown, callees_used}
@@ -20,7 +20,7 @@ use Rattle.ir_semantics.specs.Renaming.{Renaming, called_under, instruction_unde
 use Rattle.ir_semantics.specs.Site.{Site}
 use Rattle.ir_semantics.specs.Splice.{Kind, Last, Splicing, Tries, Within, callee_line, callee_names, caller_names, joined_tags, kind_of, replace, sides, spliced, tags_before}
 use Rattle.inline_acceptance.specs.Kept.{SpliceAccepted}
-use Rattle.inline_outcomes.proofs.Local.{some_same, Fits}
+use Rattle.inline_outcomes.proofs.Local.{some_same, Fits, named_target, try_target_called}
 use Rattle.inline_outcomes.proofs.Related.{Distinct}
 use Rattle.inline_outcomes.proofs.Linking.{embeds_f, embeds_g, get_below, distinct_sides}
 use Rattle.inline_outcomes.proofs.Places.{find_hit, find_skip}
@@ -82,7 +82,8 @@ callees_under r SequencePoint = refl
 callees_under r (Return a) = refl
 callees_under r (Call t a) = called_callees_under r t
 callees_under r (ReturnCall t a) = called_callees_under r t
-callees_under r (TryCall t a b c d) = called_callees_under r t
+callees_under r (TryCall (TryDirect k) a b c d) = refl
+callees_under r (TryCall (TryIndirect v) a b c d) = refl
 
 shown_under : (r : Renaming) (ts : List Tag) → slots_shown (map (tag_under r) ts) ≡ map r.slot (slots_shown ts)
 shown_under r [] = refl
@@ -162,9 +163,9 @@ module _ (m : Module) (S : Splicing) (E : Setting m S) where
 
     tries_parts : (normal : BlockCall) (table : List (Entry BlockCall)) (inst : Instruction) → li.inst ≡ inst → Trans S E.names (Tries normal table) c s inst li i' → Parts i'
     tries_parts normal table (Return vs) q h = none_parts _ h refl refl
-    tries_parts normal table (ReturnCall t args) q h = call_parts _ h t (ap callees_used q) refl refl
-    tries_parts normal table (Call t args) q h = call_parts _ h t (ap callees_used q) refl refl
-    tries_parts normal table (TryCall t sig args own inner) q h = call_parts _ h t (ap callees_used q) refl refl
+    tries_parts normal table (ReturnCall t args) q h = call_parts _ h t (ap callees_used q) (ap called_callees (named_target S (called_under (callee_names S) t))) refl
+    tries_parts normal table (Call t args) q h = call_parts _ h t (ap callees_used q) (ap called_callees (named_target S (called_under (callee_names S) t))) refl
+    tries_parts normal table (TryCall t sig args own inner) q h = call_parts _ h (call_target t sig) (ap callees_used q) (ap called_callees (try_target_called (callee_names S) t sig)) refl
     tries_parts normal table (Plain p) q h = plain_parts h
     tries_parts normal table (Branches p) q h = plain_parts h
     tries_parts normal table SequencePoint q h = plain_parts h

@@ -8,12 +8,12 @@ use Rattle.ir_core.specs.declared.declarations.Callee.{Callee}
 use Rattle.ir_core.specs.declared.instructions.BlockCall.{BlockCall}
 use Rattle.ir_core.specs.declared.places.Item.TheVariants as item
 use Rattle.ir_core.specs.Module.{Function, Module, Line, Block}
-use Rattle.ir_core.specs.Lookup.{find_block, find_function, type_in, type_of, param_types, definitions}
+use Rattle.ir_core.specs.Lookup.{find_block, find_function, type_in, type_of, param_types, definitions, place}
 use Rattle.ir_core.specs.Lists.{In}
 use Rattle.ir_core.specs.Uses.{targets}
 use Rattle.ir_semantics.specs.Available.{terminates, Reach, begin, next, branch, Available}
 use Rattle.ir_semantics.specs.Accepted.{FunctionAccepted, Rule, no_terminator, entry_target, count_mismatch, type_mismatch, convention, signature_mismatch, slot_range, tag_place, not_available, KeptAtLine, KeptAtBlock, KeptAtCallee, IsFirst, types_of, each_some, EntryIsNoTarget}
-use Rattle.ir_semantics.specs.Canon.{place, canonical_names, canonical, types_in_order}
+use Rattle.ir_semantics.specs.Canon.{canonical_names, canonical, types_in_order}
 use Rattle.ir_core.specs.Whole.{Whole}
 use Rattle.ir_semantics.specs.Renaming.{Renaming, block_under, line_under, tag_under}
 use Rattle.ir_semantics.specs.Splice.{first_number, with_type}

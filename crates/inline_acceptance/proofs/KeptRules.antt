@@ -1,5 +1,6 @@
 -- What a line keeps under other numbers, in a function that has the parts of its function under them: counts, types,
 -- conventions, signatures, slots and the values that it uses.
+use Rattle.inline_outcomes.proofs.Local.{try_target_called}
 use Rattle.std.proofs.Common.{◌≡◌, ℕ, zero, suc, List, [], ◌∷◌, ◌++◌, length, map, Option, Some, None, false, true, refl, sym, ap, ap₂, ◌∙◌, subst}
 use Rattle.std.specs.Prelude.{slice_get, IsSomeAnd, IsSome, IsTrue, ℤ}
 use Rattle.clk_num.specs.declared.width.Width.{Width}
@@ -15,14 +16,14 @@ use Rattle.ir_core.specs.declared.declarations.SlotDecl.{SlotDecl}
 use Rattle.ir_core.specs.declared.instructions.Arg.{Arg}
 use Rattle.ir_core.specs.declared.instructions.Arg.TheVariants as arg
 use Rattle.ir_core.specs.declared.instructions.BlockCall.{BlockCall}
-use Rattle.ir_core.specs.Module.{Simple, Nop, Const, Pure, PureImm, Load, Store, StackLoad, StackStore, FuncAddr, Trap, Trapz, Trapnz, Branch, Jump, Brif, BrTable, CallTarget, Direct, Indirect, Function, Branches, Call, Instruction, Line, Plain, Return, ReturnCall, SequencePoint, TryCall}
+use Rattle.ir_core.specs.Module.{Simple, Nop, Const, Pure, PureImm, Load, Store, StackLoad, StackStore, FuncAddr, Trap, Trapz, Trapnz, Branch, Jump, Brif, BrTable, CallTarget, Direct, Indirect, Function, Branches, Call, Instruction, Line, Plain, Return, ReturnCall, SequencePoint, TryCall, TryTarget, TryDirect, TryIndirect, call_target}
 use Rattle.ir_core.specs.Lookup.{and_then, find_block, type_of, signature_of, param_types, width_of, ty_of}
 use Rattle.ir_core.specs.Lists.{Each}
 use Rattle.ir_semantics.specs.Values.{cons_some, slot_place, place_in, bytes_in}
 use Rattle.ir_core.specs.Uses.{targets, table_targets, values_used, operands, simple_used, called_used, targets_used, arg_values_used}
-use Rattle.ir_semantics.specs.Renaming.{Renaming, arg_under, target_under, simple_under, branch_under, called_under, entry_under, instruction_under}
-use Rattle.ir_semantics.specs.Accepted.{TargetCounts, ArgCounts, CallCounts, InstructionCounts, simple_results, types_of, each_some, HaveTypes, TargetTypes, arg_type, controlling, type_at, widths_of_values, OpTypes, SimpleTypes, BranchTypes, CalledTypes, CallTypes, InstructionTypes, InstructionConvention, InstructionSignature, SimpleSlot, InstructionSlot, store_form}
-use Rattle.ir_core.specs.Forms.{access_type}
+use Rattle.ir_semantics.specs.Renaming.{Renaming, arg_under, target_under, simple_under, branch_under, called_under, entry_under, instruction_under, try_target_under}
+use Rattle.ir_semantics.specs.Accepted.{TargetCounts, ArgCounts, CallCounts, InstructionCounts, simple_results, types_of, each_some, HaveTypes, TargetTypes, arg_type, type_at, widths_of_values, OpTypes, SimpleTypes, BranchTypes, CalledTypes, CallTypes, InstructionTypes, InstructionConvention, InstructionSignature, SimpleSlot, InstructionSlot, store_form}
+use Rattle.ir_core.specs.Forms.{access_type, controlling}
 use Rattle.inline_outcomes.proofs.Frames.{Embeds}
 use Rattle.inline_acceptance.proofs.KeptLists.{some_and, and_some, each_map, length_map, table_under, targets_under}
 
@@ -79,7 +80,8 @@ operands_under r SequencePoint = refl
 operands_under r (Return vs) = refl
 operands_under r (Call t args) = called_used_under r t args
 operands_under r (ReturnCall t args) = called_used_under r t args
-operands_under r (TryCall t s args n u) = called_used_under r t args
+operands_under r (TryCall (TryDirect k) s args n u) = refl
+operands_under r (TryCall (TryIndirect a) s args n u) = refl
 
 pub used_under : (r : Renaming) (i : Instruction) → values_used (instruction_under r i) ≡ map r.value (values_used i)
 used_under r i = ap₂ (λ x y. x ++ y) (operands_under r i) (ap targets_used (targets_under r i) ∙ targets_used_under r (targets i)) ∙ sym (map_append r.value (operands i) (targets_used (targets i)))
@@ -144,6 +146,10 @@ module _ (F G : Function) (r : Renaming) (Rest : List Line → List Line → Typ
       let u = some_and (signature_of F t) (λ s. (length args ≡ length s.params) × P s) h in
       and_some (signature_of G (called_under r t)) (λ s. (length (map r.value args) ≡ length s.params) × Q s) u.0 (sig_under t u.0 u.1) (length_map r.value args ∙ u.2.0, go u.0 u.1 u.2.1)
 
+  try_counts : (t : TryTarget) (sig : ℕ) (args : List ℕ) (P Q : Sig → Type 0) → ((s : Sig) → signature_of F (call_target t sig) ≡ Some s → P s → Q s) → CallCounts F (call_target t sig) args P → CallCounts G (call_target (try_target_under r t) (r.sig sig)) (map r.value args) Q
+  try_counts (TryDirect k) sig args P Q go h = call_counts (Direct k) args P Q go h
+  try_counts (TryIndirect a) sig args P Q go h = call_counts (Indirect sig a) args P Q go h
+
   called_types : (t : CallTarget) → CalledTypes F t → CalledTypes G (called_under r t)
   called_types (Direct k) h = h
   called_types (Indirect s a) h = typed a ∙ h
@@ -152,6 +158,10 @@ module _ (F G : Function) (r : Renaming) (Rest : List Line → List Line → Typ
   call_types l l' ty t args P Q go h =
       let u = some_and (signature_of F t) (λ s. HaveTypes F args (param_types s.params) × P s) h.2 in
       (ty ∙ h.0, called_types t h.1, and_some (signature_of G (called_under r t)) (λ s. HaveTypes G (map r.value args) (param_types s.params) × Q s) u.0 (sig_under t u.0 u.1) (have_under args (param_types u.0.params) u.2.0, go u.0 u.1 u.2.1))
+
+  try_types : (l l' : Line) → l'.ty ≡ l.ty → (t : TryTarget) (sig : ℕ) (args : List ℕ) (P Q : Sig → Type 0) → ((s : Sig) → signature_of F (call_target t sig) ≡ Some s → P s → Q s) → CallTypes F l (call_target t sig) args P → CallTypes G l' (call_target (try_target_under r t) (r.sig sig)) (map r.value args) Q
+  try_types l l' ty (TryDirect k) sig args P Q go h = call_types l l' ty (Direct k) args P Q go h
+  try_types l l' ty (TryIndirect a) sig args P Q go h = call_types l l' ty (Indirect sig a) args P Q go h
 
   -- ---- counts
 
@@ -182,7 +192,7 @@ module _ (F G : Function) (r : Renaming) (Rest : List Line → List Line → Typ
     counts_under (ReturnCall t args) lv h =
         call_counts t args (λ s. (length l.results ≡ 0) × (length s.results ≡ length F.sig.results)) (λ s. (length l'.results ≡ 0) × (length s.results ≡ length G.sig.results)) (λ s q p. (counted 0 p.0, p.1 ∙ lv tt)) h
     counts_under (TryCall t sig args normal table) lv h =
-        call_counts t args (λ s. (length l.results ≡ 0) × Each (TargetCounts F (Some (length s.results))) (normal ∷ table_targets table)) (λ s. (length l'.results ≡ 0) × Each (TargetCounts G (Some (length s.results))) (target_under r normal ∷ table_targets (map (entry_under r) table))) (λ s q p. (counted 0 p.0, subst (Each (TargetCounts G (Some (length s.results)))) (sym (targets_under r (TryCall t sig args normal table))) (targets_counts (Some (length s.results)) (normal ∷ table_targets table) p.1))) h
+        try_counts t sig args (λ s. (length l.results ≡ 0) × Each (TargetCounts F (Some (length s.results))) (normal ∷ table_targets table)) (λ s. (length l'.results ≡ 0) × Each (TargetCounts G (Some (length s.results))) (target_under r normal ∷ table_targets (map (entry_under r) table))) (λ s q p. (counted 0 p.0, subst (Each (TargetCounts G (Some (length s.results)))) (sym (targets_under r (TryCall t sig args normal table))) (targets_counts (Some (length s.results)) (normal ∷ table_targets table) p.1))) h
 
   -- ---- types
 
@@ -214,11 +224,12 @@ module _ (F G : Function) (r : Renaming) (Rest : List Line → List Line → Typ
 
     simple_types : (p : Simple) → SimpleTypes F l p → SimpleTypes G l' (simple_under r p)
     simple_types Nop h = ty ∙ h
-    simple_types (Const x) h = (ty ∙ h.0, h.1, have (ty_of x.width ∷ []) h.2)
+    simple_types (Const x) h = (ty ∙ h.0, h.1, h.2, have (ty_of x.width ∷ []) h.3)
     simple_types (Pure o args) h = (op_types o (widths_of_values G (map r.value args)) (subst (OpTypes F l o) (sym (widths_same args)) h.0), ty ∙ h.1 ∙ sym (at_controlling o args))
     simple_types (PureImm o a imm) h = (
       h.0,
-      some_typed a (λ t. (l.ty ≡ Some t) × (imm.width ≡ width_of t) × OpTypes F l o (Some (width_of t ∷ (imm.width ∷ [])))) (λ t. (l'.ty ≡ Some t) × (imm.width ≡ width_of t) × OpTypes G l' o (Some (width_of t ∷ (imm.width ∷ [])))) (λ t p. (ty ∙ p.0, p.1, op_types o (Some (width_of t ∷ (imm.width ∷ []))) p.2)) h.1,
+      h.1,
+      some_typed a (λ t. (l.ty ≡ Some t) × (imm.width ≡ width_of t) × OpTypes F l o (Some (width_of t ∷ (imm.width ∷ [])))) (λ t. (l'.ty ≡ Some t) × (imm.width ≡ width_of t) × OpTypes G l' o (Some (width_of t ∷ (imm.width ∷ [])))) (λ t p. (ty ∙ p.0, p.1, op_types o (Some (width_of t ∷ (imm.width ∷ []))) p.2)) h.2,
     )
     simple_types (Load access flags a offset) h = (ty ∙ h.0, h.1, h.2, typed a ∙ h.3, have (access_type access ∷ []) h.4)
     simple_types (Store narrow flags v a offset) h = (h.0, typed a ∙ h.1, some_typed v (λ t. (l.ty ≡ Some t) × IsTrue (store_form narrow t)) (λ t. (l'.ty ≡ Some t) × IsTrue (store_form narrow t)) (λ t p. (ty ∙ p.0, p.1)) h.2)
@@ -242,7 +253,7 @@ module _ (F G : Function) (r : Renaming) (Rest : List Line → List Line → Typ
     types_under (Call t args) lv h = call_types l l' ty t args (λ s. HaveTypes F l.results (param_types s.results)) (λ s. HaveTypes G l'.results (param_types s.results)) (λ s q p. have (param_types s.results) p) h
     types_under (ReturnCall t args) lv h = call_types l l' ty t args (λ s. param_types s.results ≡ param_types F.sig.results) (λ s. param_types s.results ≡ param_types G.sig.results) (λ s q p. p ∙ lv tt) h
     types_under (TryCall t sig args normal table) lv h =
-        call_types l l' ty t args (λ s. TargetTypes F (param_types s.results) [] normal × Each (TargetTypes F [] (I64 ∷ I64 ∷ [])) (table_targets table)) (λ s. TargetTypes G (param_types s.results) [] (target_under r normal) × Each (TargetTypes G [] (I64 ∷ I64 ∷ [])) (table_targets (map (entry_under r) table))) (λ s q p. (target_types (param_types s.results) [] normal p.0, subst (Each (TargetTypes G [] (I64 ∷ I64 ∷ []))) (sym (table_under r table)) (targets_types [] (I64 ∷ I64 ∷ []) (table_targets table) p.1))) h
+        try_types l l' ty t sig args (λ s. TargetTypes F (param_types s.results) [] normal × Each (TargetTypes F [] (I64 ∷ I64 ∷ [])) (table_targets table)) (λ s. TargetTypes G (param_types s.results) [] (target_under r normal) × Each (TargetTypes G [] (I64 ∷ I64 ∷ [])) (table_targets (map (entry_under r) table))) (λ s q p. (target_types (param_types s.results) [] normal p.0, subst (Each (TargetTypes G [] (I64 ∷ I64 ∷ []))) (sym (table_under r table)) (targets_types [] (I64 ∷ I64 ∷ []) (table_targets table) p.1))) h
 
   -- ---- convention, signature and slots
 
@@ -258,8 +269,8 @@ module _ (F G : Function) (r : Renaming) (Rest : List Line → List Line → Typ
 
   pub signature_under : (l : Line) (i : Instruction) → InstructionCounts F l i → InstructionSignature F i → InstructionSignature G (instruction_under r i)
   signature_under l (TryCall t sig args normal table) c h =
-      let u = some_and (signature_of F t) (λ s. (length args ≡ length s.params) × ((length l.results ≡ 0) × Each (TargetCounts F (Some (length s.results))) (normal ∷ table_targets table))) c in
-      emb.fits.sig sig u.0 (h ∙ u.1) ∙ sym (sig_under t u.0 u.1)
+      let u = some_and (signature_of F (call_target t sig)) (λ s. (length args ≡ length s.params) × ((length l.results ≡ 0) × Each (TargetCounts F (Some (length s.results))) (normal ∷ table_targets table))) c in
+      emb.fits.sig sig u.0 (h ∙ u.1) ∙ sym (sig_under (call_target t sig) u.0 u.1) ∙ ap (signature_of G) (sym (try_target_called r t sig))
   signature_under l (Plain p) c h = h
   signature_under l (Branches p) c h = h
   signature_under l SequencePoint c h = h

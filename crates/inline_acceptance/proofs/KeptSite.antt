@@ -14,7 +14,7 @@ use Rattle.ir_core.specs.declared.instructions.Arg.{Arg}
 use Rattle.ir_core.specs.declared.instructions.Arg.TheVariants as arg
 use Rattle.ir_core.specs.declared.instructions.BlockCall.{BlockCall}
 use Rattle.ir_core.specs.declared.places.Item.TheVariants as item
-use Rattle.ir_core.specs.Module.{CallTarget, Direct, Indirect, Function, Module, Branches, Call, Instruction, Line, Block, Plain, Return, ReturnCall, SequencePoint, TryCall}
+use Rattle.ir_core.specs.Module.{CallTarget, Direct, Indirect, Function, Module, Branches, Call, Instruction, Line, Block, Plain, Return, ReturnCall, SequencePoint, TryCall, call_target}
 use Rattle.ir_core.specs.Lookup.{and_then, find_block, type_in, type_of, signature_of, param_types, definitions, line_definitions}
 use Rattle.ir_core.specs.Lists.{In, Each}
 use Rattle.ir_core.specs.Uses.{table_targets, values_used, targets_used, called_used}
@@ -123,7 +123,7 @@ module _ (m : Module) (S : Splicing) (site : Site m S) (fa : FunctionAccepted m 
       by (Call t args) q h = (of_sig t q (λ s. HaveTypes S.caller args (param_types s.params) × HaveTypes S.caller S.site.results (param_types s.results)) h.2).0
       by (ReturnCall t args) q h = (of_sig t q (λ s. HaveTypes S.caller args (param_types s.params) × (param_types s.results ≡ param_types S.caller.sig.results)) h.2).0
       by (TryCall t sig args normal table) q h =
-          (of_sig t q (λ s. HaveTypes S.caller args (param_types s.params) × (TargetTypes S.caller (param_types s.results) [] normal × Each (TargetTypes S.caller [] (I64 ∷ I64 ∷ [])) (table_targets table))) h.2).0
+          (of_sig (call_target t sig) q (λ s. HaveTypes S.caller args (param_types s.params) × (TargetTypes S.caller (param_types s.results) [] normal × Each (TargetTypes S.caller [] (I64 ∷ I64 ∷ [])) (table_targets table))) h.2).0
       by (Plain p) q h = cc
       by (Branches p) q h = cc
       by SequencePoint q h = cc
@@ -135,7 +135,7 @@ module _ (m : Module) (S : Splicing) (site : Site m S) (fa : FunctionAccepted m 
       by : (i : Instruction) → callee_of i ≡ Some site.callee → Each (Available S.caller S.at (length S.before)) (values_used i) → Each (Available S.caller S.at (length S.before)) (args_of i)
       by (Call t args) q h = (each_split (Available S.caller S.at (length S.before)) (called_used t) args (each_split (Available S.caller S.at (length S.before)) (called_used t ++ args) [] h).0).1
       by (ReturnCall t args) q h = (each_split (Available S.caller S.at (length S.before)) (called_used t) args (each_split (Available S.caller S.at (length S.before)) (called_used t ++ args) [] h).0).1
-      by (TryCall t sig args normal table) q h = (each_split (Available S.caller S.at (length S.before)) (called_used t) args (each_split (Available S.caller S.at (length S.before)) (called_used t ++ args) (targets_used (normal ∷ table_targets table)) h).0).1
+      by (TryCall t sig args normal table) q h = (each_split (Available S.caller S.at (length S.before)) (called_used (call_target t sig)) args (each_split (Available S.caller S.at (length S.before)) (called_used (call_target t sig) ++ args) (targets_used (normal ∷ table_targets table)) h).0).1
       by (Plain p) q h = cc
       by (Branches p) q h = cc
       by SequencePoint q h = cc
@@ -175,13 +175,13 @@ module _ (m : Module) (S : Splicing) (site : Site m S) (fa : FunctionAccepted m 
             results = n.1.0;
           }
       by (TryCall t sig args normal table) q c h v g a =
-          let n = of_sig t q (λ s. (length args ≡ length s.params) × ((length S.site.results ≡ 0) × Each (TargetCounts S.caller (Some (length s.results))) (normal ∷ table_targets table))) c in
-          let y = of_sig t q (λ s. HaveTypes S.caller args (param_types s.params) × (TargetTypes S.caller (param_types s.results) [] normal × Each (TargetTypes S.caller [] (I64 ∷ I64 ∷ [])) (table_targets table))) h.2 in
+          let n = of_sig (call_target t sig) q (λ s. (length args ≡ length s.params) × ((length S.site.results ≡ 0) × Each (TargetCounts S.caller (Some (length s.results))) (normal ∷ table_targets table))) c in
+          let y = of_sig (call_target t sig) q (λ s. HaveTypes S.caller args (param_types s.params) × (TargetTypes S.caller (param_types s.results) [] normal × Each (TargetTypes S.caller [] (I64 ∷ I64 ∷ [])) (table_targets table))) h.2 in
           record {
             counts = n.1.1;
             normal_types = y.1.0;
             table_types = y.1.1;
-            available = (each_split (Available S.caller S.at (length S.before)) (called_used t ++ args) (targets_used (normal ∷ table_targets table)) a).1;
+            available = (each_split (Available S.caller S.at (length S.before)) (called_used (call_target t sig) ++ args) (targets_used (normal ∷ table_targets table)) a).1;
             results = n.1.0;
           }
       by (Plain p) q c h v g a = cc

@@ -3,7 +3,7 @@ use Rattle.std.proofs.Common.{◌≡◌, ℕ, ◌≤◌, ◌+◌, List, [], ◌+
 use Rattle.exn_tables.specs.declared.table.Entry.{Entry}
 use Rattle.ir_core.specs.declared.declarations.Callee.{Callee}
 use Rattle.ir_core.specs.declared.instructions.BlockCall.{BlockCall}
-use Rattle.ir_core.specs.Module.{Simple, Nop, Const, Pure, PureImm, Load, Store, StackLoad, StackStore, FuncAddr, Trap, Trapz, Trapnz, CallTarget, Direct, Indirect, Function, Module, Jump, Brif, BrTable, Branches, Call, Instruction, Line, Block, Plain, Return, ReturnCall, SequencePoint, TryCall}
+use Rattle.ir_core.specs.Module.{Simple, Nop, Const, Pure, PureImm, Load, Store, StackLoad, StackStore, FuncAddr, Trap, Trapz, Trapnz, CallTarget, Direct, Indirect, Function, Module, Jump, Brif, BrTable, Branches, Call, Instruction, Line, Block, Plain, Return, ReturnCall, SequencePoint, TryCall, TryDirect, TryIndirect}
 use Rattle.ir_core.specs.Lookup.{type_of, definitions, block_numbers}
 use Rattle.ir_core.specs.Lists.{Each}
 use Rattle.ir_core.specs.Uses.{table_targets, targets, simple_used, called_used, operands}
@@ -55,7 +55,8 @@ own_under r SequencePoint = refl
 own_under r (Return vs) = refl
 own_under r (Call t args) = address_under r t args
 own_under r (ReturnCall t args) = address_under r t args
-own_under r (TryCall t s args n u) = address_under r t args
+own_under r (TryCall (TryDirect k) s args n u) = refl
+own_under r (TryCall (TryIndirect a) s args n u) = refl
 
 table_under : (r : Renaming) (es : List (Entry BlockCall)) → table_targets (map (entry_under r) es) ≡ map (target_under r) (table_targets es)
 table_under r [] = refl

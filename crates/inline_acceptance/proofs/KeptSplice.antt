@@ -13,16 +13,16 @@ use Rattle.ir_core.specs.declared.signatures.Sig.{Sig}
 use Rattle.ir_core.specs.declared.instructions.Arg.TheVariants as arg
 use Rattle.ir_core.specs.declared.instructions.BlockCall.{BlockCall}
 use Rattle.ir_core.specs.declared.places.Item.TheVariants as item
-use Rattle.ir_core.specs.Module.{CallTarget, Module, Branches, Call, Instruction, Line, Block, Plain, Return, ReturnCall, SequencePoint, TryCall}
+use Rattle.ir_core.specs.Module.{CallTarget, Module, Branches, Call, Instruction, Line, Block, Plain, Return, ReturnCall, SequencePoint, TryCall, TryTarget, call_target}
 use Rattle.ir_core.specs.Lookup.{find_block, type_of, signature_of, param_types}
 use Rattle.ir_core.specs.Lists.{In, Each}
 use Rattle.ir_core.specs.Uses.{targets, table_targets, values_used, targets_used, called_used, arg_values_used}
 use Rattle.ir_semantics.specs.Available.{Available}
 use Rattle.ir_semantics.specs.Accepted.{InstructionCounts, InstructionTypes, InstructionSignature, InstructionTags, TargetCounts, TargetTypes, HaveTypes, types_of, each_some, type_mismatch, EntryTypes, EntryIsNoTarget, entry_target}
 use Rattle.ir_semantics.specs.Import.{sig_after}
-use Rattle.ir_semantics.specs.Renaming.{Renaming, entry_under, called_under, instruction_under, tag_under, target_under}
-use Rattle.ir_semantics.specs.Splice.{Kind, Last, Splicing, Tries, Within, after_block, args_of, callee_line, callee_names, caller_names, first_number, from, joined_tags, kind_of, line_with, named_sig, new_results, piece, piece_by, spliced, tags_before, to_normal, tries_piece}
-use Rattle.inline_outcomes.proofs.Local.{some_same}
+use Rattle.ir_semantics.specs.Renaming.{Renaming, entry_under, called_under, instruction_under, tag_under, target_under, try_target_under}
+use Rattle.ir_semantics.specs.Splice.{Kind, Last, Splicing, Tries, Within, after_block, args_of, callee_line, callee_names, caller_names, first_number, from, joined_tags, kind_of, line_with, named_sig, new_results, piece, piece_by, spliced, tags_before, to_normal, tries_piece, try_target}
+use Rattle.inline_outcomes.proofs.Local.{some_same, named_target, try_target_called}
 use Rattle.inline_outcomes.proofs.Frames.{Embeds}
 use Rattle.inline_outcomes.proofs.Related.{RestF, RestG}
 use Rattle.inline_outcomes.proofs.Places.{find_hit, by_same, found_name, new_found}
@@ -201,7 +201,7 @@ module _ (m : Module) (S : Splicing) (E : Setting m S) where
           let n = subst (InstructionCounts S.callee li) q lk.counts in
           let y = subst (InstructionTypes S.callee li) q lk.types in
           let a = subst (λ z. Each (Available S.callee c s) (values_used z)) q lk.available in
-          subst (LineKept (spliced S) x i) (sym h) (try_kept m S E x i c s li t args (λ z. (length li.results ≡ 0) × (length z.results ≡ length S.callee.sig.results)) (λ z. param_types z.results ≡ param_types S.callee.sig.results) n y (own_av t args [] a) (named_sig S (called_under (callee_names S) t)) (target_under (caller_names S) normal) (map (entry_under (caller_names S)) table) (named_at t (λ z. (length args ≡ length z.params) × ((length li.results ≡ 0) × (length z.results ≡ length S.callee.sig.results))) n) (λ z e cz tz.
+          subst (LineKept (spliced S) x i) (sym h) (try_kept m S E x i c s li t args (λ z. (length li.results ≡ 0) × (length z.results ≡ length S.callee.sig.results)) (λ z. param_types z.results ≡ param_types S.callee.sig.results) n y (own_av t args [] a) (try_target (called_under (callee_names S) t)) (named_sig S (called_under (callee_names S) t)) (target_under (caller_names S) normal) (map (entry_under (caller_names S)) table) (named_target S (called_under (callee_names S) t)) (named_at t (λ z. (length args ≡ length z.params) × ((length li.results ≡ 0) × (length z.results ≡ length S.callee.sig.results))) n) (λ z e cz tz.
           let tb = table_at (length z.results) in
           record {
             counts = (target_counts S.caller (spliced S) (caller_names S) (RestF S) ef f_typed (Some (length z.results)) normal (subst (λ w. TargetCounts S.caller (Some w) normal) (sym cz.1) fs.counts.0), tb.0);
@@ -222,25 +222,25 @@ module _ (m : Module) (S : Splicing) (E : Setting m S) where
           let r = rest_there c s k li normal table kind found get t args q in
           let params = rest_params m S E.names E.site E.f_ok E.g_ok c s k found li get r.0 r.1 in
           let to : BlockCall = record { block = S.naming.new_block c s; args = map arg.Ret (from 0 (length li.results)) } in
-          subst (LineKept (spliced S) x i) (sym h) (try_kept m S E x i c s li t args (λ z. length li.results ≡ length z.results) (λ z. HaveTypes S.callee li.results (param_types z.results)) n y (own_av t args [] a) (named_sig S (called_under (callee_names S) t)) to (map (entry_under (caller_names S)) table) (named_at t (λ z. (length args ≡ length z.params) × (length li.results ≡ length z.results)) n) (λ z e cz tz.
+          subst (LineKept (spliced S) x i) (sym h) (try_kept m S E x i c s li t args (λ z. length li.results ≡ length z.results) (λ z. HaveTypes S.callee li.results (param_types z.results)) n y (own_av t args [] a) (try_target (called_under (callee_names S) t)) (named_sig S (called_under (callee_names S) t)) to (map (entry_under (caller_names S)) table) (named_target S (called_under (callee_names S) t)) (named_at t (λ z. (length args ≡ length z.params) × (length li.results ≡ length z.results)) n) (λ z e cz tz.
           let tb = table_at (length z.results) in
           let rk = rets_kept m S E (S.naming.new_block c s) r.0 li.results (param_types z.results) (length z.results) r.1 params tz cz in
           record { counts = (rk.0, tb.0); normal_types = rk.1; table_types = tb.1; available = each_append (Available (spliced S) x i) (arg_values_used to.args) (targets_used (table_targets (map (entry_under (caller_names S)) table))) (subst (Each (Available (spliced S) x i)) (sym (rets_used 0 (length li.results))) tt) tb.2 }))
 
-      at_try : (t : CallTarget) (sig : ℕ) (args : List ℕ) (own : BlockCall) (inner : List (Entry BlockCall)) → li.inst ≡ TryCall t sig args own inner → Trans S E.names (Tries normal table) c s (TryCall t sig args own inner) li i' → LineKept (spliced S) x i i'
+      at_try : (t : TryTarget) (sig : ℕ) (args : List ℕ) (own : BlockCall) (inner : List (Entry BlockCall)) → li.inst ≡ TryCall t sig args own inner → Trans S E.names (Tries normal table) c s (TryCall t sig args own inner) li i' → LineKept (spliced S) x i i'
       at_try t sig args own inner q h =
           let n = subst (InstructionCounts S.callee li) q lk.counts in
           let y = subst (InstructionTypes S.callee li) q lk.types in
           let sg = subst (InstructionSignature S.callee) q lk.signature in
           let a = subst (λ z. Each (Available S.callee c s) (values_used z)) q lk.available in
-          let ta = (each_split (Available S.callee c s) (called_used t ++ args) (targets_used (own ∷ table_targets inner)) a).1 in
+          let ta = (each_split (Available S.callee c s) (called_used (call_target t sig) ++ args) (targets_used (own ∷ table_targets inner)) a).1 in
           let G = RestG S (kind_of S.site.inst) in
           let inner' = map (entry_under (callee_names S)) inner in
           let outer' = map (entry_under (caller_names S)) table in
           let ei = sym (table_under (callee_names S) inner) in
           let ej = sym (table_append inner' outer') in
           let inner_av : Each (Available (spliced S) x i) (targets_used (own' own ∷ table_targets inner')) = subst (λ w. Each (Available (spliced S) x i) (targets_used (own' own ∷ w))) ei (subst (Each (Available (spliced S) x i)) (sym (targets_used_under (callee_names S) (own ∷ table_targets inner))) (gs_av (targets_used (own ∷ table_targets inner)) ta)) in
-          subst (LineKept (spliced S) x i) (sym h) (try_kept m S E x i c s li t args (λ z. (length li.results ≡ 0) × Each (TargetCounts S.callee (Some (length z.results))) (own ∷ table_targets inner)) (λ z. TargetTypes S.callee (param_types z.results) [] own × Each (TargetTypes S.callee [] (I64 ∷ I64 ∷ [])) (table_targets inner)) n y (own_av t args (own ∷ table_targets inner) a) (sig_after S.caller S.callee sig) (target_under (callee_names S) own) (inner' ++ outer') (signature_under S.callee (spliced S) (callee_names S) (RestG S (kind_of S.site.inst)) eg g_typed li (TryCall t sig args own inner) n sg) (λ z e cz tz.
+          subst (LineKept (spliced S) x i) (sym h) (try_kept m S E x i c s li (call_target t sig) args (λ z. (length li.results ≡ 0) × Each (TargetCounts S.callee (Some (length z.results))) (own ∷ table_targets inner)) (λ z. TargetTypes S.callee (param_types z.results) [] own × Each (TargetTypes S.callee [] (I64 ∷ I64 ∷ [])) (table_targets inner)) n y (own_av (call_target t sig) args (own ∷ table_targets inner) a) (try_target_under (callee_names S) t) (sig_after S.caller S.callee sig) (target_under (callee_names S) own) (inner' ++ outer') (try_target_called (callee_names S) t sig) (signature_under S.callee (spliced S) (callee_names S) (RestG S (kind_of S.site.inst)) eg g_typed li (TryCall t sig args own inner) n sg ∙ ap (signature_of (spliced S)) (try_target_called (callee_names S) t sig)) (λ z e cz tz.
           let tb = table_at (length z.results) in
           record {
             counts = (

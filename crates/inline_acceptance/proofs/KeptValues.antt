@@ -5,7 +5,7 @@ use Rattle.std.proofs.lemmas.Bool.{cases_eq}
 use Rattle.exn_tables.specs.declared.table.Entry.{Entry}
 use Rattle.ir_core.specs.declared.signatures.Ty.{Ty}
 use Rattle.ir_core.specs.declared.instructions.BlockCall.{BlockCall}
-use Rattle.ir_core.specs.Module.{Module, Function, Branches, Call, Instruction, Line, Block, Plain, Return, ReturnCall, SequencePoint, TryCall}
+use Rattle.ir_core.specs.Module.{Module, Function, Branches, Call, Instruction, Line, Block, Plain, Return, ReturnCall, SequencePoint, TryCall, call_target}
 use Rattle.ir_core.specs.Lookup.{find_block, signature_of, param_types, definitions, line_definitions, block_numbers}
 use Rattle.ir_core.specs.Lists.{In, Each, Different}
 use Rattle.ir_core.specs.Uses.{table_targets}
@@ -43,7 +43,7 @@ no_results : (f : Function) (l : Line) (i : Instruction) → InstructionCounts f
 no_results f l (Return vs) h = h.0
 no_results f l (ReturnCall t args) h = (some_and (signature_of f t) (λ s. (length args ≡ length s.params) × ((length l.results ≡ 0) × (length s.results ≡ length f.sig.results))) h).2.1.0
 no_results f l (TryCall t sig args normal table) h =
-    (some_and (signature_of f t) (λ s. (length args ≡ length s.params) × ((length l.results ≡ 0) × Each (TargetCounts f (Some (length s.results))) (normal ∷ table_targets table))) h).2.1.0
+    (some_and (signature_of f (call_target t sig)) (λ s. (length args ≡ length s.params) × ((length l.results ≡ 0) × Each (TargetCounts f (Some (length s.results))) (normal ∷ table_targets table))) h).2.1.0
 no_results f l (Plain p) h = tt
 no_results f l (Branches p) h = tt
 no_results f l SequencePoint h = tt

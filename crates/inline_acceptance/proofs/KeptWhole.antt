@@ -11,7 +11,7 @@ use Rattle.ir_core.specs.declared.declarations.SlotDecl.{SlotDecl}
 use Rattle.ir_core.specs.declared.instructions.Arg.{Arg}
 use Rattle.ir_core.specs.declared.instructions.Arg.TheVariants as arg
 use Rattle.ir_core.specs.declared.instructions.BlockCall.{BlockCall}
-use Rattle.ir_core.specs.Module.{Simple, Nop, Const, Pure, PureImm, Load, Store, StackLoad, StackStore, FuncAddr, Trap, Trapz, Trapnz, Jump, Brif, BrTable, CallTarget, Direct, Indirect, Function, Branches, Call, Instruction, Line, Block, Plain, Return, ReturnCall, SequencePoint, TryCall}
+use Rattle.ir_core.specs.Module.{Simple, Nop, Const, Pure, PureImm, Load, Store, StackLoad, StackStore, FuncAddr, Trap, Trapz, Trapnz, Jump, Brif, BrTable, CallTarget, Direct, Indirect, Function, Branches, Call, Instruction, Line, Block, Plain, Return, ReturnCall, SequencePoint, TryCall, call_target}
 use Rattle.ir_core.specs.Lookup.{and_then, find_block, type_in, type_of, signature_of, param_types, width_of, ty_of, block_numbers}
 use Rattle.ir_core.specs.Lists.{In, Each}
 use Rattle.ir_semantics.specs.Values.{cons_some, slot_place, place_in, bytes_in}
@@ -73,7 +73,7 @@ module _ (f : Function) (params : (x : ℕ) (k : Block) → find_block x f.block
   simple_typed l Nop h = tt
   simple_typed l (Const x) h = tt
   simple_typed l (Pure o args) h = widths_typed args (λ given. IsSomeAnd (row o given) (λ results. HaveTypes f l.results (map ty_of results))) h.0
-  simple_typed l (PureImm o a imm) h = (one_typed a (λ t. (l.ty ≡ Some t) × (imm.width ≡ width_of t) × OpTypes f l o (Some (width_of t ∷ (imm.width ∷ [])))) h.1, tt)
+  simple_typed l (PureImm o a imm) h = (one_typed a (λ t. (l.ty ≡ Some t) × (imm.width ≡ width_of t) × OpTypes f l o (Some (width_of t ∷ (imm.width ∷ [])))) h.2, tt)
   simple_typed l (Load access flags a offset) h = ((I64, h.3), tt)
   simple_typed l (Store narrow flags v a offset) h = (one_typed v (λ t. (l.ty ≡ Some t) × IsTrue (store_form narrow t)) h.2, ((I64, h.1), tt))
   simple_typed l (StackLoad t k offset) h = tt
@@ -103,8 +103,8 @@ module _ (f : Function) (params : (x : ℕ) (k : Block) → find_block x f.block
   used_typed l (ReturnCall t args) h = each_append (HasType f) (called_used t ++ args) [] (call_typed t args (λ s. param_types s.results ≡ param_types f.sig.results) h.1 h.2) tt
   used_typed l (TryCall t sig args normal table) h =
       let P = λ (s : Sig). TargetTypes f (param_types s.results) [] normal × Each (TargetTypes f [] (I64 ∷ (I64 ∷ []))) (table_targets table) in
-      let u = some_and (signature_of f t) (λ s. HaveTypes f args (param_types s.params) × P s) h.2 in
-      each_append (HasType f) (called_used t ++ args) (targets_used (normal ∷ table_targets table)) (call_typed t args P h.1 h.2) (each_append (HasType f) (arg_values_used normal.args) (targets_used (table_targets table)) (target_typed (param_types u.0.results) [] normal u.2.1.0) (targets_typed [] (I64 ∷ (I64 ∷ [])) (table_targets table) u.2.1.1))
+      let u = some_and (signature_of f (call_target t sig)) (λ s. HaveTypes f args (param_types s.params) × P s) h.2 in
+      each_append (HasType f) (called_used (call_target t sig) ++ args) (targets_used (normal ∷ table_targets table)) (call_typed (call_target t sig) args P h.1 h.2) (each_append (HasType f) (arg_values_used normal.args) (targets_used (table_targets table)) (target_typed (param_types u.0.results) [] normal u.2.1.0) (targets_typed [] (I64 ∷ (I64 ∷ [])) (table_targets table) u.2.1.1))
 
   -- ---- blocks, slots and signatures
 
@@ -155,5 +155,5 @@ module _ (f : Function) (params : (x : ℕ) (k : Block) → find_block x f.block
   used_sigs l (ReturnCall t args) c h = called_below t (λ s. (length args ≡ length s.params) × ((length l.results ≡ 0) × (length s.results ≡ length f.sig.results))) c
   used_sigs l (TryCall t sig args normal table) c h =
       let P = λ (s : Sig). (length args ≡ length s.params) × ((length l.results ≡ 0) × Each (TargetCounts f (Some (length s.results))) (normal ∷ table_targets table)) in
-      let u = some_and (signature_of f t) P c in
-      (get_below f.sigs sig u.0 (h ∙ u.1), called_below t P c)
+      let u = some_and (signature_of f (call_target t sig)) P c in
+      (get_below f.sigs sig u.0 (h ∙ u.1), tt)

@@ -8,11 +8,11 @@ use Rattle.ir_core.specs.declared.instructions.BlockCall.{BlockCall}
 use Rattle.ir_core.specs.Module.{Simple, Nop, Const, Pure, PureImm, Load, Store, StackLoad, StackStore, FuncAddr, Trap, Trapz, Trapnz, Branches, Call, Instruction, Line, Block, Plain, Return, ReturnCall, SequencePoint, TryCall}
 use Rattle.ir_core.specs.Lookup.{find_block, block_numbers}
 use Rattle.ir_core.specs.Lists.{In, Different}
-use Rattle.ir_semantics.specs.Renaming.{Renaming, called_under, entry_under, instruction_under, simple_under, block_under, target_under}
+use Rattle.ir_semantics.specs.Renaming.{Renaming, called_under, entry_under, instruction_under, simple_under, block_under, target_under, try_target_under}
 use Rattle.ir_semantics.specs.Import.{sig_after}
 use Rattle.ir_semantics.specs.Available.{terminates, simple_terminates}
 use Rattle.ir_semantics.specs.Accepted.{EndsRightly}
-use Rattle.ir_semantics.specs.Splice.{Kind, Last, Piece, Splicing, Tries, Within, after_block, after_blocks, body, callee_line, callee_names, caller_names, cut_block, from, front, kind_of, line_with, named_sig, new_results, piece, piece_by, spliced_blocks, to_after, to_normal, tries_piece, try_with, within_piece}
+use Rattle.ir_semantics.specs.Splice.{Kind, Last, Piece, Splicing, Tries, Within, after_block, after_blocks, body, callee_line, callee_names, caller_names, cut_block, from, front, kind_of, line_with, named_sig, new_results, piece, piece_by, spliced_blocks, to_after, to_normal, tries_piece, try_with, within_piece, try_target}
 use Rattle.inline_outcomes.proofs.Local.{some_same}
 use Rattle.inline_outcomes.proofs.Related.{Distinct}
 use Rattle.inline_outcomes.proofs.Places.{find_hit, find_skip}
@@ -150,11 +150,11 @@ module _ (S : Splicing) (names : Distinct S.naming) where
   Trans Last c s inst i i' = i' ≡ callee_line S i
   Trans (Tries normal table) c s (Return vs) i i' = i' ≡ to_normal S normal vs
   Trans (Tries normal table) c s (Call t args) i i' =
-      i' ≡ try_with S i (called_under (callee_names S) t) (named_sig S (called_under (callee_names S) t)) args (record { block = S.naming.new_block c s; args = map arg.Ret (from 0 (length i.results)) }) (map (entry_under (caller_names S)) table)
+      i' ≡ try_with S i (try_target (called_under (callee_names S) t)) (named_sig S (called_under (callee_names S) t)) args (record { block = S.naming.new_block c s; args = map arg.Ret (from 0 (length i.results)) }) (map (entry_under (caller_names S)) table)
   Trans (Tries normal table) c s (TryCall t sig args own inner) i i' =
-      i' ≡ try_with S i (called_under (callee_names S) t) (sig_after S.caller S.callee sig) args (target_under (callee_names S) own) (map (entry_under (callee_names S)) inner ++ map (entry_under (caller_names S)) table)
+      i' ≡ try_with S i (try_target_under (callee_names S) t) (sig_after S.caller S.callee sig) args (target_under (callee_names S) own) (map (entry_under (callee_names S)) inner ++ map (entry_under (caller_names S)) table)
   Trans (Tries normal table) c s (ReturnCall t args) i i' =
-      i' ≡ try_with S i (called_under (callee_names S) t) (named_sig S (called_under (callee_names S) t)) args (target_under (caller_names S) normal) (map (entry_under (caller_names S)) table)
+      i' ≡ try_with S i (try_target (called_under (callee_names S) t)) (named_sig S (called_under (callee_names S) t)) args (target_under (caller_names S) normal) (map (entry_under (caller_names S)) table)
   Trans (Tries normal table) c s _ i i' = i' ≡ callee_line S i
 
   pub data Shape (k : Kind) (c s : ℕ) (i : Line) (inst : Instruction) (p : Piece) (q : Piece) : Type 0 where

@@ -6,7 +6,7 @@ use Rattle.ir_core.specs.declared.names.FuncName.{FuncName}
 use Rattle.ir_core.specs.declared.instructions.BlockCall.{BlockCall}
 use Rattle.clk_num.specs.Operations.{DataValue, Evaluation, Values, Traps, NoRow, operation}
 use Rattle.clk_num.specs.declared.op.TrapCode.TheVariants.{HeapOob}
-use Rattle.ir_core.specs.Module.{BrTable, Branch, Branches, Brif, Call, CallTarget, Const, FuncAddr, Function, Instruction, Jump, Load, Nop, Plain, Pure, PureImm, Return, ReturnCall, SequencePoint, Simple, StackLoad, StackStore, Store, Trap, Trapnz, Trapz, TryCall}
+use Rattle.ir_core.specs.Module.{BrTable, Branch, Branches, Brif, Call, CallTarget, Const, FuncAddr, Function, Instruction, Jump, Load, Nop, Plain, Pure, PureImm, Return, ReturnCall, SequencePoint, Simple, StackLoad, StackStore, Store, Trap, Trapnz, Trapz, TryCall, call_target}
 use Rattle.ir_core.specs.Lookup.{width_of}
 use Rattle.ir_semantics.specs.Names.{address_of}
 use Rattle.ir_semantics.specs.Values.{Env, Memory, Slots, address_at, all_of, by_endian, bytes_from, bytes_in, bytes_of, bytes_read, bytes_stored, i64, loaded, memory_read, memory_write, number_of, put_bytes, slot_place}
@@ -85,4 +85,4 @@ comes_to ns f e s m SequencePoint = tt
 comes_to ns f e s m (Return vs) = need_comes (Return vs) (all_of e vs) Stuck (λ xs. Give xs) (λ x. tt)
 comes_to ns f e s m (Call t args) = calls_comes e (Call t args) t args false (λ c xs. tt)
 comes_to ns f e s m (ReturnCall t args) = calls_comes e (ReturnCall t args) t args true (λ c xs. tt)
-comes_to ns f e s m (TryCall t sig args normal table) = calls_comes e (TryCall t sig args normal table) t args false (λ c xs. tt)
+comes_to ns f e s m (TryCall t sig args normal table) = calls_comes e (TryCall t sig args normal table) (call_target t sig) args false (λ c xs. tt)

@@ -10,9 +10,9 @@ use Rattle.exn_tables.specs.declared.table.Entry.{Entry}
 use Rattle.debug_tags.specs.declared.tags.Tag.{Tag}
 use Rattle.ir_core.specs.declared.instructions.Arg.TheVariants as arg
 use Rattle.debug_tags.specs.declared.tags.Tag.TheVariants as tag
-use Rattle.ir_core.specs.Module.{Block, BrTable, Branch, Branches, Brif, Call, CallTarget, Const, Direct, FuncAddr, Function, Indirect, Instruction, Jump, Line, Load, Module, Nop, Plain, Pure, PureImm, Return, ReturnCall, SequencePoint, Simple, StackLoad, StackStore, Store, Trap, Trapnz, Trapz, TryCall}
+use Rattle.ir_core.specs.Module.{Block, BrTable, Branch, Branches, Brif, Call, CallTarget, Const, Direct, FuncAddr, Function, Indirect, Instruction, Jump, Line, Load, Module, Nop, Plain, Pure, PureImm, Return, ReturnCall, SequencePoint, Simple, StackLoad, StackStore, Store, Trap, Trapnz, Trapz, TryCall, TryTarget, TryDirect, TryIndirect}
 use Rattle.ir_core.specs.Lookup.{find_block, find_function}
-use Rattle.ir_semantics.specs.Renaming.{Renaming, arg_under, block_under, branch_under, called_under, entry_under, instruction_under, line_under, simple_under, tag_under, target_under}
+use Rattle.ir_semantics.specs.Renaming.{Renaming, arg_under, block_under, branch_under, called_under, entry_under, instruction_under, line_under, simple_under, tag_under, target_under, try_target_under}
 use Rattle.ir_semantics.specs.Splice.{Splicing, Within, after_block, after_blocks, body, callee_names, caller_names, cut_block, kind_of, pair, piece, replace, sides, spliced, spliced_blocks, triangle}
 use Rattle.ir_semantics.specs.Site.{Site}
 use Rattle.inline_outcomes.proofs.Local.{Fits, some_same}
@@ -73,6 +73,10 @@ called_same : (t : CallTarget) → called_under same_numbers t ≡ t
 called_same (Direct k) = refl
 called_same (Indirect s a) = refl
 
+try_same : (t : TryTarget) → try_target_under same_numbers t ≡ t
+try_same (TryDirect k) = refl
+try_same (TryIndirect a) = refl
+
 instruction_same : (i : Instruction) → instruction_under same_numbers i ≡ i
 instruction_same (Plain p) = ap Plain (simple_same p)
 instruction_same (Branches c) = ap Branches (branch_same c)
@@ -81,7 +85,7 @@ instruction_same (Return vs) = ap Return (values_same vs)
 instruction_same (Call t args) = ap₂ Call (called_same t) (values_same args)
 instruction_same (ReturnCall t args) = ap₂ ReturnCall (called_same t) (values_same args)
 instruction_same (TryCall t sg args normal table) =
-    ap (λ z. TryCall z sg (map same_numbers.value args) (target_under same_numbers normal) (map (entry_under same_numbers) table)) (called_same t) ∙ ap (λ z. TryCall t sg z (target_under same_numbers normal) (map (entry_under same_numbers) table)) (values_same args) ∙ ap (λ z. TryCall t sg args z (map (entry_under same_numbers) table)) (target_same normal) ∙ ap (TryCall t sg args normal) (map_same (entry_under same_numbers) entry_same table)
+    ap (λ z. TryCall z sg (map same_numbers.value args) (target_under same_numbers normal) (map (entry_under same_numbers) table)) (try_same t) ∙ ap (λ z. TryCall t sg z (target_under same_numbers normal) (map (entry_under same_numbers) table)) (values_same args) ∙ ap (λ z. TryCall t sg args z (map (entry_under same_numbers) table)) (target_same normal) ∙ ap (TryCall t sg args normal) (map_same (entry_under same_numbers) entry_same table)
 
 line_same : (i : Line) → line_under same_numbers i ≡ i
 line_same i =

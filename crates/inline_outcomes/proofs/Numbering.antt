@@ -12,14 +12,14 @@ use Rattle.ir_core.specs.declared.signatures.Conv.TheVariants.{Fast}
 use Rattle.ir_core.specs.declared.instructions.Arg.{Arg}
 use Rattle.ir_core.specs.declared.instructions.Arg.TheVariants as arg
 use Rattle.ir_core.specs.declared.instructions.BlockCall.{BlockCall}
-use Rattle.ir_core.specs.Module.{Simple, Nop, Const, Pure, PureImm, Load, Store, StackLoad, StackStore, FuncAddr, Trap, Trapz, Trapnz, Branch, Jump, Brif, BrTable, CallTarget, Direct, Indirect, Instruction, Plain, Branches, SequencePoint, Return, Call, ReturnCall, TryCall, Line, Block, Function, Module}
-use Rattle.ir_core.specs.Lookup.{same_name, find_function, find_block, line_definitions, definitions, block_numbers}
+use Rattle.ir_core.specs.Module.{Simple, Nop, Const, Pure, PureImm, Load, Store, StackLoad, StackStore, FuncAddr, Trap, Trapz, Trapnz, Branch, Jump, Brif, BrTable, CallTarget, Direct, Indirect, Instruction, Plain, Branches, SequencePoint, Return, Call, ReturnCall, TryCall, Line, Block, Function, Module, call_target, TryTarget, TryDirect, TryIndirect}
+use Rattle.ir_core.specs.Lookup.{same_name, find_function, find_block, line_definitions, definitions, block_numbers, place}
 use Rattle.ir_core.specs.Lists.{In, Each, Different}
 use Rattle.ir_semantics.specs.Names.{mentioned, in_order}
 use Rattle.ir_semantics.specs.Names.{names as module_names}
-use Rattle.ir_semantics.specs.Renaming.{Renaming, arg_under, target_under, tag_under, entry_under, simple_under, branch_under, called_under, instruction_under, line_under, block_under}
+use Rattle.ir_semantics.specs.Renaming.{Renaming, arg_under, target_under, tag_under, entry_under, simple_under, branch_under, called_under, instruction_under, line_under, block_under, try_target_under}
 use Rattle.ir_semantics.specs.Splice.{Splicing, sides}
-use Rattle.ir_semantics.specs.Canon.{place, canonical_names, canonical, canonical_module}
+use Rattle.ir_semantics.specs.Canon.{canonical_names, canonical, canonical_module}
 use Rattle.ir_core.specs.Uses.{table_targets, branch_targets, targets, arg_values_used, targets_used, simple_used, branch_used, called_used, operands, values_used, blocks_used}
 use Rattle.ir_core.specs.Whole.{declared, LineWhole, BlockWhole, Whole}
 use Rattle.ir_semantics.specs.Same.{Safe, Written}
@@ -126,10 +126,10 @@ renumber_same m r h = same_runs m r no_splice (renumber_linked m r h)
 -- ---- the place of a number, and the number at a place
 
 pub place_hit : (x : ℕ) (xs : List ℕ) (v : ℕ) → v ≡ x → place (x ∷ xs) v ≡ 0
-place_hit x xs v h = ap (λ c. if c then 0 else suc (place xs v)) (eq-eqb v x h)
+place_hit x xs v h = ap (λ c. if c then 0 else suc (place xs v)) (eq-eqb x v (sym h))
 
 pub place_skip : (x : ℕ) (xs : List ℕ) (v : ℕ) → (v ≡ x → ⊥) → place (x ∷ xs) v ≡ suc (place xs v)
-place_skip x xs v h = ap (λ c. if c then 0 else suc (place xs v)) (ne_eqb v x h)
+place_skip x xs v h = ap (λ c. if c then 0 else suc (place xs v)) (ne_eqb x v (λ q. h (sym q)))
 
 pub place_injective : (xs : List ℕ) → Injective (place xs)
 place_injective [] a b h = h
@@ -255,6 +255,10 @@ module _ (r u : Renaming) (V B : ℕ → Type 0) (value : (v : ℕ) → V v → 
   called_back (Direct k) h = ap Direct (callee k)
   called_back (Indirect s a) h = ap₂ Indirect (sig s) (value a h.0)
 
+  try_back : (t : TryTarget) (s : ℕ) → Each V (called_used (call_target t s)) → try_target_under u (try_target_under r t) ≡ t
+  try_back (TryDirect k) s h = ap TryDirect (callee k)
+  try_back (TryIndirect a) s h = ap TryIndirect (value a h.0)
+
   instruction_back : (i : Instruction) → Each V (operands i) → Each V (targets_used (targets i)) → Each B (blocks_used i) → instruction_under u (instruction_under r i) ≡ i
   instruction_back (Plain p) h k b = ap Plain (simple_back p h)
   instruction_back (Branches c) h k b = ap Branches (branch_back c h k b)
@@ -263,7 +267,7 @@ module _ (r u : Renaming) (V B : ℕ → Type 0) (value : (v : ℕ) → V v → 
   instruction_back (Call t args) h k b = ap₂ Call (called_back t (each_left V (called_used t) args h)) (values_back args (each_right V (called_used t) args h))
   instruction_back (ReturnCall t args) h k b = ap₂ ReturnCall (called_back t (each_left V (called_used t) args h)) (values_back args (each_right V (called_used t) args h))
   instruction_back (TryCall t sg args normal table) h k b =
-      ap₂ (λ y z. TryCall y z (map u.value (map r.value args)) (target_under u (target_under r normal)) (map (entry_under u) (map (entry_under r) table))) (called_back t (each_left V (called_used t) args h)) (sig sg) ∙ ap (λ z. TryCall t sg z (target_under u (target_under r normal)) (map (entry_under u) (map (entry_under r) table))) (values_back args (each_right V (called_used t) args h)) ∙ ap₂ (TryCall t sg args) (target_back normal (each_left V (arg_values_used normal.args) (targets_used (table_targets table)) k) b.0) (entries_back table (each_right V (arg_values_used normal.args) (targets_used (table_targets table)) k) b.1)
+      ap₂ (λ y z. TryCall y z (map u.value (map r.value args)) (target_under u (target_under r normal)) (map (entry_under u) (map (entry_under r) table))) (try_back t sg (each_left V (called_used (call_target t sg)) args h)) (sig sg) ∙ ap (λ z. TryCall t sg z (target_under u (target_under r normal)) (map (entry_under u) (map (entry_under r) table))) (values_back args (each_right V (called_used (call_target t sg)) args h)) ∙ ap₂ (TryCall t sg args) (target_back normal (each_left V (arg_values_used normal.args) (targets_used (table_targets table)) k) b.0) (entries_back table (each_right V (arg_values_used normal.args) (targets_used (table_targets table)) k) b.1)
 
   abbrev LineIn : Line → Type 0
   LineIn l = Each V l.results × Each V (values_used l.inst) × Each B (blocks_used l.inst)

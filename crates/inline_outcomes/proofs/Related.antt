@@ -4,13 +4,13 @@ use Rattle.ir_core.specs.declared.instructions.BlockCall.{BlockCall}
 use Rattle.exn_tables.specs.declared.table.Entry.{Entry}
 use Rattle.debug_tags.specs.declared.tags.Tag.{Tag}
 use Rattle.ir_core.specs.declared.instructions.Arg.TheVariants as arg
-use Rattle.ir_core.specs.Module.{Block, Branches, Call, CallTarget, Instruction, Line, Plain, Return, ReturnCall, SequencePoint, TryCall}
+use Rattle.ir_core.specs.Module.{Block, Branches, Call, CallTarget, Instruction, Line, Plain, Return, ReturnCall, SequencePoint, TryCall, TryTarget}
 use Rattle.ir_core.specs.Lookup.{find_block}
 use Rattle.ir_semantics.specs.Machine.{Frame, Wait}
 use Rattle.ir_semantics.specs.Step.{numbers}
-use Rattle.ir_semantics.specs.Renaming.{Renaming, called_under, entry_under, line_under, tag_under, target_under}
+use Rattle.ir_semantics.specs.Renaming.{Renaming, called_under, entry_under, line_under, tag_under, target_under, try_target_under}
 use Rattle.ir_semantics.specs.Import.{sig_after}
-use Rattle.ir_semantics.specs.Splice.{Kind, Last, Naming, Splicing, Tries, Within, callee_line, callee_names, caller_names, from, jump_in, kind_of, line_with, named_sig, new_results, spliced, to_after, to_normal, try_with}
+use Rattle.ir_semantics.specs.Splice.{Kind, Last, Naming, Splicing, Tries, Within, callee_line, callee_names, caller_names, from, jump_in, kind_of, line_with, named_sig, new_results, spliced, to_after, to_normal, try_with, try_target}
 use Rattle.inline_outcomes.proofs.Local.{Injective, Maps, SlotMaps}
 use Rattle.inline_outcomes.proofs.Frames.{Local}
 
@@ -73,11 +73,11 @@ module _ (S : Splicing) where
   abbrev pub TriesHead : BlockCall → List (Entry BlockCall) → Instruction → Line → (List Line → Type 0) → List Line → Type 0
   TriesHead normal table (Return vs) i more ls' = (t : List Line) × (ls' ≡ to_normal S normal vs ∷ t)
   TriesHead normal table (Call k args) i more ls' =
-      (b : ℕ) × (k' : Block) × (t : List Line) × (ls' ≡ try_with S i (called_under (callee_names S) k) (named_sig S (called_under (callee_names S) k)) args (record { block = b; args = map arg.Ret (from 0 (length i.results)) }) (map (entry_under (caller_names S)) table) ∷ t) × (find_block b (spliced S).blocks ≡ Some k') × (k'.params ≡ map S.naming.callee_value i.results) × more k'.lines
+      (b : ℕ) × (k' : Block) × (t : List Line) × (ls' ≡ try_with S i (try_target (called_under (callee_names S) k)) (named_sig S (called_under (callee_names S) k)) args (record { block = b; args = map arg.Ret (from 0 (length i.results)) }) (map (entry_under (caller_names S)) table) ∷ t) × (find_block b (spliced S).blocks ≡ Some k') × (k'.params ≡ map S.naming.callee_value i.results) × more k'.lines
   TriesHead normal table (TryCall k sg args to u) i more ls' =
-      (t : List Line) × (ls' ≡ try_with S i (called_under (callee_names S) k) (sig_after S.caller S.callee sg) args (target_under (callee_names S) to) (map (entry_under (callee_names S)) u ++ map (entry_under (caller_names S)) table) ∷ t)
+      (t : List Line) × (ls' ≡ try_with S i (try_target_under (callee_names S) k) (sig_after S.caller S.callee sg) args (target_under (callee_names S) to) (map (entry_under (callee_names S)) u ++ map (entry_under (caller_names S)) table) ∷ t)
   TriesHead normal table (ReturnCall k args) i more ls' =
-      (t : List Line) × (ls' ≡ try_with S i (called_under (callee_names S) k) (named_sig S (called_under (callee_names S) k)) args (target_under (caller_names S) normal) (map (entry_under (caller_names S)) table) ∷ t)
+      (t : List Line) × (ls' ≡ try_with S i (try_target (called_under (callee_names S) k)) (named_sig S (called_under (callee_names S) k)) args (target_under (caller_names S) normal) (map (entry_under (caller_names S)) table) ∷ t)
   TriesHead normal table _ i more ls' = Plainly i more ls'
 
   abbrev pub Head : Kind → Line → (List Line → Type 0) → List Line → Type 0
@@ -140,7 +140,7 @@ module _ (S : Splicing) where
   abbrev pub TailRest : Kind → Line → List Line → Type 0
   TailRest Within i' rest = (c : ℕ) × (k' : CallTarget) × (args : List ℕ) × (t : List Line) × (i'.inst ≡ Call k' args) × (i'.results ≡ new_results S c) × (rest ≡ to_after S (new_results S c) ∷ t)
   TailRest Last i' rest = ⊥
-  TailRest (Tries normal table) i' rest = (k' : CallTarget) × (sg : ℕ) × (args : List ℕ) × (i'.inst ≡ TryCall k' sg args (target_under (caller_names S) normal) (map (entry_under (caller_names S)) table))
+  TailRest (Tries normal table) i' rest = (k' : TryTarget) × (sg : ℕ) × (args : List ℕ) × (i'.inst ≡ TryCall k' sg args (target_under (caller_names S) normal) (map (entry_under (caller_names S)) table))
 
   pub data Below : List ℕ → List Wait → List Wait → Type 0 where
     none : Below [] [] []

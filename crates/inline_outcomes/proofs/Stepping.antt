@@ -10,7 +10,7 @@ use Rattle.debug_tags.specs.declared.tags.Tag.{Tag}
 use Rattle.clk_num.specs.Operations.{DataValue}
 use Rattle.ir_core.specs.declared.instructions.Arg.TheVariants as arg
 use Rattle.debug_tags.specs.declared.tags.Tag.TheVariants as tag
-use Rattle.ir_core.specs.Module.{Block, Branches, Call, CallTarget, Direct, Function, Indirect, Instruction, Line, Module, Plain, Return, ReturnCall, SequencePoint, TryCall}
+use Rattle.ir_core.specs.Module.{Block, Branches, Call, CallTarget, Direct, Function, Indirect, Instruction, Line, Module, Plain, Return, ReturnCall, SequencePoint, TryCall, call_target, TryDirect, TryIndirect}
 use Rattle.ir_core.specs.Lookup.{and_then, find_block, find_function, param_types}
 use Rattle.ir_core.specs.Signatures.{same_sig}
 use Rattle.ir_semantics.specs.Names.{name_at}
@@ -20,11 +20,11 @@ use Rattle.ir_semantics.specs.Machine.{BadReply, Frame, Host, HostAct, HostTraps
 use Rattle.ir_semantics.specs.Effect.{ByAddress, ByName, Called, Do, Effect, Enter, Give, Go, ShowTags, Stop, called, calls, effect, go_to, need}
 use Rattle.ir_semantics.specs.Step.{Found, Inside, Missing, Nowhere, Outside, act, answer, at_name, begin, by_address, by_name, enter, found, frame_at, give_to, invoke, must, numbers, or_missing, reply, resume, shown, step, step_at, with_event, writes_fit, written}
 use Rattle.ir_semantics.specs.Runs.{shows}
-use Rattle.ir_semantics.specs.Renaming.{Renaming, called_under, entry_under, instruction_under, line_under, tag_under, target_under}
+use Rattle.ir_semantics.specs.Renaming.{Renaming, called_under, entry_under, instruction_under, line_under, tag_under, target_under, try_target_under}
 use Rattle.ir_semantics.specs.Import.{sig_after}
-use Rattle.ir_semantics.specs.Splice.{Kind, Last, Splicing, Tries, Within, after_block, args_of, callee_line, callee_names, caller_names, first_number, from, jump_in, kind_of, line_with, named_sig, new_results, returned_arg, spliced, tags_before, to_after, to_normal, try_with}
+use Rattle.ir_semantics.specs.Splice.{Kind, Last, Splicing, Tries, Within, after_block, args_of, callee_line, callee_names, caller_names, first_number, from, jump_in, kind_of, line_with, named_sig, new_results, returned_arg, spliced, tags_before, to_after, to_normal, try_with, try_target}
 use Rattle.ir_core.specs.Uses.{callee_of}
-use Rattle.inline_outcomes.proofs.Local.{Alike, Fits, Free, Injective, Keeps, Maps, SameCallee, SlotMaps, all_maps, bind_maps, called_maps, effect_like, found_under, keeps_all, slots_keep, some_same}
+use Rattle.inline_outcomes.proofs.Local.{Alike, Fits, Free, Injective, Keeps, Maps, SameCallee, SlotMaps, all_maps, bind_maps, called_maps, effect_like, found_under, keeps_all, slots_keep, some_same, named_target, try_target_called}
 use Rattle.inline_outcomes.proofs.Frames.{Again, Embeds, Follows, Local, bind_follow, enter_follow, must_follow}
 use Rattle.inline_outcomes.proofs.Related.{Below, Distinct, Joined, NotLast, Plainly, RestF, RestG, RestOf, Role, Stack, Tagged, TailRest, TriesHead, Waiting, Waits, WithinHead, alone, alone_top, caller, inside, inside_top, left, line_of, other, ren_of, stands}
 use Rattle.inline_outcomes.proofs.Showing.{alone_shown, head_same, inside_shown, shown_below, tail_same, waiting_tagged}
@@ -408,20 +408,26 @@ module _ (M R : Module) (S : Splicing) (linked : Linked M R S) where
       tries_step : (inst : Instruction) → i.inst ≡ inst → TriesHead S normal table inst i (RestG S (Tries normal table) x.rest) x'.rest → F (act M i x (z ∷ s) w (effect (module_names M) x.func x.env x.slots w.memory i.inst)) (step R x' s' w)
       tries_step (Return vs) q h = subst (λ y. F (act M i x (z ∷ s) w (effect (module_names M) x.func x.env x.slots w.memory y)) (step R x' s' w)) (sym q) (in_return_normal x z x' kind in' b i w normal table refl vs h.0 h.1)
       tries_step (ReturnCall j args) q (t, rest) =
-          let i' : Line = try_with S i (called_under (callee_names S) j) (named_sig S (called_under (callee_names S) j)) args (target_under (caller_names S) normal) (map (entry_under (caller_names S)) table) in
+          let i' : Line = try_with S i (try_target (called_under (callee_names S) j)) (named_sig S (called_under (callee_names S) j)) args (target_under (caller_names S) normal) (map (entry_under (caller_names S)) table) in
           let head : RestG S (Tries normal table) (i ∷ x.rest) (i' ∷ t) = subst (λ y. TriesHead S normal table y i (RestG S (Tries normal table) x.rest) (i' ∷ t)) (sym q) (t, refl) in
           let tails : IsTail i.inst = subst IsTail (sym q) tt in
-          let core = in_leave x z x' kind in' b i w i' t head tails (called_under (callee_names S) j, named_sig S (called_under (callee_names S) j), map S.naming.callee_value args, refl) (tails_before i.inst (map (tag_under (caller_names S)) S.site.tags) (map (tag_under (callee_names S)) i.tags) tails) j args in
+          let core =
+          subst (λ u. F (act M i x (z ∷ s) w (calls x.env j args true)) (act R i' (record x' { rest = t }) s' w (calls x'.env u (map S.naming.callee_value args) false))) (sym (named_target S (called_under (callee_names S) j)))
+          (in_leave x z x' kind in' b i w i' t head tails (try_target (called_under (callee_names S) j), named_sig S (called_under (callee_names S) j), map S.naming.callee_value args, refl) (tails_before i.inst (map (tag_under (caller_names S)) S.site.tags) (map (tag_under (callee_names S)) i.tags) tails) j args) in
           subst₂ (λ y ls. F (act M i x (z ∷ s) w (effect (module_names M) x.func x.env x.slots w.memory y)) (step_at R x' ls s' w)) (sym q) (sym rest) core
       tries_step (Call j args) q (b', k', t, rest, found, params, more) =
-          let i' : Line = try_with S i (called_under (callee_names S) j) (named_sig S (called_under (callee_names S) j)) args (record { block = b'; args = map arg.Ret (from 0 (length i.results)) }) (map (entry_under (caller_names S)) table) in
+          let i' : Line = try_with S i (try_target (called_under (callee_names S) j)) (named_sig S (called_under (callee_names S) j)) args (record { block = b'; args = map arg.Ret (from 0 (length i.results)) }) (map (entry_under (caller_names S)) table) in
           let head : RestG S (Tries normal table) (i ∷ x.rest) (i' ∷ t) = subst (λ y. TriesHead S normal table y i (RestG S (Tries normal table) x.rest) (i' ∷ t)) (sym q) (b', k', t, refl, found, params, more) in
-          let core = in_call x z x' kind in' b i w i' t head (subst Waiting (sym q) tt) j args in
+          let core =
+          subst (λ u. F (act M i x (z ∷ s) w (calls x.env j args false)) (act R i' (record x' { rest = t }) s' w (calls x'.env u (map S.naming.callee_value args) false))) (sym (named_target S (called_under (callee_names S) j)))
+          (in_call x z x' kind in' b i w i' t head (subst Waiting (sym q) tt) j args) in
           subst₂ (λ y ls. F (act M i x (z ∷ s) w (effect (module_names M) x.func x.env x.slots w.memory y)) (step_at R x' ls s' w)) (sym q) (sym rest) core
       tries_step (TryCall j sg args to u) q (t, rest) =
-          let i' : Line = try_with S i (called_under (callee_names S) j) (sig_after S.caller S.callee sg) args (target_under (callee_names S) to) (map (entry_under (callee_names S)) u ++ map (entry_under (caller_names S)) table) in
+          let i' : Line = try_with S i (try_target_under (callee_names S) j) (sig_after S.caller S.callee sg) args (target_under (callee_names S) to) (map (entry_under (callee_names S)) u ++ map (entry_under (caller_names S)) table) in
           let head : RestG S (Tries normal table) (i ∷ x.rest) (i' ∷ t) = subst (λ y. TriesHead S normal table y i (RestG S (Tries normal table) x.rest) (i' ∷ t)) (sym q) (t, refl) in
-          let core = in_call x z x' kind in' b i w i' t head (subst Waiting (sym q) tt) j args in
+          let core =
+          subst (λ u. F (act M i x (z ∷ s) w (calls x.env (call_target j sg) args false)) (act R i' (record x' { rest = t }) s' w (calls x'.env u (map S.naming.callee_value args) false))) (sym (try_target_called (callee_names S) j sg))
+          (in_call x z x' kind in' b i w i' t head (subst Waiting (sym q) tt) (call_target j sg) args) in
           subst₂ (λ y ls. F (act M i x (z ∷ s) w (effect (module_names M) x.func x.env x.slots w.memory y)) (step_at R x' ls s' w)) (sym q) (sym rest) core
       tries_step (Plain p0) q h = plain_tries (Plain p0) q (λ r. r) (λ r. r) h (h.0, refl, h.2)
       tries_step SequencePoint q h = plain_tries SequencePoint q (λ r. r) (λ r. r) h (h.0, refl, h.2)
@@ -529,10 +535,10 @@ module _ (M R : Module) (S : Splicing) (linked : Linked M R S) where
     -- the site is a direct call
     site_step : (i : Instruction) → S.site.inst ≡ i → F (act M S.site x s w (effect (module_names M) x.func x.env x.slots w.memory i)) (step R x' s' w)
     site_step (Call (Direct k) args) q = site_calls k args (ap callee_of q) (ap args_of q) (subst (λ y. NotLast S (kind_of y)) (sym q) tt)
-    site_step (TryCall (Direct k) sg args to u) q = site_calls k args (ap callee_of q) (ap args_of q) (subst (λ y. NotLast S (kind_of y)) (sym q) tt)
+    site_step (TryCall (TryDirect k) sg args to u) q = site_calls k args (ap callee_of q) (ap args_of q) (subst (λ y. NotLast S (kind_of y)) (sym q) tt)
     site_step (ReturnCall (Direct k) args) q = site_tails k args (ap callee_of q) (ap args_of q) (ap kind_of q)
     site_step (Call (Indirect a b) args) q = absurd (no_site (sym (ap callee_of q) ∙ linked.is_call))
-    site_step (TryCall (Indirect a b) sg args to u) q = absurd (no_site (sym (ap callee_of q) ∙ linked.is_call))
+    site_step (TryCall (TryIndirect a) sg args to u) q = absurd (no_site (sym (ap callee_of q) ∙ linked.is_call))
     site_step (ReturnCall (Indirect a b) args) q = absurd (no_site (sym (ap callee_of q) ∙ linked.is_call))
     site_step (Plain p0) q = absurd (no_site (sym (ap callee_of q) ∙ linked.is_call))
     site_step SequencePoint q = absurd (no_site (sym (ap callee_of q) ∙ linked.is_call))

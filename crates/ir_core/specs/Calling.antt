@@ -12,7 +12,7 @@ use Rattle.ir_core.specs.declared.signatures.Param.{Param}
 use Rattle.ir_core.specs.declared.signatures.Purpose.TheVariants as purpose
 use Rattle.ir_core.specs.declared.signatures.Sig.{Sig}
 use Rattle.ir_core.specs.declared.signatures.Ty.TheVariants.{I64}
-use Rattle.ir_core.specs.Module.{Jump, Direct, Instruction, Branches, Return, TryCall, Line, Block, Function}
+use Rattle.ir_core.specs.Module.{Jump, TryDirect, Instruction, Branches, Return, TryCall, Line, Block, Function}
 
 abbrev pub word : Param
 word = record { ty = I64; ext = ext.No; purpose = purpose.Normal }
@@ -38,7 +38,7 @@ jump b v = line (Branches (Jump (to b (arg.Value v))))
 
 -- `try_call fnC(vA), sig0, blockN(ret0), [ tag3: blockH(exn0) ]`
 abbrev pub tried : ℕ → ℕ → ℕ → ℕ → Line
-tried c a n h = line (TryCall (Direct c) 0 (a ∷ []) (to n (arg.Ret 0)) (record { tag = Some 3; target = to h (arg.Exn 0) } ∷ []))
+tried c a n h = line (TryCall (TryDirect c) 0 (a ∷ []) (to n (arg.Ret 0)) (record { tag = Some 3; target = to h (arg.Exn 0) } ∷ []))
 
 -- a block whose one parameter has its number
 abbrev pub block : ℕ → List Line → Block

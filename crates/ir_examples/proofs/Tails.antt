@@ -14,7 +14,7 @@ use Rattle.debug_tags.specs.declared.tags.Tag.TheVariants.{Slot, User}
 use Rattle.ir_core.specs.declared.signatures.Ty.TheVariants.{I16, I64}
 use Rattle.ir_core.specs.declared.signatures.Conv.TheVariants.{Fast, Tail}
 use Rattle.ir_core.specs.declared.instructions.Arg.TheVariants.{Value, Ret, Exn}
-use Rattle.ir_core.specs.Module.{Const, StackStore, Jump, Direct, Plain, Branches, Return, Call, ReturnCall, TryCall, Function, Module}
+use Rattle.ir_core.specs.Module.{Const, StackStore, Jump, Direct, Plain, Branches, Return, Call, ReturnCall, TryCall, Function, Module, TryDirect}
 use Rattle.ir_semantics.specs.Machine.{Host, Returns, Bytes, Going, Returned}
 use Rattle.ir_semantics.specs.Machine.{User as ShownUser}
 use Rattle.ir_semantics.specs.Runs.{outcome}
@@ -160,7 +160,7 @@ tail_try_caller =
             number = 0;
             params = 0 ∷ [];
             lines =
-                record { inst = TryCall (Direct 0) 0 (0 ∷ []) (record { block = 1; args = Ret 0 ∷ [] }) (record { tag = Some 3; target = (record { block = 2; args = Exn 0 ∷ [] }) } ∷ []); ty = None; results = []; tags = [] } ∷
+                record { inst = TryCall (TryDirect 0) 0 (0 ∷ []) (record { block = 1; args = Ret 0 ∷ [] }) (record { tag = Some 3; target = (record { block = 2; args = Exn 0 ∷ [] }) } ∷ []); ty = None; results = []; tags = [] } ∷
                 [];
           } ∷
           record {
@@ -201,7 +201,7 @@ tail_try_result =
             number = 1;
             params = 1 ∷ [];
             lines =
-                record { inst = TryCall (Direct 1) 0 (1 ∷ []) (record { block = 2; args = Ret 0 ∷ [] }) (record { tag = Some 3; target = (record { block = 3; args = Exn 0 ∷ [] }) } ∷ []); ty = None; results = []; tags = [] } ∷
+                record { inst = TryCall (TryDirect 1) 0 (1 ∷ []) (record { block = 2; args = Ret 0 ∷ [] }) (record { tag = Some 3; target = (record { block = 3; args = Exn 0 ∷ [] }) } ∷ []); ty = None; results = []; tags = [] } ∷
                 [];
           } ∷
           record {

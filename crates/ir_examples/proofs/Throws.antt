@@ -12,7 +12,7 @@ use Rattle.ir_semantics.specs.Names.{names}
 use Rattle.ir_core.specs.declared.signatures.Ty.TheVariants.{I64}
 use Rattle.ir_core.specs.declared.signatures.Conv.TheVariants.{Fast}
 use Rattle.ir_core.specs.declared.instructions.Arg.TheVariants.{Value, Ret, Exn}
-use Rattle.ir_core.specs.Module.{Jump, Direct, Branches, Return, Call, TryCall, Function, Module}
+use Rattle.ir_core.specs.Module.{Jump, Direct, Branches, Return, Call, TryCall, Function, Module, TryDirect}
 use Rattle.ir_semantics.specs.Machine.{Host, Caught, Throws, Returned, Threw}
 use Rattle.ir_semantics.specs.Runs.{outcome}
 use Rattle.ir_semantics.specs.Splice.{sides, splice_with, replace}
@@ -55,7 +55,7 @@ throw_caller =
             number = 0;
             params = 0 ∷ [];
             lines =
-                record { inst = TryCall (Direct 0) 0 (0 ∷ []) (record { block = 1; args = Ret 0 ∷ [] }) (record { tag = Some 3; target = (record { block = 2; args = Exn 0 ∷ [] }) } ∷ []); ty = None; results = []; tags = [] } ∷
+                record { inst = TryCall (TryDirect 0) 0 (0 ∷ []) (record { block = 1; args = Ret 0 ∷ [] }) (record { tag = Some 3; target = (record { block = 2; args = Exn 0 ∷ [] }) } ∷ []); ty = None; results = []; tags = [] } ∷
                 [];
           } ∷
           record {
@@ -96,7 +96,7 @@ throw_result =
             number = 1;
             params = 1 ∷ [];
             lines =
-                record { inst = TryCall (Direct 1) 0 (1 ∷ []) (record { block = 2; args = Ret 0 ∷ [] }) (record { tag = Some 3; target = (record { block = 4; args = Exn 0 ∷ [] }) } ∷ []); ty = None; results = []; tags = [] } ∷
+                record { inst = TryCall (TryDirect 1) 0 (1 ∷ []) (record { block = 2; args = Ret 0 ∷ [] }) (record { tag = Some 3; target = (record { block = 4; args = Exn 0 ∷ [] }) } ∷ []); ty = None; results = []; tags = [] } ∷
                 [];
           } ∷
           record {
@@ -164,7 +164,7 @@ tables_callee =
             number = 0;
             params = 0 ∷ [];
             lines =
-                record { inst = TryCall (Direct 0) 0 (0 ∷ []) (record { block = 1; args = Ret 0 ∷ [] }) (record { tag = Some 1; target = (record { block = 2; args = Exn 0 ∷ [] }) } ∷ []); ty = None; results = []; tags = [] } ∷
+                record { inst = TryCall (TryDirect 0) 0 (0 ∷ []) (record { block = 1; args = Ret 0 ∷ [] }) (record { tag = Some 1; target = (record { block = 2; args = Exn 0 ∷ [] }) } ∷ []); ty = None; results = []; tags = [] } ∷
                 [];
           } ∷
           record {
@@ -198,7 +198,7 @@ tables_caller =
             number = 0;
             params = 0 ∷ [];
             lines =
-                record { inst = TryCall (Direct 0) 0 (0 ∷ []) (record { block = 1; args = Ret 0 ∷ [] }) (record { tag = Some 1; target = (record { block = 2; args = Exn 0 ∷ [] }) } ∷ record { tag = Some 2; target = (record { block = 2; args = Exn 1 ∷ [] }) } ∷ record { tag = None; target = (record { block = 2; args = Exn 0 ∷ [] }) } ∷ []); ty = None; results = []; tags = [] } ∷
+                record { inst = TryCall (TryDirect 0) 0 (0 ∷ []) (record { block = 1; args = Ret 0 ∷ [] }) (record { tag = Some 1; target = (record { block = 2; args = Exn 0 ∷ [] }) } ∷ record { tag = Some 2; target = (record { block = 2; args = Exn 1 ∷ [] }) } ∷ record { tag = None; target = (record { block = 2; args = Exn 0 ∷ [] }) } ∷ []); ty = None; results = []; tags = [] } ∷
                 [];
           } ∷
           record {
@@ -239,7 +239,7 @@ tables_result =
             number = 1;
             params = 1 ∷ [];
             lines =
-                record { inst = TryCall (Direct 1) 0 (1 ∷ []) (record { block = 2; args = Ret 0 ∷ [] }) (record { tag = Some 1; target = (record { block = 3; args = Exn 0 ∷ [] }) } ∷ record { tag = Some 1; target = (record { block = 5; args = Exn 0 ∷ [] }) } ∷ record { tag = Some 2; target = (record { block = 5; args = Exn 1 ∷ [] }) } ∷ record { tag = None; target = (record { block = 5; args = Exn 0 ∷ [] }) } ∷ []); ty = None; results = []; tags = [] } ∷
+                record { inst = TryCall (TryDirect 1) 0 (1 ∷ []) (record { block = 2; args = Ret 0 ∷ [] }) (record { tag = Some 1; target = (record { block = 3; args = Exn 0 ∷ [] }) } ∷ record { tag = Some 1; target = (record { block = 5; args = Exn 0 ∷ [] }) } ∷ record { tag = Some 2; target = (record { block = 5; args = Exn 1 ∷ [] }) } ∷ record { tag = None; target = (record { block = 5; args = Exn 0 ∷ [] }) } ∷ []); ty = None; results = []; tags = [] } ∷
                 [];
           } ∷
           record {

@@ -10,7 +10,7 @@ use Rattle.ir_core.specs.declared.signatures.Ty.TheVariants.{I64}
 use Rattle.ir_core.specs.declared.signatures.Sig.{Sig}
 use Rattle.ir_core.specs.declared.places.Item.TheVariants as item
 use Rattle.ir_core.specs.declared.instructions.BlockCall.{BlockCall}
-use Rattle.ir_core.specs.Module.{CallTarget, Instruction, Plain, Branches, SequencePoint, Return, Call, ReturnCall, TryCall, Line, Block, Function, Module}
+use Rattle.ir_core.specs.Module.{CallTarget, call_target, Instruction, Plain, Branches, SequencePoint, Return, Call, ReturnCall, TryCall, Line, Block, Function, Module}
 use Rattle.ir_core.specs.Lookup.{and_then, find_block, signature_of, param_types}
 use Rattle.ir_core.specs.Lists.{In, Each}
 use Rattle.ir_core.specs.Uses.{targets, table_targets, operands, targets_used, arg_values_used, values_used}
@@ -78,7 +78,7 @@ CallResults f t rs = (sig : Sig) × (signature_of f t ≡ Some sig) × (param_ty
 -- the instruction waits for values of these types
 abbrev pub Awaits : Function → Instruction → List Ty → Type 0
 Awaits f (Call t args) rs = CallResults f t rs
-Awaits f (TryCall t sig args normal table) rs = CallResults f t rs
+Awaits f (TryCall t sig args normal table) rs = CallResults f (call_target t sig) rs
 Awaits f (Plain p) rs = ⊥
 Awaits f (Branches b) rs = ⊥
 Awaits f SequencePoint rs = ⊥
@@ -182,7 +182,7 @@ give_safe m rs y ok (Call t args) q types awaits s below w values fit =
     let fits : FitAll (types_of y.frame.func y.line.results) values = subst (λ os. FitAll os values) (ap each_some results ∙ sym r.2.1) fit in
     next_safe m y.frame ok.b ok.i ok.k y.line ok.defs ok.stands ok.from (ap terminates q) y.frame.slots s below w w values fits
 give_safe m rs y ok (TryCall t sig args normal table) q types awaits s below w values fit =
-    let r = some_and (signature_of y.frame.func t) (λ s. HaveTypes y.frame.func args (param_types s.params) × (TargetTypes y.frame.func (param_types s.results) [] normal × Each (TargetTypes y.frame.func [] (I64 ∷ I64 ∷ [])) (table_targets table))) types.2 in
+    let r = some_and (signature_of y.frame.func (call_target t sig)) (λ s. HaveTypes y.frame.func args (param_types s.params) × (TargetTypes y.frame.func (param_types s.results) [] normal × Each (TargetTypes y.frame.func [] (I64 ∷ I64 ∷ [])) (table_targets table))) types.2 in
     let same : awaits.0 ≡ r.0 = some_same (sym awaits.1 ∙ r.1) in
     let results : rs ≡ param_types r.0.results = sym awaits.2 ∙ ap (λ (z : Sig). param_types z.results) same in
     target_safe m y.frame ok.b ok.i ok.k y.line ok.defs ok.stands normal (subst (λ j. In normal (targets j)) (sym q) (inl refl)) (param_types r.0.results) [] r.2.1.0 values [] (subst (λ z. FitAll (each_some z) values) results fit) tt s below w
@@ -214,7 +214,7 @@ search_ok f (e ∷ es) ok t n = go (takes t e) (search_in es t (suc n)) (search_
 
 table_ok : (f : Function) (l : Line) (inst : Instruction) → InstructionTypes f l inst → Each (TargetTypes f [] (I64 ∷ I64 ∷ [])) (table_targets (table_of inst)) × ((t : BlockCall) → In t (table_targets (table_of inst)) → In t (targets inst))
 table_ok f l (TryCall t sig args normal table) types =
-    let r = some_and (signature_of f t) (λ s. HaveTypes f args (param_types s.params) × (TargetTypes f (param_types s.results) [] normal × Each (TargetTypes f [] (I64 ∷ I64 ∷ [])) (table_targets table))) types.2 in
+    let r = some_and (signature_of f (call_target t sig)) (λ s. HaveTypes f args (param_types s.params) × (TargetTypes f (param_types s.results) [] normal × Each (TargetTypes f [] (I64 ∷ I64 ∷ [])) (table_targets table))) types.2 in
     (r.2.1.1, (λ u p. inr p))
 table_ok f l (Plain p) types = (tt, (λ t p. elim p [ ]))
 table_ok f l (Branches b) types = (tt, (λ t p. elim p [ ]))

@@ -17,7 +17,7 @@ use Rattle.ir_core.specs.declared.places.Item.TheVariants as item
 use Rattle.ir_core.specs.declared.instructions.BlockCall.{BlockCall}
 use Rattle.ir_core.specs.declared.instructions.Access.{Access}
 use Rattle.ir_core.specs.declared.instructions.Access.TheVariants.{Full, Uload, Sload}
-use Rattle.ir_core.specs.Module.{Simple, Nop, Const, Pure, PureImm, Load, Store, StackLoad, StackStore, FuncAddr, Trap, Trapz, Trapnz, Branch, Jump, Brif, BrTable, CallTarget, Direct, Indirect, Instruction, Plain, Branches, SequencePoint, Return, Call, ReturnCall, TryCall, Line, Block, Function, Module}
+use Rattle.ir_core.specs.Module.{Simple, Nop, Const, Pure, PureImm, Load, Store, StackLoad, StackStore, FuncAddr, Trap, Trapz, Trapnz, Branch, Jump, Brif, BrTable, CallTarget, call_target, Direct, Indirect, Instruction, Plain, Branches, SequencePoint, Return, Call, ReturnCall, TryCall, Line, Block, Function, Module}
 use Rattle.ir_core.specs.Lookup.{and_then, find_function, type_of, signature_number, signature_of, param_types, width_of, ty_of}
 use Rattle.ir_core.specs.Lists.{In, Each}
 use Rattle.ir_semantics.specs.Names.{names, name_at, address_of}
@@ -151,14 +151,14 @@ module _ (m : Module) (goods : (f : Function) → In f m → Good m f) where
 
     simple_safe : (p : Simple) → terminates (Plain p) ≡ terminates l.inst → SimpleTypes x.func l p → length l.results ≡ simple_results p → SimpleSlot x.func p → Has x.env (simple_used p) → Each (λ k. k < length x.func.callees) (simple_callees p) → Fine (simple (names m) x.func x.env x.slots w.memory p)
     simple_safe Nop q types count slot has callees = go_fine (sym q) [] x.slots w.memory (no_values_fit x.func l.results count)
-    simple_safe (Const y) q types count slot has callees = go_fine (sym q) (y ∷ []) x.slots w.memory (one_fits (ty_of y.width) types.2 y (sym (width_ty y.width)))
+    simple_safe (Const y) q types count slot has callees = go_fine (sym q) (y ∷ []) x.slots w.memory (one_fits (ty_of y.width) types.3 y (sym (width_ty y.width)))
     simple_safe (Pure op args) q types count slot has callees =
         let r = all_there x.func x.env st.typed args has in
         let g = some_and (widths_of_values x.func args) (λ given. IsSomeAnd (row op given) (λ results. HaveTypes x.func l.results (map ty_of results))) types.0 in
         need_fine (all_of x.env args) Stuck (λ xs. evaluated x.slots w.memory (operation op xs)) r.values r.is (evaluated_fine (sym q) op r.values g.0 (operand_widths x.func args r.values g.0 g.1 r.fit) g.2)
     simple_safe (PureImm op a n) q types count slot has callees =
         let r = has.at a (inl refl) in
-        let t = some_and (type_of x.func a) (λ t. (l.ty ≡ Some t) × (n.width ≡ width_of t) × OpTypes x.func l op (Some (width_of t ∷ n.width ∷ []))) types.1 in
+        let t = some_and (type_of x.func a) (λ t. (l.ty ≡ Some t) × (n.width ≡ width_of t) × OpTypes x.func l op (Some (width_of t ∷ n.width ∷ []))) types.2 in
         need_fine (x.env a) Stuck (λ y. evaluated x.slots w.memory (operation op (y ∷ n ∷ []))) r.0 r.1 (evaluated_fine (sym q) op (r.0 ∷ n ∷ []) (width_of t.0 ∷ n.width ∷ []) (ap (λ z. z ∷ n.width ∷ []) (width_is a t.0 t.1 r.0 r.1)) t.2.2)
     simple_safe (Load access flags a offset) q types count slot has callees =
         let r = has.at a (inl refl) in
@@ -267,8 +267,8 @@ module _ (m : Module) (goods : (f : Function) → In f m → Good m f) where
         let ns = numbers_there l.tags tags in
         tail_fine t args r.0 (calling t args r.0 r.1 r.2.0 has) r.2.1 ns.0 ns.1
     act_safe (TryCall t sig args normal table) q types counts slot tags has callees =
-        let r = some_and (signature_of x.func t) (λ s. HaveTypes x.func args (param_types s.params) × (TargetTypes x.func (param_types s.results) [] normal × Each (TargetTypes x.func [] (I64 ∷ I64 ∷ [])) (table_targets table))) types.2 in
-        call_fine t args r.0 (calling t args r.0 r.1 r.2.0 has) (subst (λ z. Awaits x.func z (param_types r.0.results)) (sym q) (r.0, r.1, refl))
+        let r = some_and (signature_of x.func (call_target t sig)) (λ s. HaveTypes x.func args (param_types s.params) × (TargetTypes x.func (param_types s.results) [] normal × Each (TargetTypes x.func [] (I64 ∷ I64 ∷ [])) (table_targets table))) types.2 in
+        call_fine (call_target t sig) args r.0 (calling (call_target t sig) args r.0 r.1 r.2.0 has) (subst (λ z. Awaits x.func z (param_types r.0.results)) (sym q) (r.0, r.1, refl))
 
     pub line_safe : Fine (effect (names m) x.func x.env x.slots w.memory l.inst)
     line_safe =

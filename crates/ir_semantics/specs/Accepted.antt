@@ -1,6 +1,6 @@
 -- Which modules are accepted: every rule holds at every callee declaration, block and instruction of every function. The
 -- rules stand in the order in which they are tried at one place; availability comes after all others over the module.
-use Rattle.std.specs.Prelude.{◌≡◌, ◌≢◌, ◌<◌, ◌*◌, ⊤, ℕ, suc, List, [], ◌∷◌, length, map, Option, Some, None, Bool, true, false, not, ◌&&◌, ◌||◌, nat_lt, nat_le, ◌==◌, IsSomeAnd, IsSome, IsTrue, slice_get}
+use Rattle.std.specs.Prelude.{◌≡◌, ◌≢◌, ◌<◌, ◌*◌, ⊤, ℕ, suc, List, [], ◌∷◌, length, map, Option, Some, None, Bool, true, false, ◌&&◌, ◌||◌, nat_lt, nat_le, ◌==◌, IsSomeAnd, IsSome, IsTrue, slice_get}
 use Rattle.std.specs.List.{list_any}
 use Rattle.debug_tags.specs.declared.tags.Tag.{Tag}
 use Rattle.debug_tags.specs.Tags.{is_slot}
@@ -18,14 +18,13 @@ use Rattle.ir_core.specs.declared.declarations.Callee.{Callee}
 use Rattle.ir_core.specs.declared.instructions.Arg.{Arg}
 use Rattle.ir_core.specs.declared.instructions.Arg.TheVariants as arg
 use Rattle.ir_core.specs.declared.instructions.BlockCall.{BlockCall}
-use Rattle.ir_core.specs.declared.instructions.Flags.{Flags}
 use Rattle.ir_core.specs.declared.instructions.Access.{Access}
 use Rattle.ir_core.specs.declared.instructions.Access.TheVariants.{Full, Uload, Sload}
 use Rattle.ir_core.specs.declared.places.Item.{Item}
 use Rattle.ir_core.specs.declared.places.Item.TheVariants as item
-use Rattle.ir_core.specs.Module.{Simple, Nop, Const, Pure, PureImm, Load, Store, StackLoad, StackStore, FuncAddr, Trap, Trapz, Trapnz, Branch, Jump, Brif, BrTable, CallTarget, Direct, Indirect, Instruction, Plain, Branches, SequencePoint, Return, Call, ReturnCall, TryCall, Line, Block, Function, Module}
+use Rattle.ir_core.specs.Module.{Simple, Nop, Const, Pure, PureImm, Load, Store, StackLoad, StackStore, FuncAddr, Trap, Trapz, Trapnz, Branch, Jump, Brif, BrTable, CallTarget, Direct, Indirect, call_target, Instruction, Plain, Branches, SequencePoint, Return, Call, ReturnCall, TryCall, Line, Block, Function, Module}
 use Rattle.ir_core.specs.Lookup.{and_then, find_function, find_block, type_of, signature_of, param_types, width_of, ty_of}
-use Rattle.ir_core.specs.Forms.{has_immediate, access_type, flags_form}
+use Rattle.ir_core.specs.Forms.{has_immediate, ValueInRange, controlling, access_type, flags_form}
 use Rattle.ir_core.specs.Lists.{In, Each}
 use Rattle.ir_semantics.specs.Values.{all_of, bytes_in, slot_place}
 use Rattle.ir_semantics.specs.Splice.{first_number}
@@ -100,7 +99,7 @@ InstructionCounts f l (Return vs) = (length l.results ≡ 0) × (length vs ≡ l
 InstructionCounts f l (Call t args) = CallCounts f t args (λ sig. length l.results ≡ length sig.results)
 InstructionCounts f l (ReturnCall t args) = CallCounts f t args (λ sig. (length l.results ≡ 0) × (length sig.results ≡ length f.sig.results))
 InstructionCounts f l (TryCall t sig args normal table) =
-    CallCounts f t args (λ s. (length l.results ≡ 0) × Each (TargetCounts f (Some (length s.results))) (normal ∷ table_targets table))
+    CallCounts f (call_target t sig) args (λ s. (length l.results ≡ 0) × Each (TargetCounts f (Some (length s.results))) (normal ∷ table_targets table))
 
 abbrev pub Counts : Function → Line → Type 0
 Counts f l = InstructionCounts f l l.inst
@@ -127,15 +126,6 @@ arg_type f results payloads (arg.Exn i) = slice_get payloads i
 -- results and payloads: the types of those that may stand in the target
 abbrev pub TargetTypes : Function → List Ty → List Ty → BlockCall → Type 0
 TargetTypes f results payloads t = IsSomeAnd (find_block t.block f.blocks) (λ b. map (arg_type f results payloads) t.args ≡ types_of f b.params)
-
--- the operand that gives the type of a suffix that may be left out: the first, of `select` the second, and none of the
--- conversions, whose suffix is required
-abbrev pub controlling : Op → List ℕ → Option ℕ
-controlling op.Select vs = slice_get vs 1
-controlling (op.Uextend w) vs = None
-controlling (op.Sextend w) vs = None
-controlling (op.Ireduce w) vs = None
-controlling _ vs = slice_get vs 0
 
 abbrev pub type_at : Function → Option ℕ → Option Ty
 type_at f None = None
@@ -174,9 +164,10 @@ OpTypes f l o ws = IsSomeAnd ws (λ given. IsSomeAnd (row o given) (λ results. 
 
 abbrev pub SimpleTypes : Function → Line → Simple → Type 0
 SimpleTypes f l Nop = l.ty ≡ None
-SimpleTypes f l (Const x) = (l.ty ≡ None) × (x.width ≢ W128) × HaveTypes f l.results (ty_of x.width ∷ [])
+SimpleTypes f l (Const x) = (l.ty ≡ None) × (x.width ≢ W128) × ValueInRange x × HaveTypes f l.results (ty_of x.width ∷ [])
 SimpleTypes f l (Pure o args) = OpTypes f l o (widths_of_values f args) × (l.ty ≡ type_at f (controlling o args))
-SimpleTypes f l (PureImm o a imm) = IsTrue (has_immediate o) × IsSomeAnd (type_of f a) (λ t. (l.ty ≡ Some t) × (imm.width ≡ width_of t) × OpTypes f l o (Some (width_of t ∷ imm.width ∷ [])))
+SimpleTypes f l (PureImm o a imm) =
+    IsTrue (has_immediate o) × ValueInRange imm × IsSomeAnd (type_of f a) (λ t. (l.ty ≡ Some t) × (imm.width ≡ width_of t) × OpTypes f l o (Some (width_of t ∷ imm.width ∷ [])))
 SimpleTypes f l (Load access flags a offset) =
     (l.ty ≡ access_suffix access) × IsTrue (flags_form flags) × IsTrue (access_form access) × (type_of f a ≡ Some I64) × HaveTypes f l.results (access_type access ∷ [])
 SimpleTypes f l (Store narrow flags v a offset) =
@@ -208,7 +199,7 @@ InstructionTypes f l (Return vs) = (l.ty ≡ None) × HaveTypes f vs (param_type
 InstructionTypes f l (Call t args) = CallTypes f l t args (λ sig. HaveTypes f l.results (param_types sig.results))
 InstructionTypes f l (ReturnCall t args) = CallTypes f l t args (λ sig. param_types sig.results ≡ param_types f.sig.results)
 InstructionTypes f l (TryCall t sig args normal table) =
-    CallTypes f l t args (λ s. TargetTypes f (param_types s.results) [] normal × Each (TargetTypes f [] (I64 ∷ I64 ∷ [])) (table_targets table))
+    CallTypes f l (call_target t sig) args (λ s. TargetTypes f (param_types s.results) [] normal × Each (TargetTypes f [] (I64 ∷ I64 ∷ [])) (table_targets table))
 
 abbrev pub Types : Function → Line → Type 0
 Types f l = InstructionTypes f l l.inst
@@ -231,7 +222,7 @@ abbrev pub Declared : Module → Function → Callee → Type 0
 Declared m f c = (h : Function) → find_function c.name m ≡ Some h → slice_get f.sigs c.sig ≡ Some h.sig
 
 abbrev pub InstructionSignature : Function → Instruction → Type 0
-InstructionSignature f (TryCall t sig args normal table) = slice_get f.sigs sig ≡ signature_of f t
+InstructionSignature f (TryCall t sig args normal table) = slice_get f.sigs sig ≡ signature_of f (call_target t sig)
 InstructionSignature f _ = ⊤
 
 abbrev pub Signature : Function → Line → Type 0

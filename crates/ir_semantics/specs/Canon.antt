@@ -1,18 +1,13 @@
 -- Canonical numbers of a function: values in order of definition in the text, blocks by their place. Slots, signatures and
 -- callees keep theirs. Whole functions with the same canonical form are the same up to numbering.
-use Rattle.std.specs.Prelude.{◌≡◌, ℕ, suc, List, [], ◌∷◌, ◌++◌, map, nat_eq, if◌then◌else◌}
+use Rattle.std.specs.Prelude.{◌≡◌, ℕ, List, [], ◌∷◌, ◌++◌, map}
 use Rattle.ir_core.specs.declared.signatures.Ty.{Ty}
 use Rattle.ir_core.specs.Module.{Function, Module}
-use Rattle.ir_core.specs.Lookup.{type_in, definitions, block_numbers}
+use Rattle.ir_core.specs.Lookup.{type_in, definitions, block_numbers, place}
 use Rattle.ir_core.specs.Lists.{Each}
 use Rattle.ir_semantics.specs.Renaming.{Renaming, block_under}
 use Rattle.ir_semantics.specs.Splice.{with_type}
 use Rattle.ir_core.specs.Whole.{Whole}
-
--- the place of a number in a list; what is not in it comes behind
-abbrev pub place : List ℕ → ℕ → ℕ
-place [] v = v
-place (x ∷ xs) v = if nat_eq v x then 0 else suc (place xs v)
 
 abbrev pub canonical_names : Function → Renaming
 canonical_names f = record { value = place (definitions f.blocks); block = place (block_numbers f.blocks); slot = λ k. k; sig = λ s. s; callee = λ k. k }

@@ -7,7 +7,7 @@ use Rattle.ir_core.specs.declared.names.FuncName.{FuncName}
 use Rattle.ir_core.specs.declared.instructions.Arg.{Arg}
 use Rattle.ir_core.specs.declared.instructions.Arg.TheVariants as arg
 use Rattle.ir_core.specs.declared.instructions.BlockCall.{BlockCall}
-use Rattle.ir_core.specs.Module.{Simple, Nop, Const, Pure, PureImm, Load, Store, StackLoad, StackStore, FuncAddr, Trap, Trapz, Trapnz, Branch, Jump, Brif, BrTable, CallTarget, Direct, Indirect, Instruction, Plain, Branches, SequencePoint, Return, Call, ReturnCall, TryCall, Function}
+use Rattle.ir_core.specs.Module.{Simple, Nop, Const, Pure, PureImm, Load, Store, StackLoad, StackStore, FuncAddr, Trap, Trapz, Trapnz, Branch, Jump, Brif, BrTable, CallTarget, Direct, Indirect, call_target, Instruction, Plain, Branches, SequencePoint, Return, Call, ReturnCall, TryCall, Function}
 use Rattle.ir_core.specs.Lookup.{and_then, width_of}
 use Rattle.ir_semantics.specs.Names.{address_of}
 use Rattle.ir_semantics.specs.Values.{Env, Slots, Memory, all_of, i64, bytes_in, number_of, bytes_of, bytes_from, put_bytes, slot_place, memory_read, memory_write, address_at, by_endian, bytes_read, loaded, bytes_stored}
@@ -105,4 +105,4 @@ effect names f e s m SequencePoint = ShowTags
 effect names f e s m (Return vs) = need (all_of e vs) Stuck (λ xs. Give xs)
 effect names f e s m (Call t args) = calls e t args false
 effect names f e s m (ReturnCall t args) = calls e t args true
-effect names f e s m (TryCall t sig args normal table) = calls e t args false
+effect names f e s m (TryCall t sig args normal table) = calls e (call_target t sig) args false

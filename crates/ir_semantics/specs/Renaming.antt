@@ -7,7 +7,7 @@ use Rattle.ir_core.specs.declared.signatures.Ty.{Ty}
 use Rattle.ir_core.specs.declared.instructions.Arg.{Arg}
 use Rattle.ir_core.specs.declared.instructions.Arg.TheVariants as arg
 use Rattle.ir_core.specs.declared.instructions.BlockCall.{BlockCall}
-use Rattle.ir_core.specs.Module.{Simple, Nop, Const, Pure, PureImm, Load, Store, StackLoad, StackStore, FuncAddr, Trap, Trapz, Trapnz, Branch, Jump, Brif, BrTable, CallTarget, Direct, Indirect, Instruction, Plain, Branches, SequencePoint, Return, Call, ReturnCall, TryCall, Line, Block}
+use Rattle.ir_core.specs.Module.{Simple, Nop, Const, Pure, PureImm, Load, Store, StackLoad, StackStore, FuncAddr, Trap, Trapz, Trapnz, Branch, Jump, Brif, BrTable, CallTarget, Direct, Indirect, TryTarget, TryDirect, TryIndirect, Instruction, Plain, Branches, SequencePoint, Return, Call, ReturnCall, TryCall, Line, Block}
 
 -- new numbers for old ones
 pub record Renaming : Type 0 where
@@ -55,6 +55,10 @@ abbrev pub called_under : Renaming → CallTarget → CallTarget
 called_under r (Direct k) = Direct (r.callee k)
 called_under r (Indirect s a) = Indirect (r.sig s) (r.value a)
 
+abbrev pub try_target_under : Renaming → TryTarget → TryTarget
+try_target_under r (TryDirect k) = TryDirect (r.callee k)
+try_target_under r (TryIndirect a) = TryIndirect (r.value a)
+
 abbrev pub instruction_under : Renaming → Instruction → Instruction
 instruction_under r (Plain p) = Plain (simple_under r p)
 instruction_under r (Branches b) = Branches (branch_under r b)
@@ -62,7 +66,7 @@ instruction_under r SequencePoint = SequencePoint
 instruction_under r (Return vs) = Return (map r.value vs)
 instruction_under r (Call t args) = Call (called_under r t) (map r.value args)
 instruction_under r (ReturnCall t args) = ReturnCall (called_under r t) (map r.value args)
-instruction_under r (TryCall t sig args normal table) = TryCall (called_under r t) (r.sig sig) (map r.value args) (target_under r normal) (map (entry_under r) table)
+instruction_under r (TryCall t sig args normal table) = TryCall (try_target_under r t) (r.sig sig) (map r.value args) (target_under r normal) (map (entry_under r) table)
 
 abbrev pub line_under : Renaming → Line → Line
 line_under r l = record { inst = instruction_under r l.inst; ty = l.ty; results = map r.value l.results; tags = map (tag_under r) l.tags }

@@ -8,9 +8,9 @@ use Rattle.ir_core.specs.declared.signatures.Ty.{Ty}
 use Rattle.ir_core.specs.declared.instructions.Arg.{Arg}
 use Rattle.ir_core.specs.declared.instructions.Arg.TheVariants as arg
 use Rattle.ir_core.specs.declared.instructions.BlockCall.{BlockCall}
-use Rattle.ir_core.specs.Module.{Jump, CallTarget, Direct, Indirect, Instruction, Branches, SequencePoint, Return, Call, ReturnCall, TryCall, Line, Block, Function, Module}
+use Rattle.ir_core.specs.Module.{Jump, CallTarget, Direct, Indirect, TryTarget, TryDirect, TryIndirect, Instruction, Branches, SequencePoint, Return, Call, ReturnCall, TryCall, Line, Block, Function, Module}
 use Rattle.ir_core.specs.Lookup.{same_name, find_block, type_in}
-use Rattle.ir_semantics.specs.Renaming.{Renaming, target_under, tag_under, entry_under, called_under, instruction_under, line_under, block_under, typed_under}
+use Rattle.ir_semantics.specs.Renaming.{Renaming, target_under, tag_under, entry_under, called_under, try_target_under, instruction_under, line_under, block_under, typed_under}
 use Rattle.ir_semantics.specs.Import.{sigs_after, sig_after, callees_after, callee_after, slot_after}
 
 -- the numbers that a splice gives to the caller's names, the callee's and its own
@@ -59,6 +59,11 @@ tags_before (Call t args) outer inner = outer ++ inner
 tags_before (ReturnCall t args) outer inner = outer ++ inner
 tags_before (TryCall t sig args normal table) outer inner = outer ++ inner
 tags_before _ outer inner = inner
+
+-- what a call calls, where a `try_call` stands in its place
+abbrev pub try_target : CallTarget → TryTarget
+try_target (Direct k) = TryDirect k
+try_target (Indirect s a) = TryIndirect a
 
 -- n numbers from i on
 abbrev pub from : ℕ → ℕ → List ℕ
@@ -139,7 +144,7 @@ module _ (p : Splicing) where
   abbrev pub front : Line → Piece → Piece
   front i q = record { lines = i ∷ q.lines; more = q.more }
 
-  abbrev pub try_with : Line → CallTarget → ℕ → List ℕ → BlockCall → List (Entry BlockCall) → Line
+  abbrev pub try_with : Line → TryTarget → ℕ → List ℕ → BlockCall → List (Entry BlockCall) → Line
   try_with i t sig args normal table = line_with i (TryCall t sig (map p.naming.callee_value args) normal table) []
 
   -- ---- the kinds of site: i is the j-th line of the callee's block c, q what its further lines give
@@ -155,13 +160,13 @@ module _ (p : Splicing) where
   tries_piece normal table c j i (Return vs) q = front (to_normal normal vs) q
   tries_piece normal table c j i (Call t args) q =
       record {
-        lines = try_with i (called_under callee_names t) (named_sig (called_under callee_names t)) args (record { block = p.naming.new_block c j; args = map arg.Ret (from 0 (length i.results)) }) (map (entry_under caller_names) table) ∷ [];
+        lines = try_with i (try_target (called_under callee_names t)) (named_sig (called_under callee_names t)) args (record { block = p.naming.new_block c j; args = map arg.Ret (from 0 (length i.results)) }) (map (entry_under caller_names) table) ∷ [];
         more = record { number = p.naming.new_block c j; params = map p.naming.callee_value i.results; lines = q.lines } ∷ q.more;
       }
   tries_piece normal table c j i (TryCall t sig args own inner) q =
-      front (try_with i (called_under callee_names t) (sig_after p.caller p.callee sig) args (target_under callee_names own) (map (entry_under callee_names) inner ++ map (entry_under caller_names) table)) q
+      front (try_with i (try_target_under callee_names t) (sig_after p.caller p.callee sig) args (target_under callee_names own) (map (entry_under callee_names) inner ++ map (entry_under caller_names) table)) q
   tries_piece normal table c j i (ReturnCall t args) q =
-      front (try_with i (called_under callee_names t) (named_sig (called_under callee_names t)) args (target_under caller_names normal) (map (entry_under caller_names) table)) q
+      front (try_with i (try_target (called_under callee_names t)) (named_sig (called_under callee_names t)) args (target_under caller_names normal) (map (entry_under caller_names) table)) q
   tries_piece normal table c j i _ q = front (callee_line i) q
 
   abbrev pub piece_by : Kind → ℕ → ℕ → Line → Piece → Piece

@@ -1,13 +1,8 @@
 -- The canonical numbers of a function: values are numbered from 0 in order of definition in the text, parameters of a block
 -- before the results of its instructions, and blocks by their place.
-use Rattle.std.specs.Prelude.{ℕ, suc, List, [], ◌∷◌, map, nat_eq, if◌then◌else◌}
+use Rattle.std.specs.Prelude.{ℕ, List, map}
 use Rattle.ir_core.specs.Module.{Function, Module}
 use Rattle.ir_core.specs.Lookup.{definitions, block_numbers}
-
--- the place of a number in a list, from 0; what is not in the list comes after all that is
-abbrev pub place : List ℕ → ℕ → ℕ
-place [] v = 0
-place (x ∷ xs) v = if nat_eq x v then 0 else suc (place xs v)
 
 -- values and blocks in their canonical order: the canonical number of each is its place
 pub record Numbering : Type 0 where

@@ -7,7 +7,7 @@ use Rattle.clk_num.specs.Numbers.{signed}
 use Rattle.clk_num.specs.Operations.{DataValue}
 use Rattle.clk_num.specs.Width.{bits_of}
 use Rattle.clk_num.specs.declared.op.Op.{Op}
-use Rattle.clk_num.specs.declared.op.Op.TheVariants.{Icmp, Select, Uextend, Sextend, Ireduce}
+use Rattle.clk_num.specs.declared.op.Op.TheVariants.{Icmp, Uextend, Sextend, Ireduce}
 use Rattle.clk_num.specs.declared.op.TrapCode.{TrapCode}
 use Rattle.clk_num.specs.declared.op.TrapCode.TheVariants as trap
 use Rattle.exn_tables.specs.declared.table.Entry.{Entry}
@@ -30,13 +30,15 @@ use Rattle.ir_core.specs.declared.signatures.Purpose.{Purpose}
 use Rattle.ir_core.specs.declared.signatures.Purpose.TheVariants as purpose
 use Rattle.ir_core.specs.declared.signatures.Sig.{Sig}
 use Rattle.ir_core.specs.declared.signatures.Ty.{Ty}
-use Rattle.ir_core.specs.declared.signatures.Ty.TheVariants.{I8, I16, I32, I64, I128}
-use Rattle.ir_core.specs.Lookup.{type_of, line_definitions}
-use Rattle.ir_core.specs.Module.{Simple, Branch, CallTarget, Instruction, Line, Block, Function, Module}
-use Rattle.ir_core.specs.Module.{Nop, Const, Pure, PureImm, Load, Store, StackLoad, StackStore, FuncAddr, Trap, Trapz, Trapnz, Jump, Brif, BrTable, Direct, Indirect, Plain, Branches, SequencePoint, Return, Call, ReturnCall, TryCall}
-use Rattle.ir_text.specs.Numbering.{Numbering, numbering_of, place}
+use Rattle.ir_core.specs.declared.signatures.Ty.TheVariants.{I64}
+use Rattle.ir_core.specs.Lookup.{type_of, line_definitions, place, ty_of}
+use Rattle.ir_core.specs.Module.{Simple, Branch, CallTarget, TryTarget, Instruction, Line, Block, Function, Module}
+use Rattle.ir_core.specs.Module.{Nop, Const, Pure, PureImm, Load, Store, StackLoad, StackStore, FuncAddr, Trap, Trapz, Trapnz, Jump, Brif, BrTable, Direct, Indirect, TryDirect, TryIndirect, Plain, Branches, SequencePoint, Return, Call, ReturnCall, TryCall}
+use Rattle.ir_core.specs.Forms.{controlling}
+use Rattle.ir_core.specs.Signatures.{same_type}
+use Rattle.ir_text.specs.Numbering.{Numbering, numbering_of}
 use Rattle.ir_text.specs.Pieces.{Text, Nothing, Word, Numbered, Name, Number, Signed, Offset, Mark, Arrow, ◌▹◌, spelled, space, line_end, indent, comma, colon, equals, separated, in_parentheses, in_brackets}
-use Rattle.ir_text.specs.Words.{op_word, condition_word, type_word, type_of_width, convention_word}
+use Rattle.ir_text.specs.Words.{op_word, condition_word, type_word, convention_word}
 
 -- ---- names and signatures
 
@@ -199,27 +201,28 @@ module _ (n : Numbering) where
 
 -- the suffix of an opcode that says its result's type always has it
 abbrev pub op_suffix : Op → Option Ty → Text
-op_suffix (Uextend width) s = suffix (type_of_width width)
-op_suffix (Sextend width) s = suffix (type_of_width width)
-op_suffix (Ireduce width) s = suffix (type_of_width width)
+op_suffix (Uextend width) s = suffix (ty_of width)
+op_suffix (Sextend width) s = suffix (ty_of width)
+op_suffix (Ireduce width) s = suffix (ty_of width)
 op_suffix op s = suffix_if s
 
 abbrev pub condition : Op → Text
 condition (Icmp cc) = space ▹ Word (condition_word cc)
 condition op = Nothing
 
-abbrev pub is_i64 : Ty → Bool
-is_i64 I64 = true
-is_i64 t = false
+abbrev pub suffix_but_i64 : Option Ty → Text
+suffix_but_i64 None = Nothing
+suffix_but_i64 (Some I64) = Nothing
+suffix_but_i64 (Some t) = suffix t
 
--- a load that extends says its type, but for the one of 4 bytes to i64
-abbrev pub extending_suffix : Ty → ℕ → Text
-extending_suffix t bytes = if bytes == 4 && is_i64 t then Nothing else suffix t
+-- A load that extends says the type of its result. That of 4 bytes says its suffix instead, exactly where this is not i64.
+abbrev pub extending_suffix : Option Ty → Ty → ℕ → Text
+extending_suffix s t bytes = if bytes == 4 then suffix_but_i64 s else suffix t
 
-abbrev pub load_opcode : Access → Text
-load_opcode (access.Full t) = Word (codes "load") ▹ suffix t
-load_opcode (access.Uload t bytes) = Numbered (codes "uload") (8 * bytes) ▹ extending_suffix t bytes
-load_opcode (access.Sload t bytes) = Numbered (codes "sload") (8 * bytes) ▹ extending_suffix t bytes
+abbrev pub load_opcode : Option Ty → Access → Text
+load_opcode s (access.Full t) = Word (codes "load") ▹ suffix t
+load_opcode s (access.Uload t bytes) = Numbered (codes "uload") (8 * bytes) ▹ extending_suffix s t bytes
+load_opcode s (access.Sload t bytes) = Numbered (codes "sload") (8 * bytes) ▹ extending_suffix s t bytes
 
 abbrev pub store_opcode : Option ℕ → Text
 store_opcode None = Word (codes "store")
@@ -230,15 +233,19 @@ abbrev pub call_opcode : CallTarget → List ℕ → Text
 call_opcode (Direct callee) word = Word word
 call_opcode (Indirect sig p) word = Word (word ++ codes "_indirect")
 
+abbrev pub try_opcode : TryTarget → Text
+try_opcode (TryDirect callee) = Word (codes "try_call")
+try_opcode (TryIndirect p) = Word (codes "try_call_indirect")
+
 -- ---- instructions, each by its form; s is the suffix that is printed where a form may leave it out
 
 module _ (n : Numbering) where
   abbrev pub simple : Option Ty → Simple → Text
   simple s Nop = Word (codes "nop")
-  simple s (Const d) = Word (codes "iconst") ▹ suffix (type_of_width d.width) ▹ space ▹ constant d
+  simple s (Const d) = Word (codes "iconst") ▹ suffix (ty_of d.width) ▹ space ▹ constant d
   simple s (Pure op args) = Word (op_word op) ▹ op_suffix op s ▹ condition op ▹ operands n args
   simple s (PureImm op x d) = Word (op_word op ++ codes "_imm") ▹ suffix_if s ▹ condition op ▹ space ▹ value n x ▹ comma ▹ constant d
-  simple s (Load from f p offset) = load_opcode from ▹ space ▹ flags f ▹ address n p offset
+  simple s (Load from f p offset) = load_opcode s from ▹ space ▹ flags f ▹ address n p offset
   simple s (Store narrow f x p offset) = store_opcode narrow ▹ suffix_if s ▹ space ▹ flags f ▹ value n x ▹ comma ▹ address n p offset
   simple s (StackLoad t slot offset) = Word (codes "stack_load") ▹ suffix t ▹ space ▹ slot_address slot offset
   simple s (StackStore x slot offset) = Word (codes "stack_store") ▹ suffix_if s ▹ space ▹ value n x ▹ comma ▹ slot_address slot offset
@@ -258,9 +265,9 @@ module _ (n : Numbering) where
   called (Indirect sig p) args = signature_reference sig ▹ comma ▹ value n p ▹ call_arguments n args
 
   -- `fn0(v0, v1)`, or `v0(v1)`, whose signature stands behind it
-  abbrev pub tried : CallTarget → List ℕ → Text
-  tried (Direct callee) args = callee_reference callee ▹ call_arguments n args
-  tried (Indirect sig p) args = value n p ▹ call_arguments n args
+  abbrev pub tried : TryTarget → List ℕ → Text
+  tried (TryDirect callee) args = callee_reference callee ▹ call_arguments n args
+  tried (TryIndirect p) args = value n p ▹ call_arguments n args
 
   abbrev pub instruction : Option Ty → Instruction → Text
   instruction s (Plain i) = simple s i
@@ -270,23 +277,11 @@ module _ (n : Numbering) where
   instruction s (Call to args) = call_opcode to (codes "call") ▹ space ▹ called to args
   instruction s (ReturnCall to args) = call_opcode to (codes "return_call") ▹ space ▹ called to args
   instruction s (TryCall to sig args normal table) =
-      call_opcode to (codes "try_call") ▹ space ▹ tried to args ▹ comma ▹ signature_reference sig ▹ comma ▹ target n normal ▹ comma ▹ exception_table n table
+      try_opcode to ▹ space ▹ tried to args ▹ comma ▹ signature_reference sig ▹ comma ▹ target n normal ▹ comma ▹ exception_table n table
 
 -- the operand that gives the type of an instruction whose form may leave the suffix out
-abbrev pub first_value : List ℕ → Option ℕ
-first_value [] = None
-first_value (v ∷ vs) = Some v
-
-abbrev pub second_value : List ℕ → Option ℕ
-second_value [] = None
-second_value (v ∷ vs) = first_value vs
-
-abbrev pub op_operand : Op → List ℕ → Option ℕ
-op_operand Select args = second_value args
-op_operand op args = first_value args
-
 abbrev pub simple_operand : Simple → Option ℕ
-simple_operand (Pure op args) = op_operand op args
+simple_operand (Pure op args) = controlling op args
 simple_operand (PureImm op x d) = Some x
 simple_operand (Store narrow f x p offset) = Some x
 simple_operand (StackStore x slot offset) = Some x
@@ -298,14 +293,6 @@ abbrev pub typing_operand : Instruction → Option ℕ
 typing_operand (Plain i) = simple_operand i
 typing_operand (Branches (Brif x taken other)) = Some x
 typing_operand i = None
-
-abbrev pub same_type : Ty → Ty → Bool
-same_type I8 I8 = true
-same_type I16 I16 = true
-same_type I32 I32 = true
-same_type I64 I64 = true
-same_type I128 I128 = true
-same_type a b = false
 
 abbrev pub has_type : Function → ℕ → Ty → Bool
 has_type f v t = option_map_or (λ own. same_type own t) (type_of f v) false

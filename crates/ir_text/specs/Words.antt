@@ -4,8 +4,6 @@ use Rattle.clk_num.specs.declared.op.Cc.{Cc}
 use Rattle.clk_num.specs.declared.op.Cc.TheVariants.{Eq, Ne, Slt, Sge, Sgt, Sle, Ult, Uge, Ugt, Ule}
 use Rattle.clk_num.specs.declared.op.Op.{Op}
 use Rattle.clk_num.specs.declared.op.Op.TheVariants.{Iadd, Isub, Imul, Band, Bor, Bxor, Smin, Smax, Umin, Umax, Umulhi, Smulhi, Udiv, Urem, Sdiv, Srem, Ineg, Bnot, Iabs, Clz, Ctz, Popcnt, Bitrev, Bswap, Ishl, Ushr, Sshr, Rotl, Rotr, Icmp, Select, Uextend, Sextend, Ireduce, UaddOverflow, SaddOverflow, UsubOverflow, SsubOverflow, Iconcat, Isplit}
-use Rattle.clk_num.specs.declared.width.Width.{Width}
-use Rattle.clk_num.specs.declared.width.Width.TheVariants.{W8, W16, W32, W64, W128}
 use Rattle.ir_core.specs.declared.signatures.Conv.{Conv}
 use Rattle.ir_core.specs.declared.signatures.Conv.TheVariants as conv
 use Rattle.ir_core.specs.declared.signatures.Ty.{Ty}
@@ -72,14 +70,6 @@ type_word I16 = codes "i16"
 type_word I32 = codes "i32"
 type_word I64 = codes "i64"
 type_word I128 = codes "i128"
-
--- the type of a width
-abbrev pub type_of_width : Width → Ty
-type_of_width W8 = I8
-type_of_width W16 = I16
-type_of_width W32 = I32
-type_of_width W64 = I64
-type_of_width W128 = I128
 
 abbrev pub convention_word : Conv → List ℕ
 convention_word conv.Fast = codes "fast"

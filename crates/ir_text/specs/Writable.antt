@@ -1,6 +1,6 @@
 -- Which modules have a text that reads as the module again: names spelled by the rules of tokens, numbers and sizes within
--- the limits, each instruction of a form of the CLIF reference with results of the types that the form gives, and
--- immediates of type i128 that a literal can give.
+-- the limits, each instruction of a form of the CLIF reference with results of the types that the form gives, and numbers of
+-- constants and immediates that are of their types and that a literal can give.
 use Rattle.std.specs.Prelude.{◌≡◌, ◌≢◌, ◌<◌, ◌≤◌, ◌^◌, ⊤, ℕ, List, [], ◌∷◌, length, Option, Some, None, Bool, true, false, ◌&&◌, ◌||◌, nat_le, ◌==◌, IsTrue, IsSome, IsSomeAnd, ℤ, pos, neg_ℤ, ◌≤ℤ◌, ◌<ℤ◌}
 use Rattle.exn_tables.specs.declared.table.Entry.{Entry}
 use Rattle.debug_tags.specs.declared.tags.Tag.{Tag}
@@ -29,7 +29,7 @@ use Rattle.ir_core.specs.Module.{Simple, Nop, Const, Pure, PureImm, Load, Store,
 use Rattle.ir_core.specs.Lookup.{type_of, signature_of, param_types, width_of, ty_of}
 use Rattle.ir_core.specs.Lists.{Each}
 use Rattle.ir_core.specs.Uses.{branch_targets}
-use Rattle.ir_core.specs.Forms.{has_immediate, access_type, flags_form}
+use Rattle.ir_core.specs.Forms.{has_immediate, ValueInRange, access_type, flags_form}
 use Rattle.ir_core.specs.Size.{size_of}
 
 -- ---- names: `%` and one or more letters, digits and `_`, or `u` and two numbers
@@ -115,10 +115,10 @@ WhereWidest W128 P = P
 WhereWidest _ P = ⊤
 
 abbrev pub ImmediateWritable : Op → DataValue → Type 0
-ImmediateWritable o x = WhereWidest x.width (ImmediateWithin (by_zeros o) x.value)
+ImmediateWritable o x = ValueInRange x × WhereWidest x.width (ImmediateWithin (by_zeros o) x.value)
 
 abbrev pub ConstantWritable : DataValue → Type 0
-ConstantWritable x = WhereWidest x.width (SignedWithin 64 x.value)
+ConstantWritable x = ValueInRange x × WhereWidest x.width (SignedWithin 64 x.value)
 
 -- ---- forms: `ty` is the type of a suffix that may be left out, and none where the form has no such suffix
 

@@ -1,7 +1,6 @@
-use Rattle.std.proofs.Common.{◌≡◌, ℕ, ◌+◌, ◌<◌, List, length, take, get_or, ap, sym, ◌∙◌, arith}
+use Rattle.std.proofs.Common.{◌≡◌, ℕ, ◌+◌, ◌<◌, List, length, take, get_or, ap, ap₂, sym, ◌∙◌, arith}
 use Rattle.std.proofs.lemmas.List.{take_all, length-set}
-use Rattle.ir_text.specs.Numbering.{place}
-use Rattle.clif_print.proofs.PlacesLemmas.{below_at, turn, place_from, place_is}
+use Rattle.clif_print.proofs.PlacesLemmas.{below_at, turn, place_from, placed}
 use Rattle.clif_print.proofs.Ranges.{few}
 use Rattle.clif_print.proofs.places.Places.new.Goals as goal
 
@@ -29,7 +28,5 @@ invariant_of-result c =
     let all : take c.loop-i.i c.deref-number-items.result.now ≡ order = take_all c.loop-i.i c.deref-number-items.result.now (omega (arith, c.loop-i-test.false)) ∙ c.deref-number-items.ensures.value in
     record {
       small = omega (arith, few c.args.bound order c.requires.different c.requires.range, c.requires.small);
-      placed = λ n.
-          ap (λ (k : ℕ). get_or c.loop-i.places.items n k) (sym count) ∙ c.loop-i.invariant.found n ∙ ap (λ (l : List ℕ). place_from 0 c.len-count.result l n) all
-          ∙ place_is 0 c.len-count.result order n (omega (arith, count)) ∙ (let k : 0 + place order n ≡ place order n = omega arith in k);
+      placed = λ n. placed order c.loop-i.places.items n (ap (λ (k : ℕ). get_or c.loop-i.places.items n k) (sym count) ∙ c.loop-i.invariant.found n ∙ ap₂ (λ (k : ℕ) (l : List ℕ). place_from 0 k l n) count all);
     }

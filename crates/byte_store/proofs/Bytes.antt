@@ -95,6 +95,11 @@ endian_at true bs i h =
     get_or-reverse bs (length bs - i - 1) 0 lt ∙ ap (λ k. get_or bs k 0) e
 endian_at false bs i h = let e : length bs - i - 1 ≡ length bs - 1 - i = omega arith in ap (λ k. get_or bs k 0) e
 
+pub number_small : (big : Bool) (bs : List ℕ) (n : ℕ) → ((k : ℕ) → Fits w8 (get_or bs k 0)) → n ≡ number_of (by_endian big bs) → n < 2 ^ (8 * length bs)
+number_small big bs n s e =
+    let below : number_of (by_endian big bs) < 2 ^ (8 * length (by_endian big bs)) = number_below (by_endian big bs) (endian_fits big bs s) in
+    rw e (subst (λ k. number_of (by_endian big bs) < 2 ^ (8 * k)) (endian_length big bs) below)
+
 -- the number of the bytes but the i highest ones, and of one more
 pub higher_fits : (big : Bool) (bs : List ℕ) (i : ℕ) → ((k : ℕ) → Fits w8 (get_or bs k 0)) → length bs ≤ 16 → number_of (drop (length bs - i) (by_endian big bs)) < 2 ^ 128
 higher_fits big bs i s h = number_fits (by_endian big bs) (endian_fits big bs s) (let le : length (by_endian big bs) ≤ 16 = rw (endian_length big bs) h in le) (length bs - i)

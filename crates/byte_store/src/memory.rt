@@ -1,5 +1,5 @@
 //! A module's memory.
-ghost use Rattle.std.specs.Prelude.{◌≡◌, ◌+◌, ◌-◌, ◌≤◌, ◌↔◌, ◌<◌, Some, None, if◌then◌else◌, length, OnOk, OnErr, MatchResult, IsTrue};
+ghost use Rattle.std.specs.Prelude.{◌≡◌, ◌+◌, ◌-◌, ◌*◌, ◌^◌, ◌≤◌, ◌↔◌, ◌<◌, Some, None, if◌then◌else◌, length, IfOk, OnOk, OnErr, MatchResult, IsTrue};
 ghost use Rattle.ir_semantics.specs.Values.{number_of, bytes_of, by_endian, memory_read, memory_write};
 ghost use Rattle.byte_store.specs.Bytes.{number_by};
 
@@ -39,7 +39,8 @@ impl Memory {
     /// where the range passes the end.
     pub fn read(&self, address: u64, bytes: u32, big: bool) -> Result<u128, OutOfRange>
         requires { bytes ≤ 16 }
-        ensures { let read = memory_read self.now address bytes in MatchResult result (λ n. Some n ≡ number_by big read) (λ _. None ≡ read) }
+        ensures read { let read = memory_read self.now address bytes in MatchResult result (λ n. Some n ≡ number_by big read) (λ _. None ≡ read) }
+        ensures small { IfOk result (λ n. n < 2 ^ (8 * bytes)) }
     {
         let size = bytes as usize;
         if !is_inside(self.bytes.len(), address, size) {
@@ -82,7 +83,8 @@ fn is_inside(len: usize, address: u64, size: usize) -> bool
 /// The number of at most 16 bytes.
 fn number(bytes: &[u8], big: bool) -> u128
     requires { length bytes.now ≤ 16 }
-    ensures { result ≡ number_of (by_endian big bytes.now) }
+    ensures is { result ≡ number_of (by_endian big bytes.now) }
+    ensures small { result < 2 ^ (8 * length bytes.now) }
 {
     let mut number = 0u128;
     let len = bytes.len();

@@ -1,5 +1,5 @@
 //! The bytes of a frame's slots.
-ghost use Rattle.std.specs.Prelude.{◌≡◌, ◌≤◌, OnOk, OnErr, IfOk, MatchResult};
+ghost use Rattle.std.specs.Prelude.{◌≡◌, ◌*◌, ◌^◌, ◌<◌, ◌≤◌, OnOk, OnErr, IfOk, MatchResult};
 ghost use Rattle.ir_semantics.specs.Values.{unwritten, bytes_from, put_byte, put_bytes, bytes_of};
 ghost use Rattle.byte_store.specs.Cells.{bytes_at};
 ghost use Rattle.byte_store.specs.Bytes.{number_at};
@@ -52,7 +52,8 @@ impl Slots {
     /// unwritten.
     pub fn read(&self, slot: u32, offset: u32, bytes: u32) -> Result<u128, Unwritten>
         requires { bytes ≤ 16 }
-        ensures { let read = bytes_from (bytes_at self.now slot) offset bytes in MatchResult result (λ n. Some n ≡ number_at read) (λ _. None ≡ read) }
+        ensures read { let read = bytes_from (bytes_at self.now slot) offset bytes in MatchResult result (λ n. Some n ≡ number_at read) (λ _. None ≡ read) }
+        ensures small { IfOk result (λ n. n < 2 ^ (8 * bytes)) }
     {
         let mut number = 0u128;
         'bytes: for i in 0..bytes {

@@ -24,6 +24,8 @@ use Rattle.interp.specs.declared.state.Entry.{Entry}
 use Rattle.interp.specs.declared.state.Links.{Links}
 use Rattle.interp.specs.declared.state.Program.{Program}
 use Rattle.interp.specs.declared.state.World.{World}
+use Rattle.interp.specs.declared.state.Search.{Search}
+use Rattle.interp.specs.declared.state.Search.TheVariants.{Missed, Hit}
 use Rattle.interp.specs.declared.state.Stop.{Stop}
 use Rattle.interp.specs.declared.state.Stop.TheVariants.{At, Stuck}
 
@@ -88,3 +90,16 @@ done m top below w l effect = step.act m (line_of l) (frame_of m top) (waits_of 
 -- the effect of a simple instruction in a frame
 abbrev pub simply : Module → Frame → run.World → Simple → does.Effect
 simply m top w p = does.simple (names m) (function_at m top.at) (env_of top.values) (bytes_at top.slots) w.memory p
+
+abbrev pub frame_if : Module → Option Frame → Option run.Frame
+frame_if m None = None
+frame_if m (Some x) = Some (frame_of m x)
+
+abbrev pub search_of : Search → step.Search
+search_of (Missed n) = step.Missed n
+search_of (Hit n target) = step.Hit n target.now
+
+-- how many entries were passed
+abbrev pub passed : Search → ℕ
+passed (Missed n) = n
+passed (Hit n target) = n

@@ -5,9 +5,12 @@
 
 mod blocks;
 mod branches;
+mod calls;
 mod moves;
 mod outcome;
+mod shows;
 mod simple;
 mod state;
+mod throws;
 
 pub use outcome::{End, Event, Outcome, Shown};

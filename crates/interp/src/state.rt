@@ -3,7 +3,7 @@ use crate::outcome::{End, Event};
 use byte_store::{Cells, Memory, Slots};
 use clk_num::Bits;
 use host_script::Reply;
-use ir_core::{InstData, Module, Value};
+use ir_core::{BlockCall, InstData, Module, Value};
 
 /// A module, and what is found in it once before a run.
 #[derive(Drop)]
@@ -60,4 +60,12 @@ pub enum Stop {
 pub struct Entry<'m> {
     pub params: &'m [Value],
     pub lines: &'m [InstData],
+}
+
+/// What the search in the tables of a throw has found: the number of entries that were passed, with the target of the one
+/// that takes the exception.
+#[derive(Drop)]
+pub enum Search<'m> {
+    Missed(u128),
+    Hit(u128, &'m BlockCall),
 }

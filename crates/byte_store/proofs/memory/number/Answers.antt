@@ -1,6 +1,6 @@
 use Rattle.std.proofs.Common.{◌≡◌, ◌<◌, ◌*◌, ◌+◌, ◌^◌, ◌-◌, arith, sym, ◌∙◌, ap, rules, length, drop, get_or}
 use Rattle.ir_semantics.specs.Values.{number_of, by_endian}
-use Rattle.byte_store.proofs.Bytes.{higher_none, higher_next, higher_fits, higher_all}
+use Rattle.byte_store.proofs.Bytes.{higher_none, higher_next, higher_fits, higher_all, number_small}
 use Rattle.byte_store.proofs.memory.number.Goals as goal
 
 pub bytes-init : goal.bytes-init
@@ -14,3 +14,6 @@ overflow_add-number c = omega (arith, higher_fits c.args.big c.args.bytes.now (c
 
 pub bytes-preserved : goal.bytes-preserved
 bytes-preserved c = omega (arith, higher_next c.args.big c.args.bytes.now c.bytes.i c.bytes-test.true, c.bytes.invariant, c.from.ensures, ap (λ k. get_or c.args.bytes.now k 0) c.place_of.ensures.at)
+
+pub returns-clause-small : goal.returns-clause-small
+returns-clause-small c = number_small c.args.big c.args.bytes.now c.bytes.number c.type_inv.bytes (c.bytes.invariant ∙ higher_all c.args.big c.args.bytes.now c.bytes.i (search rules))

@@ -9,8 +9,8 @@ use Rattle.byte_store.proofs.slots.Slots.read.Goals as goal
 pub bytes-init : goal.bytes-init
 bytes-init c = record { below = lit< tt; is = from_start (bytes_at c.args.self.now c.args.slot) (c.args.offset + (c.args.bytes - 0)) }
 
-pub returns-in-None : goal.returns-in-None
-returns-in-None c = from_lacks (bytes_at c.args.self.now c.args.slot) c.args.offset c.args.bytes (c.args.bytes - 1 - c.bytes.i) (omega arith) c.in-None.ensures
+pub returns-in-None-clause-read : goal.returns-in-None-clause-read
+returns-in-None-clause-read c = from_lacks (bytes_at c.args.self.now c.args.slot) c.args.offset c.args.bytes (c.args.bytes - 1 - c.bytes.i) (omega arith) c.in-None.ensures
 
 pub overflow_mul-number : goal.overflow_mul-number
 overflow_mul-number c =

@@ -1,5 +1,8 @@
 -- The state of a run, as the definition's moment.
-use Rattle.std.specs.Prelude.{◌≡◌, ◌<◌, ℕ, zero, suc, List, [], ◌∷◌, map, reverse, length, Option, Some, None, Bool, true, false, if◌then◌else◌, slice_get}
+use Rattle.std.specs.Prelude.{◌≡◌, ◌<◌, ℕ, zero, suc, List, [], ◌∷◌, map, reverse, length, Option, Some, None, Bool, true, false, if◌then◌else◌, slice_get, Vec}
+use Rattle.std.specs.declared.alloc.Global.{Global}
+use Rattle.ir_core.specs.declared.declarations.Callee.{Callee}
+use Rattle.ir_core.specs.Lookup.{find_function}
 use Rattle.std.specs.Option.{option_map}
 use Rattle.std.proofs.Common.{get_or}
 use Rattle.clk_num.specs.declared.bits.Bits.{Bits}
@@ -17,7 +20,10 @@ use Rattle.ir_semantics.specs.Effect as does
 use Rattle.ir_semantics.specs.Step as step
 use Rattle.byte_store.specs.Cells.{cell_of, bytes_at}
 use Rattle.host_script.specs.Script.{reply_of}
-use Rattle.interp.specs.Outcome.{event_of, end_of}
+use Rattle.interp.specs.Outcome.{shown_of, event_of, end_of}
+use Rattle.interp.specs.declared.outcome.Shown.{Shown}
+use Rattle.interp.specs.declared.state.Target.{Target}
+use Rattle.interp.specs.declared.state.Target.TheVariants.{Inside, Outside, Nowhere, Missing}
 use Rattle.interp.specs.declared.state.Frame.{Frame}
 use Rattle.interp.specs.declared.state.Wait.{Wait}
 use Rattle.interp.specs.declared.state.Entry.{Entry}
@@ -77,10 +83,16 @@ abbrev pub entry_of : ℕ → Option Entry → Option Block
 entry_of n None = None
 entry_of n (Some entry) = Some (record { number = n; params = entry.params.now; lines = map line_of entry.lines.now })
 
+abbrev pub found_at : Module → Option ℕ → Option Function
+found_at m None = None
+found_at m (Some at) = Some (function_at m at)
+
 -- what was found of a module's functions
 pub record Linked (p : Program) : Type 0 where
   pub lengths : length p.links.items ≡ length p.module.now
   pub sound : (i : ℕ) → i < length p.module.now → IsSound (function_at p.module.now i)
+  pub callees : (i : ℕ) (l : Links) → i < length p.module.now → length (get_or p.links.items i l).callees.items ≡ length (function_at p.module.now i).callees
+  pub found : (i k : ℕ) (l : Links) (d : Option ℕ) (c : Callee) → i < length p.module.now → k < length (function_at p.module.now i).callees → find_function (get_or (function_at p.module.now i).callees k c).name p.module.now ≡ found_at p.module.now (get_or (get_or p.links.items i l).callees.items k d)
   pub blocks : (i : ℕ) (l : Links) → i < length p.module.now → (get_or p.links.items i l).blocks ≡ length (function_at p.module.now i).blocks
 
 -- what is done at a line that the frame on top is past, where it has this effect
@@ -103,3 +115,13 @@ search_of (Hit n target) = step.Hit n target.now
 abbrev pub passed : Search → ℕ
 passed (Missed n) = n
 passed (Hit n target) = n
+
+abbrev pub shows_if : Option (Vec Shown Global) → Option (List run.Shown)
+shows_if None = None
+shows_if (Some out) = Some (map shown_of out.items)
+
+abbrev pub target_of : Module → Target → step.Found
+target_of m (Inside at) = step.Inside (function_at m at)
+target_of m (Outside callee sig) = step.Outside callee.now sig.now
+target_of m Nowhere = step.Nowhere
+target_of m Missing = step.Missing

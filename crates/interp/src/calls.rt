@@ -5,19 +5,20 @@ ghost use Rattle.ir_core.specs.Edits.{first_number};
 ghost use Rattle.ir_core.specs.Viewed.{line_of, instruction_of};
 ghost use Rattle.ir_semantics.specs.Values.{join};
 ghost use Rattle.ir_semantics.specs.Machine.{World as RunWorld, On, Stuck};
+ghost use Rattle.ir_semantics.specs.Effect.{ByName};
 ghost use Rattle.ir_semantics.specs.Step as step;
 ghost use Rattle.interp.specs.declared.state.Wait.{Wait as DeclaredWait};
-ghost use Rattle.interp.specs.State.{function_at, frame_of, frame_if, waits_of, moment, some_if, Linked};
+ghost use Rattle.interp.specs.State.{function_at, frame_of, frame_if, waits_of, moment, some_if, target_of, Linked};
 
 use crate::blocks::enter_target;
 use crate::moves::bind;
 use crate::outcome::End;
 use crate::simple::give_results;
-use crate::state::{Frame, Program, Stop, Wait};
+use crate::state::{Frame, Program, Stop, Target, Wait};
 use byte_store::{Cells, Slots};
 use clk_num::Bits;
 use debug_tags::Tag;
-use ir_core::{Block, BlockCall, Func, Inst, InstData, List};
+use ir_core::{Block, BlockCall, Func, FuncRef, Inst, InstData, List};
 use std::alloc::{AllocError, Global};
 use std::mem;
 
@@ -184,4 +185,31 @@ pub fn join_numbers(extra: &[u32], tags: &[Tag], out: &mut Vec<u32>) -> Result<b
         }
     }
     Ok(true)
+}
+
+/// What a call of a callee declaration finds, in the function at a place.
+pub fn find_callee<'m>(program: &Program<'m>, at: usize, callee: FuncRef) -> Target<'m>
+    requires linked { Linked program.now }
+    ensures { target_of program.now.module.now result ≡ step.found program.now.module.now (function_at program.now.module.now at) (ByName callee) }
+{
+    let module = program.module;
+    if at >= module.len() {
+        return Target::Missing;
+    }
+    let func = module.func(at);
+    let callees = func.callees();
+    let number = callee.number() as usize;
+    if number >= callees.len() {
+        return Target::Missing;
+    }
+    let callee = &callees[number];
+    let sigs = func.sigs();
+    let sig = callee.sig.number() as usize;
+    if sig >= sigs.len() {
+        return Target::Missing;
+    }
+    match program.links[at].callees[number] {
+        Some(place) => Target::Inside(place),
+        None => Target::Outside(&callee.name, &sigs[sig]),
+    }
 }

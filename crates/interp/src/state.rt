@@ -3,7 +3,7 @@ use crate::outcome::{End, Event};
 use byte_store::{Cells, Memory, Slots};
 use clk_num::Bits;
 use host_script::Reply;
-use ir_core::{BlockCall, InstData, Module, Value};
+use ir_core::{BlockCall, FuncName, InstData, Module, Sig, Value};
 
 /// A module, and what is found in it once before a run.
 #[derive(Drop)]
@@ -68,4 +68,14 @@ pub struct Entry<'m> {
 pub enum Search<'m> {
     Missed(u128),
     Hit(u128, &'m BlockCall),
+}
+
+/// What a call finds: the function at a place of the module, a host function with the signature by which it is called, no
+/// function at the address, or nothing.
+#[derive(Drop)]
+pub enum Target<'m> {
+    Inside(usize),
+    Outside(&'m FuncName, &'m Sig),
+    Nowhere,
+    Missing,
 }

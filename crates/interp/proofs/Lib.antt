@@ -1,3 +1,5 @@
 pub mod Acts
 pub mod Entering
+pub mod Finding
+pub mod Hosting
 pub mod Reading

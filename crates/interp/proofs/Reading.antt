@@ -11,15 +11,15 @@ use Rattle.ir_semantics.specs.Values.{Env, cons_some, all_of, join, put, bind}
 use Rattle.byte_store.specs.Cells.{cell_of, put_cell}
 use Rattle.interp.specs.State.{env_of}
 
-next_some : {B : Type 0} (out : List B) (x : B) (o : Option (List B)) → join (Some out) (cons_some (Some x) o) ≡ join (Some (out ++ x ∷ [])) o
+pub next_some : {B : Type 0} (out : List B) (x : B) (o : Option (List B)) → join (Some out) (cons_some (Some x) o) ≡ join (Some (out ++ x ∷ [])) o
 next_some out x None = refl
 next_some out x (Some ys) = ap Some (sym (append_assoc out (x ∷ []) ys))
 
-next_none : {B : Type 0} (out : List B) (o : Option (List B)) → join (Some out) (cons_some None o) ≡ None
+pub next_none : {B : Type 0} (out : List B) (o : Option (List B)) → join (Some out) (cons_some None o) ≡ None
 next_none out None = refl
 next_none out (Some ys) = refl
 
-more : (out : List Bits) (x : Bits) → data_of_all (out ++ x ∷ []) ≡ data_of_all out ++ data_of x ∷ []
+pub more : (out : List Bits) (x : Bits) → data_of_all (out ++ x ∷ []) ≡ data_of_all out ++ data_of x ∷ []
 more [] x = refl
 more (y ∷ ys) x = ap (λ t. data_of y ∷ t) (more ys x)
 

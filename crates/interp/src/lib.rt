@@ -6,10 +6,12 @@
 mod blocks;
 mod branches;
 mod calls;
+mod hosts;
 mod moves;
 mod outcome;
 mod shows;
 mod simple;
+mod slots;
 mod state;
 mod throws;
 

@@ -3,3 +3,4 @@ pub mod Entering
 pub mod Finding
 pub mod Hosting
 pub mod Reading
+pub mod Storing

@@ -67,3 +67,12 @@ written_next ws i d m h = rw (drop-cons ws i d h, add-one i) (sym (written_cons 
 
 pub written_end : (ws : List (ℕ × ℕ)) (i : ℕ) (m : List ℕ) → i ≡ length ws → m ≡ written (drop i ws) m
 written_end ws i m e = sym (rw (e, drop-length ws) (written_none m))
+
+pub outside_at : (ws : List (ℕ × ℕ)) (i n : ℕ) (d : ℕ × ℕ) → i < length ws → nat_lt (get_or ws i d).0 n ≡ false → false ≡ writes_fit (drop i ws) n
+outside_at ws i n d h e = sym (ap (λ t. writes_fit t n) (drop-cons ws i d h) ∙ ap (λ b. b && writes_fit (drop (suc i) ws) n) e)
+
+pub inside_at : (ws : List (ℕ × ℕ)) (i n : ℕ) (d : ℕ × ℕ) → i < length ws → nat_lt (get_or ws i d).0 n ≡ true → writes_fit (drop (i + 1) ws) n ≡ writes_fit (drop i ws) n
+inside_at ws i n d h e = ap (λ k. writes_fit (drop k ws) n) (add-one i) ∙ sym (ap (λ t. writes_fit t n) (drop-cons ws i d h) ∙ ap (λ b. b && writes_fit (drop (suc i) ws) n) e)
+
+pub fit_end : (ws : List (ℕ × ℕ)) (i n : ℕ) → i ≡ length ws → true ≡ writes_fit (drop i ws) n
+fit_end ws i n e = sym (ap (λ k. writes_fit (drop k ws) n) e ∙ ap (λ t. writes_fit t n) (drop-length ws))

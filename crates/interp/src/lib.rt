@@ -7,6 +7,7 @@ mod blocks;
 mod branches;
 mod calls;
 mod hosts;
+mod invokes;
 mod moves;
 mod outcome;
 mod shows;

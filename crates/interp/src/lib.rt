@@ -8,6 +8,7 @@ mod branches;
 mod calls;
 mod hosts;
 mod invokes;
+mod lines;
 mod moves;
 mod outcome;
 mod shows;

@@ -20,7 +20,9 @@ pub enum Event {
         shown: List<Shown>,
     },
     /// A sequence point was passed.
-    Point { shown: List<Shown> },
+    Point {
+        shown: List<Shown>,
+    },
     /// An exception was caught. The payloads are of the width of `i64`. `rank` is the number of table entries that were
     /// passed before the one that took it.
     Caught {
@@ -37,11 +39,7 @@ pub enum End {
     Going,
     Returned(List<Bits>),
     Trapped(TrapCode),
-    Threw {
-        tag: u32,
-        p0: Bits,
-        p1: Bits,
-    },
+    Threw { tag: u32, p0: Bits, p1: Bits },
     /// A byte of a slot was read or shown before it was written.
     Unwritten,
     /// A host call found no reply left.

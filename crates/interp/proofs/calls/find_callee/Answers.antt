@@ -39,10 +39,10 @@ returns-in-Some c =
     let same : length c.callees-callees.result.now ≡ length (function_at c.args.program.now.module.now c.args.at).callees = ap length callees in
     let s : c.number-sig.result < length c.sigs-sigs.result.now = search rules in
     let link : find_function c.index-callees-number.result.name c.args.program.now.module.now ≡ found_at c.args.program.now.module.now (Some c.in-Some.place) =
-        ap (λ (d : Callee). find_function d.name c.args.program.now.module.now) (c.index-callees-number.is ∙ ap (λ cs. get_or cs c.number-number.result c.index-callees-number.result) callees)
-        ∙ (c.requires.linked.found c.args.at c.number-number.result c.index.result.now c.index-2.result.now c.index-callees-number.result lt (omega arith)
-        ∙ (ap (λ (l : Links). found_at c.args.program.now.module.now (get_or l.callees.items c.number-number.result c.index-2.result.now)) (sym c.index.ensures)
-        ∙ ap (found_at c.args.program.now.module.now) (sym c.index-2.ensures ∙ c.in-Some.is))) in
+    ap (λ (d : Callee). find_function d.name c.args.program.now.module.now) (c.index-callees-number.is ∙ ap (λ cs. get_or cs c.number-number.result c.index-callees-number.result) callees)
+    ∙ (c.requires.linked.found c.args.at c.number-number.result c.index.result.now c.index-2.result.now c.index-callees-number.result lt (omega arith)
+    ∙ (ap (λ (l : Links). found_at c.args.program.now.module.now (get_or l.callees.items c.number-number.result c.index-2.result.now)) (sym c.index.ensures)
+    ∙ ap (found_at c.args.program.now.module.now) (sym c.index-2.ensures ∙ c.in-Some.is))) in
     let sig : Sig = get_or c.sigs-sigs.result.now c.number-sig.result some_sig in
     found_callee c.args.program.now.module.now c.args.at c.args.callee c.number-number.result c.func-func.result.now.function c.callees-callees.result.now c.sigs-sigs.result.now c.index-callees-number.result c.number-sig.result sig some_sig (Some (function_at c.args.program.now.module.now c.in-Some.place)) c.func-func.ensures.at c.callees-callees.ensures c.sigs-sigs.ensures c.number-number.ensures n c.index-callees-number.is c.number-sig.ensures s refl link
 
@@ -54,8 +54,8 @@ returns-in-None c =
     let same : length c.callees-callees.result.now ≡ length (function_at c.args.program.now.module.now c.args.at).callees = ap length callees in
     let s : c.number-sig.result < length c.sigs-sigs.result.now = search rules in
     let link : find_function c.index-callees-number.result.name c.args.program.now.module.now ≡ found_at c.args.program.now.module.now (None) =
-        ap (λ (d : Callee). find_function d.name c.args.program.now.module.now) (c.index-callees-number.is ∙ ap (λ cs. get_or cs c.number-number.result c.index-callees-number.result) callees)
-        ∙ (c.requires.linked.found c.args.at c.number-number.result c.index.result.now c.index-2.result.now c.index-callees-number.result lt (omega arith)
-        ∙ (ap (λ (l : Links). found_at c.args.program.now.module.now (get_or l.callees.items c.number-number.result c.index-2.result.now)) (sym c.index.ensures)
-        ∙ ap (found_at c.args.program.now.module.now) (sym c.index-2.ensures ∙ c.in-None.is))) in
+    ap (λ (d : Callee). find_function d.name c.args.program.now.module.now) (c.index-callees-number.is ∙ ap (λ cs. get_or cs c.number-number.result c.index-callees-number.result) callees)
+    ∙ (c.requires.linked.found c.args.at c.number-number.result c.index.result.now c.index-2.result.now c.index-callees-number.result lt (omega arith)
+    ∙ (ap (λ (l : Links). found_at c.args.program.now.module.now (get_or l.callees.items c.number-number.result c.index-2.result.now)) (sym c.index.ensures)
+    ∙ ap (found_at c.args.program.now.module.now) (sym c.index-2.ensures ∙ c.in-None.is))) in
     found_callee c.args.program.now.module.now c.args.at c.args.callee c.number-number.result c.func-func.result.now.function c.callees-callees.result.now c.sigs-sigs.result.now c.index-callees-number.result c.number-sig.result c.index-sigs-sig.result c.index-sigs-sig.result None c.func-func.ensures.at c.callees-callees.ensures c.sigs-sigs.ensures c.number-number.ensures n c.index-callees-number.is c.number-sig.ensures s c.index-sigs-sig.is link

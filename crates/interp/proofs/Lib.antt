@@ -1,4 +1,5 @@
 pub mod Acts
+pub mod Addresses
 pub mod Entering
 pub mod Finding
 pub mod Hosting

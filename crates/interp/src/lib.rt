@@ -3,6 +3,7 @@
 //! Contracts see a run as the definition does (`ir_semantics`, `specs/Runs.antt`).
 #![tactic(auto)]
 
+mod accesses;
 mod blocks;
 mod branches;
 mod calls;

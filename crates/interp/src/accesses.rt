@@ -1,0 +1,93 @@
+//! Loads and stores.
+ghost use Rattle.std.specs.Prelude.{◌≡◌, [], IfOk, List};
+ghost use Rattle.ir_core.specs.Module.{Module as RunModule, Load, Store};
+ghost use Rattle.ir_core.specs.declared.instructions.Access.TheVariants.{Full};
+ghost use Rattle.ir_semantics.specs.Values.{address_at, bytes_stored};
+ghost use Rattle.interp.specs.declared.state.Wait.{Wait as DeclaredWait};
+ghost use Rattle.interp.specs.State.{world_of, moment, done, simply};
+
+use crate::outcome::End;
+use crate::simple::give_results;
+use crate::slots::{bytes_in, width_of};
+use crate::state::{Frame, Stop, World};
+use byte_store::OutOfRange;
+use clk_num::{Bits, TrapCode, Width};
+use ir_core::{Flags, InstData, Ty, Value};
+use std::alloc::AllocError;
+
+/// An address plus an offset, modulo 2^64.
+fn address_of(base: Bits, offset: i32) -> u64
+    ensures { result ≡ address_at base.value offset }
+{
+    let low = Bits::new(Width::W64, base.value());
+    (low.value() as u64).wrapping_add_signed(i64::from(offset))
+}
+
+/// The number of bytes that a store writes.
+fn bytes_stored(narrow: Option<u8>, width: Width) -> u32
+    ensures { result ≡ bytes_stored narrow width }
+{
+    match narrow {
+        None => bytes_in(width),
+        Some(bytes) => u32::from(bytes),
+    }
+}
+
+/// Reads a whole value from memory.
+pub fn load_full(
+    frame: &mut Frame,
+    world: &World,
+    line: &InstData,
+    ty: Ty,
+    flags: Flags,
+    address: Value,
+    offset: i32,
+) -> Result<Option<Stop>, AllocError>
+    ensures { IfOk result (λ r. (m : RunModule) (below : List DeclaredWait) → let w = world_of world.now in moment m frame.new below w r ≡ done m frame.old below w line.now (simply m frame.old w (Load (Full ty) flags address offset))) }
+{
+    let Some(base) = frame.values.get(address.number() as usize) else {
+        return Ok(Some(Stop::Stuck));
+    };
+    let width = width_of(ty);
+    let bytes = bytes_in(width);
+    match world
+        .memory
+        .read(address_of(base, offset), bytes, flags.big)
+    {
+        Err(OutOfRange) => Ok(Some(Stop::At(End::Trapped(TrapCode::HeapOob)))),
+        Ok(number) => {
+            let moved = give_results(frame, line, &[Bits::new(width, number)])?;
+            Ok(moved)
+        }
+    }
+}
+
+/// Writes a value to memory, on the condition that the line has no results.
+pub fn store(
+    frame: &Frame,
+    world: &mut World,
+    line: &InstData,
+    narrow: Option<u8>,
+    flags: Flags,
+    value: Value,
+    address: Value,
+    offset: i32,
+) -> Option<Stop>
+    requires { line.now.results ≡ [] }
+    ensures { (m : RunModule) (below : List DeclaredWait) → moment m frame.now below (world_of world.new) result ≡ done m frame.now below (world_of world.old) line.now (simply m frame.now (world_of world.old) (Store narrow flags value address offset)) }
+{
+    let Some(y) = frame.values.get(value.number() as usize) else {
+        return Some(Stop::Stuck);
+    };
+    let Some(base) = frame.values.get(address.number() as usize) else {
+        return Some(Stop::Stuck);
+    };
+    let bytes = bytes_stored(narrow, y.width());
+    match world
+        .memory
+        .write(address_of(base, offset), bytes, flags.big, y.value())
+    {
+        Err(OutOfRange) => Some(Stop::At(End::Trapped(TrapCode::HeapOob))),
+        Ok(()) => None,
+    }
+}

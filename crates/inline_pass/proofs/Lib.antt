@@ -8,5 +8,4 @@ pub mod Outcomes
 pub mod Passing
 pub mod Putting
 pub mod Renumbered
-pub mod Rows
 pub mod Tracking

@@ -9,3 +9,5 @@ pub mod SafetyExample
 pub mod Slots
 pub mod Tails
 pub mod Throws
+pub mod FirstFaults
+pub mod FinishedBodies

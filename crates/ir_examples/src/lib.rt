@@ -1,2 +1,3 @@
-//! Worked examples of the definitions of `ir_semantics`, checked by computation.
+//! Worked examples of the meaning of modules, checked by computation: runs, splices, acceptance and first faults,
+//! finished bodies. Nothing stands on them.
 #![tactic(auto)]

@@ -224,9 +224,9 @@ module _ (m : Module) (d : DifferentNames m) (leasts : List ℕ) (l : Leasts (gr
         let out = not_standing f.0.name r.names (λ i. next.unplaced (to_list placed r.names t r.named p f.0 f.1 i)) in
         let test = ap₂ (λ a b. not a && b) out (is_ready placed r.names t r.named p f.0 f.1 next) in
         let first = next_is m r.names m p f.0 f.1 test (λ j g s e. not_next placed r.names t r.named j g e (λ off.
-            let within : j < length leasts = let w = slice_get_within m j g e in let u = long in omega (arith, w, u) in
-            let low = (l.1 j (let u = l.0 in omega (arith, within, u))).first j itself itself in
-            next.first (own leasts j) (omega (arith, low, s)) (h.own_is j within) off)) in
+        let within : j < length leasts = let w = slice_get_within m j g e in let u = long in omega (arith, w, u) in
+        let low = (l.1 j (let u = l.0 in omega (arith, within, u))).first j itself itself in
+        next.first (own leasts j) (omega (arith, low, s)) (h.own_is j within) off)) in
         let less = fewer m r.names f.0.name (name_in m p f.0 f.1) out in
         step placed p f.0 f.1 next.is_piece.1 r r.turns_left r.same r.enough first less
       where
@@ -252,8 +252,8 @@ module _ (m : Module) (d : DifferentNames m) (leasts : List ℕ) (l : Leasts (gr
     order_by_numbers list o =
         let r = turned list o.turns in
         let none = next_none m r.names m (λ j g e. not_next list r.names o.turns r.named j g e (λ off.
-            let within : j < length leasts = let w = slice_get_within m j g e in let u = long in omega (arith, w, u) in
-            o.ended (own leasts j) (h.own_is j within) off)) in
+        let within : j < length leasts = let w = slice_get_within m j g e in let u = long in omega (arith, w, u) in
+        o.ended (own leasts j) (h.own_is j within) off)) in
         sym (numbers_back list r.names r.named) ∙ ap (numbers_of m) (sym (stops r.turns_left r.names none) ∙ r.same)
       where
         stops : (k : ℕ) (names : List FuncName) → next_of m names (names_of m) ≡ None → placed_in k m names ≡ names

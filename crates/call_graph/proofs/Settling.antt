@@ -224,14 +224,16 @@ module _ (calls : List (List ℕ)) (piece : List ℕ) (h : Pieced calls piece) (
           ];
           fit = λ r i. elim (n.ready_from r i) [
             | inl j ↦ k.fit r j
-            | inr e ↦
-                (subst (IsPiece piece) (sym e.0) at_first.0, subst (λ (z : ℕ). In z t.list → ⊥) (sym e.0) at_first.1,
-                λ q c. elim (member_or q t.list) [
-                  | inl j ↦ j
-                  | inr off ↦
-                      let d = subst (λ (z : ℕ). Calls calls piece z q) e.0 c in
-                      elim (k.covers p q d) [ inl j ↦ j | inr j ↦ elim (subst (In q) (here ∙ e.1) (is p q j off)) [ ] ]
-                ])
+            | inr e ↦ (
+              subst (IsPiece piece) (sym e.0) at_first.0,
+              subst (λ (z : ℕ). In z t.list → ⊥) (sym e.0) at_first.1,
+              λ q c. elim (member_or q t.list) [
+                | inl j ↦ j
+                | inr off ↦
+                    let d = subst (λ (z : ℕ). Calls calls piece z q) e.0 c in
+                    elim (k.covers p q d) [ inl j ↦ j | inr j ↦ elim (subst (In q) (here ∙ e.1) (is p q j off)) [ ] ]
+              ],
+            )
           ];
           waits = λ q w i off. elim (n.waiting_from q w i) [
             | inl j ↦ let a = k.waits q w j off in (a.0, a.1, is w q a.2 off)

@@ -77,8 +77,8 @@ module _ (calls : List (List ℕ)) (piece : List ℕ) (h : Pieced calls piece) (
   settle_on more rest u s =
       let w : t.woken ≡ p ∷ more = top_is t.woken p top ∙ ap (λ (z : List ℕ). p ∷ z) (sym rest) in
       let e : record { members = t.members; callees = u.callees; waiting = u.waiting; placed = t.placed; ready = u.ready; woken = more; list = t.list } ≡ u =
-          ap₂ (λ (m : List (List ℕ)) (b : List Bool). record { members = m; callees = u.callees; waiting = u.waiting; placed = b; ready = u.ready; woken = more; list = t.list }) (sym s.members) (sym s.placed)
-          ∙ ap₂ (λ (m l : List ℕ). record { members = u.members; callees = u.callees; waiting = u.waiting; placed = u.placed; ready = u.ready; woken = m; list = l }) (sym s.woken) (sym s.list) in
+      ap₂ (λ (m : List (List ℕ)) (b : List Bool). record { members = m; callees = u.callees; waiting = u.waiting; placed = b; ready = u.ready; woken = more; list = t.list }) (sym s.members) (sym s.placed)
+      ∙ ap₂ (λ (m l : List ℕ). record { members = u.members; callees = u.callees; waiting = u.waiting; placed = u.placed; ready = u.ready; woken = m; list = l }) (sym s.woken) (sym s.list) in
       (subst (Keeps calls piece) e (settle_keeps calls piece h t u p more k w s.callees (decided_as p (first_left t.placed (called t.callees p)) t more u s.decided)), s.list)
 
 -- ---- a piece is placed
@@ -108,9 +108,10 @@ module _ (calls : List (List ℕ)) (piece : List ℕ) (h : Pieced calls piece) (
 
   pub place_on : t.woken ≡ [] → ((j : ℕ) → In j ready → p < j) → (more : List ℕ) (u : Table) → u ≡ after_place (with_ready t ready more) p ready → Keeps calls piece u × (unplaced piece u.list < unplaced piece t.list)
   place_on none least more u e =
-      let a = after_place t p ready in
-      (subst (Keeps calls piece) (sym e) (place_keeps calls piece h t p ready k none next least),
-      subst (λ (z : Table). unplaced piece z.list < unplaced piece t.list) (sym e) (total_less (weigh a.list) (weigh t.list) (length piece) p ready_fits.0.0 (λ r l. lighter r) falls))
+      let a = after_place t p ready in (
+        subst (Keeps calls piece) (sym e) (place_keeps calls piece h t p ready k none next least),
+        subst (λ (z : Table). unplaced piece z.list < unplaced piece t.list) (sym e) (total_less (weigh a.list) (weigh t.list) (length piece) p ready_fits.0.0 (λ r l. lighter r) falls),
+      )
     where
       lighter : (r : ℕ) → weigh (after_place t p ready).list r ≤ weigh t.list r
       lighter r = go (has r t.list) refl

@@ -49,7 +49,7 @@ pub record Next (calls : List (List ℕ)) (piece placed : List ℕ) (p : ℕ) : 
 pub data Turns (calls : List (List ℕ)) (piece : List ℕ) : List ℕ → Type 0 where
   begin : Turns calls piece []
   turn : {placed : List ℕ} {p : ℕ} → Turns calls piece placed → Next calls piece placed p →
-    Turns calls piece (placed ++ members piece p)
+      Turns calls piece (placed ++ members piece p)
 
 -- there is no next piece
 pub record Ordered (calls : List (List ℕ)) (piece list : List ℕ) : Type 0 where

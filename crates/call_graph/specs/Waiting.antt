@@ -6,8 +6,8 @@ use Rattle.call_graph.specs.Numbers.{called}
 use Rattle.call_graph.specs.Search.{total}
 use Rattle.call_graph.specs.Turns.{IsPiece, Calls, members_from, members, Turns}
 
--- for each piece its functions, those it calls and that may not be placed yet, and those that wait for it; pieces that are
--- ready, and those that may have to wait
+-- for each piece its functions, those it calls and that may not be placed yet, and those that wait for it; pieces that
+-- are ready, and those that may have to wait
 pub record Table : Type 0 where
   pub members : List (List ℕ)
   pub callees : List (List ℕ)
@@ -72,11 +72,11 @@ pub record Keeps (calls : List (List ℕ)) (piece : List ℕ) (t : Table) : Type
   pub covers : (r q : ℕ) → Calls calls piece r q → In q t.list ⊎ In q (called t.callees r)
   pub leads : (r q : ℕ) → In q (called t.callees r) → Calls calls piece r q
   pub found : (r : ℕ) → IsPiece piece r → (In r t.list → ⊥) → In r t.ready ⊎ (In r t.woken ⊎
-    ((q : ℕ) × In r (called t.waiting q) × In q (called t.callees r) × (In q t.list → ⊥)))
+      ((q : ℕ) × In r (called t.waiting q) × In q (called t.callees r) × (In q t.list → ⊥)))
   pub fit : (r : ℕ) → In r t.ready → IsPiece piece r × (In r t.list → ⊥) ×
-    ((q : ℕ) → Calls calls piece r q → In q t.list)
+      ((q : ℕ) → Calls calls piece r q → In q t.list)
   pub waits : (q w : ℕ) → In w (called t.waiting q) → (In q t.list → ⊥) → IsPiece piece w × (In w t.list → ⊥) ×
-    In q (called t.callees w)
+      In q (called t.callees w)
   pub woke : (w : ℕ) → In w t.woken → IsPiece piece w × (In w t.list → ⊥)
   pub kept : (r : ℕ) → IsPiece piece r → (In r t.list → ⊥) → called t.members r ≡ members piece r
   pub turns : Turns calls piece t.list

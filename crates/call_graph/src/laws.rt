@@ -9,8 +9,8 @@ pub fn reach_is_by_lists()
     ensures { ReachIsByLists }
 {}
 
-/// The order that places, of the pieces not yet placed whose callees in other pieces are all placed, the one with the least
-/// function has each function of the module once, behind those in other pieces that it calls.
+/// The order that places, of the pieces not yet placed whose callees in other pieces are all placed, the one with the
+/// least function has each function of the module once, behind those in other pieces that it calls.
 pub fn order_is_bottom_up()
     ensures { OrderIsBottomUp }
 {}

@@ -1,5 +1,5 @@
-//! Which functions of a module call which, and the pieces of functions that reach each other. A piece is what is elsewhere
-//! called a strongly connected component.
+//! Which functions of a module call which, and the pieces of functions that reach each other. A piece is what is
+//! elsewhere called a strongly connected component.
 #![tactic(auto)]
 
 mod calls;

@@ -97,7 +97,8 @@ fn add_line(
 ) -> Result<(), AllocError>
     requires below { TargetsBelow (length seen.old.items) numbers.now }
     requires marked { Marked stamp seen.old.items calls.old.items }
-    ensures calls { OnOk result (calls.new.items ≡ each_once calls.old.items (with_number (target_by numbers.now (line_of line.now)) [])) }
+    ensures calls { let target = target_by numbers.now (line_of line.now) in
+        OnOk result (calls.new.items ≡ each_once calls.old.items (with_number target [])) }
     ensures marked { OnOk result (Marked stamp seen.new.items calls.new.items) }
     ensures long { OnOk result (length seen.new.items ≡ length seen.old.items) }
 {

@@ -11,19 +11,19 @@ use crate::turns::ordered;
 use ir_core::List;
 use std::alloc::{AllocError, Global};
 
-/// The pieces of functions that reach each other, and an order in which each function stands behind those in other pieces
-/// that it calls. Functions go by their numbers.
+/// The pieces of functions that reach each other, and an order in which each function stands behind those in other
+/// pieces that it calls. Functions go by their numbers.
 #[derive(Drop)]
 pub struct Order {
     /// For each function the least function of its piece.
     pub piece: List<usize>,
-    /// Each function once: of the pieces not yet placed whose callees in other pieces are all placed, the one with the least
-    /// function comes next, its functions in module order.
+    /// Each function once: of the pieces not yet placed whose callees in other pieces are all placed, the one with the
+    /// least function comes next, its functions in module order.
     pub list: List<usize>,
 }
 
-/// The pieces of a graph and their order. Linear in functions and calls, but for a logarithm a piece; without recursion. Only
-/// `AllocError` refuses.
+/// The pieces of a graph and their order. Linear in functions and calls, but for a logarithm a piece; without recursion.
+/// Only `AllocError` refuses.
 pub fn pieces(alloc: Global, graph: &Graph) -> Result<Order, AllocError>
     ensures { IfOk result (λ order. (m : Module) → DifferentNames m → graph.now ≡ graph_of m → IsOrderOf m order) }
 {

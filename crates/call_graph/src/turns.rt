@@ -144,7 +144,11 @@ fn wake_least(woken: &mut Stack, own: usize, func: usize) -> Result<(), AllocErr
 }
 
 /// The functions of all pieces: of the pieces not placed that wait for none, the one with the least function is next.
-pub(crate) fn ordered(alloc: Global, graph: &Graph, piece: &[usize]) -> Result<Vec<usize>, AllocError>
+pub(crate) fn ordered(
+    alloc: Global,
+    graph: &Graph,
+    piece: &[usize],
+) -> Result<Vec<usize>, AllocError>
     requires { Pieced graph.now piece.now }
     ensures { IfOk result (λ list. Ordered graph.now piece.now list.items) }
 {

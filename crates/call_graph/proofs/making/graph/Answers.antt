@@ -21,7 +21,7 @@ loop-i-preserved c =
 pub invariant_of-result : goal.invariant_of-result
 invariant_of-result c =
     let all : c.loop-i.calls.items ≡ graph_of c.args.module.now =
-        sym (append-nil c.loop-i.calls.items)
-        ∙ ap (λ (l : List Function). c.loop-i.calls.items ++ map (calls_in c.args.module.now) l) (sym (drop_all c.loop-i.i c.args.module.now (let e = c.len-i-end.ensures.count in let f = c.loop-i-test.false in omega (arith, e, f))))
-        ∙ c.loop-i.invariant.left in
+    sym (append-nil c.loop-i.calls.items)
+    ∙ ap (λ (l : List Function). c.loop-i.calls.items ++ map (calls_in c.args.module.now) l) (sym (drop_all c.loop-i.i c.args.module.now (let e = c.len-i-end.ensures.count in let f = c.loop-i-test.false in omega (arith, e, f))))
+    ∙ c.loop-i.invariant.left in
     subst InRange (sym all) (graph_in_range c.args.module.now)

@@ -14,8 +14,8 @@ settle-requires-clause-within c = settle_within c.args.graph.now c.args.piece.no
 pub woken-preserved : goal.woken-preserved
 woken-preserved c =
     let r =
-        settle_on c.args.graph.now c.args.piece.now c.requires (table c.woken.placing) c.woken.invariant.keeps c.in-Some.next c.in-Some.ensures.top c.pop.new.self c.pop.ensures.rest (table c.settle.new.self)
-        c.in_ok-settle.ensures in
+    settle_on c.args.graph.now c.args.piece.now c.requires (table c.woken.placing) c.woken.invariant.keeps c.in-Some.next c.in-Some.ensures.top c.pop.new.self c.pop.ensures.rest (table c.settle.new.self)
+    c.in_ok-settle.ensures in
     record { keeps = r.0; list = r.1 ∙ c.woken.invariant.list }
 
 pub place-requires-clause-members : goal.place-requires-clause-members
@@ -37,16 +37,16 @@ pub turns-smaller : goal.turns-smaller
 turns-smaller c =
     let a = c.in-Some-pop_least.ensures.least in
     let r =
-        place_on c.args.graph.now c.args.piece.now c.requires (table c.woken.placing) c.woken.invariant.keeps c.in-Some-pop_least.next c.pop_least.new.self a.0
-        (none_is c.woken.placing.woken (sym c.in_default.ensures.top)) a.1 c.pop.new.self (table c.place.new.self) c.in_ok-place-in-Some-pop_least.ensures in
+    place_on c.args.graph.now c.args.piece.now c.requires (table c.woken.placing) c.woken.invariant.keeps c.in-Some-pop_least.next c.pop_least.new.self a.0
+    (none_is c.woken.placing.woken (sym c.in_default.ensures.top)) a.1 c.pop.new.self (table c.place.new.self) c.in_ok-place-in-Some-pop_least.ensures in
     subst (λ (l : List ℕ). unplaced c.args.piece.now c.place.new.self.list.items < unplaced c.args.piece.now l) c.woken.invariant.list r.1
 
 pub turns-preserved : goal.turns-preserved
 turns-preserved c =
     let a = c.in-Some-pop_least.ensures.least in
     let r =
-        place_on c.args.graph.now c.args.piece.now c.requires (table c.woken.placing) c.woken.invariant.keeps c.in-Some-pop_least.next c.pop_least.new.self a.0
-        (none_is c.woken.placing.woken (sym c.in_default.ensures.top)) a.1 c.pop.new.self (table c.place.new.self) c.in_ok-place-in-Some-pop_least.ensures in
+    place_on c.args.graph.now c.args.piece.now c.requires (table c.woken.placing) c.woken.invariant.keeps c.in-Some-pop_least.next c.pop_least.new.self a.0
+    (none_is c.woken.placing.woken (sym c.in_default.ensures.top)) a.1 c.pop.new.self (table c.place.new.self) c.in_ok-place-in-Some-pop_least.ensures in
     r.0
 
 pub returns : goal.returns

@@ -15,5 +15,3 @@ pub use calls::Graph;
 pub use making::graph;
 pub use ordering::{Order, pieces};
 
-#[cfg(test)]
-mod tests;

@@ -125,10 +125,10 @@ item s true us x d = let k = s.offers.from_a us x d in (inr k.0, (refl, k.1), k.
 item s false us x d = (inl x, (refl, d), refl)
 
 -- the rest of the chain
-abbrev Tree : {Y W P : Type 0} (s : Chaining Y W P) → Bool → List Lexeme → List Y → Type 0
-Tree s f ts ys = (vs : List (Value s.a ⊎ Value s.b)) × Links (ByFlag (Derives s.a) (Derives s.b)) s.c f ts vs × ((before : List _) → s.joined before (map (part s) vs) ≡ before ++ ys)
+abbrev ChainTree : {Y W P : Type 0} (s : Chaining Y W P) → Bool → List Lexeme → List Y → Type 0
+ChainTree s f ts ys = (vs : List (Value s.a ⊎ Value s.b)) × Links (ByFlag (Derives s.a) (Derives s.b)) s.c f ts vs × ((before : List _) → s.joined before (map (part s) vs) ≡ before ++ ys)
 
-one_more : {Y W P : Type 0} (s : Chaining Y W P) (f : Bool) (ts us ws : List Lexeme) (y : Y) (ys : List Y) → ts ≡ us ++ ws → Item s f us (s.whole y) → Tree s (ends s.c f us) ws ys → Tree s f ts (y ∷ ys)
+one_more : {Y W P : Type 0} (s : Chaining Y W P) (f : Bool) (ts us ws : List Lexeme) (y : Y) (ys : List Y) → ts ≡ us ++ ws → Item s f us (s.whole y) → ChainTree s (ends s.c f us) ws ys → ChainTree s f ts (y ∷ ys)
 one_more {Y} {W} {P} s f ts us ws y ys e i k = (
   i.0 ∷ k.0,
   (us, ws, e, (i.1, k.1)),
@@ -139,8 +139,8 @@ one_more {Y} {W} {P} s f ts us ws y ys e i k = (
 )
 
 -- an element, and what is given to it
-two_more : {Y W P : Type 0} (s : Chaining Y W P) (f : Bool) (ts u1 u2 ws : List Lexeme) (x : Value s.a) (z : Value s.w) (ys : List Y) → ts ≡ u1 ++ (u2 ++ ws) → Derives s.a u1 x → ends s.c f u1 ≡ true → Derives s.w u2 z → Tree s (ends s.c true u2) ws ys
-    → Tree s f ts (s.give (s.fw z) (s.fa x) ∷ ys)
+two_more : {Y W P : Type 0} (s : Chaining Y W P) (f : Bool) (ts u1 u2 ws : List Lexeme) (x : Value s.a) (z : Value s.w) (ys : List Y) → ts ≡ u1 ++ (u2 ++ ws) → Derives s.a u1 x → ends s.c f u1 ≡ true → Derives s.w u2 z → ChainTree s (ends s.c true u2) ws ys
+    → ChainTree s f ts (s.give (s.fw z) (s.fa x) ∷ ys)
 two_more {Y} {W} {P} s f ts u1 u2 ws x z ys e d last dw k =
     let i = item s f u1 x d in
     let o = s.offers.from_w u2 z dw in
@@ -155,18 +155,18 @@ two_more {Y} {W} {P} s f ts u1 u2 ws x z ys e d last dw k =
           ),
     )
 
-forward : {Y W P : Type 0} (s : Chaining Y W P) (f : Bool) (ts : List Lexeme) (vs : List (Value s.n)) → Each (Derives s.n) ts vs → Tree s f ts (map s.fn vs)
+forward : {Y W P : Type 0} (s : Chaining Y W P) (f : Bool) (ts : List Lexeme) (vs : List (Value s.n)) → Each (Derives s.n) ts vs → ChainTree s f ts (map s.fn vs)
 forward s f ts [] h = ([], h, λ before. s.joins.nothing before ∙ sym (append-nil before))
 forward {Y} {W} {P} s f ts (v ∷ vs) h =
     elim (s.given.split h.0 v h.3.0) [
       | inl k ↦ (
           let whole = one_more s f ts h.0 h.1 (s.fa k.0) (map s.fn vs) h.2 (item s f h.0 k.0 k.1) (forward s (ends s.c f h.0) h.1 vs h.3.1) in
-          subst (λ (y : Y). Tree s f ts (y ∷ map s.fn vs)) k.2 whole
+          subst (λ (y : Y). ChainTree s f ts (y ∷ map s.fn vs)) k.2 whole
           )
       | inr k ↦ (
           let e = h.2 ∙ ap (λ (l : List Lexeme). l ++ h.1) k.2 ∙ append_assoc k.0 k.1 h.1 in
           let whole = two_more s f ts k.0 k.1 h.1 k.3.0 k.3.3 (map s.fn vs) e k.3.1 (k.3.2 f) k.3.4 (forward s (ends s.c true k.1) h.1 vs h.3.1) in
-          subst (λ (y : Y). Tree s f ts (y ∷ map s.fn vs)) k.3.5 whole
+          subst (λ (y : Y). ChainTree s f ts (y ∷ map s.fn vs)) k.3.5 whole
           )
     ]
 

@@ -62,7 +62,9 @@ tagged_results_at location tags ts = do
 unfoldable pub tagged_at : Option ℕ → List Lexeme → Out RawLine
 tagged_at location ts = do
   tags ← debug_tags_at ts
-  if next_is classes.Value tags.1 then tagged_results_at location tags.0 tags.1 else plain_at AfterTags location tags.0 tags.1
+  if next_is classes.Value tags.1
+    then tagged_results_at location tags.0 tags.1
+    else plain_at AfterTags location tags.0 tags.1
 
 -- a line behind its source location
 unfoldable pub located_at : ℕ → List Lexeme → Out RawLine
@@ -94,7 +96,9 @@ values_or_results_at first ts = do
 unfoldable pub named_or_values_at : List Lexeme → Out LinePart
 named_or_values_at ts = do
   first ← name_at classes.Value ts
-  if next_is classes.Arrow first.1 then (alias_at None first.0 first.1 >>= λ l. Ok (Whole l.0, l.1)) else values_or_results_at first.0 first.1
+  if next_is classes.Arrow first.1
+    then (alias_at None first.0 first.1 >>= λ l. Ok (Whole l.0, l.1))
+    else values_or_results_at first.0 first.1
 
 -- a line, or behind a `return` its values
 unfoldable pub line_at : Bool → List Lexeme → Out LinePart

@@ -18,7 +18,9 @@ const SHARES: [usize; 4] = [0, 1, 20, 1000];
 /// A header, comments and three functions, of which each has one of these lines.
 fn text_of(alloc: Global, first: &str, second: &str, third: &str) -> Result<String, AllocError> {
     format!(in alloc;
-        "; first\ntest compile\nfunction %a() {{\nblock0:\n    {first}\n    return\n}}\n; second\nfunction %b(i64) -> i64 {{\nblock0(v0: i64):\n    {second}\n    return v0\n}}\nfunction %c() {{\nblock0:\n    {third}\n    trap int_ovf\n}}\n; last\n"
+        "; first\ntest compile\nfunction %a() {{\nblock0:\n    {first}\n    return\n}}\n; second\n\
+        function %b(i64) -> i64 {{\nblock0(v0: i64):\n    {second}\n    return v0\n}}\nfunction %c() {{\n\
+        block0:\n    {third}\n    trap int_ovf\n}}\n; last\n"
     )
 }
 

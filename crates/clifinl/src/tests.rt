@@ -7,10 +7,12 @@ use std::sync::Wait;
 use std::thread::Threads;
 
 const INPUT: &[u8] =
-    b"function %f(i64) -> i64 {\nblock3(v5: i64):\n    v7 = iconst.i64 0xffff_ffff_ffff_ffff\n    v2 = iadd v5, v7\n    return v2\n}\n";
+    b"function %f(i64) -> i64 {\n\
+    block3(v5: i64):\n    v7 = iconst.i64 0xffff_ffff_ffff_ffff\n    v2 = iadd v5, v7\n    return v2\n}\n";
 
 const OUTPUT: &[u8] =
-    b"function %f(i64) -> i64 fast {\nblock0(v0: i64):\n    v1 = iconst.i64 -1\n    v2 = iadd v0, v1\n    return v2\n}\n";
+    b"function %f(i64) -> i64 fast {\n\
+    block0(v0: i64):\n    v1 = iconst.i64 -1\n    v2 = iadd v0, v1\n    return v2\n}\n";
 
 fn ask(alloc: Global, word: &str) -> Result<Vec<String>, AllocError> {
     let mut words = Vec::new(alloc);

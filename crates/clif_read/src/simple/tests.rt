@@ -7,7 +7,8 @@ use std::alloc::{AllocError, Global};
 use std::test::Fail;
 
 const TEXT: &[u8] =
-    b"; the first\nfunction %f() -> i64 fast {\nblock0:\n    v0 = iconst.i64 7\n    return v0\n}\n\n; the second\nfunction %g(i64) fast {\nblock0(v0: i64): ; a\n    return\n}\n";
+    b"; the first\nfunction %f() -> i64 fast {\nblock0:\n    v0 = iconst.i64 7\n    return v0\n}\n\n; the second\n\
+    function %g(i64) fast {\nblock0(v0: i64): ; a\n    return\n}\n";
 
 fn name(alloc: Global, bytes: &[u8]) -> Result<FuncName, AllocError> {
     Ok(FuncName::Text(List::from_vec(Vec::from_slice(alloc, bytes)?)))

@@ -6,7 +6,7 @@ ghost use Rattle.clif_print.specs.Output.{Start, Puts};
 use itoa::Integer;
 
 /// What takes a text piece by piece. A failure shows at the end alone: what comes behind it is dropped.
-pub(crate) trait Output {
+pub trait Output {
     /// From this start on the output has taken this text.
     ghost holds: { Start → Self → List ℕ → Type 0 };
 

@@ -7,7 +7,7 @@ ghost use Rattle.ir_core.specs.Forms.{controlling};
 ghost use Rattle.ir_core.specs.Signatures.{same_type};
 ghost use Rattle.ir_core.specs.Viewed.{instruction_of};
 
-use crate::numbers::FuncNumbers;
+use clif_numbers::FuncNumbers;
 use clk_num::Op;
 use ir_core::{Func, Inst, InstData, Ty, Value};
 
@@ -105,7 +105,9 @@ pub(crate) fn shown_suffix(
     next: u32,
     line: &InstData,
 ) -> Option<Ty>
-    ensures { result ≡ shown_suffix func.now.function numbers.now next line.now.ty (typing_operand (instruction_of line.now.inst)) }
+    ensures { result
+        ≡ shown_suffix func.now.function numbers.now next line.now.ty
+        (typing_operand (instruction_of line.now.inst)) }
 {
     match line.ty {
         Some(ty) => {

@@ -9,7 +9,7 @@ ghost use Rattle.clifinl.specs.Output.{ReadsNone, ReadsAndWrites, ReadsAndWrites
 use crate::status::{Refusal, Status};
 use crate::words::asks_inline;
 use clif_lex::{Place, TextKind};
-use clif_print::{PrintErr, print_with};
+use print_workers::{PrintErr, print_with};
 use clif_read::{SimpleErr, read_simple_text};
 use clk_flow::{Gate, ReadErr, Sink, Source, read_whole};
 use std::alloc::Global;

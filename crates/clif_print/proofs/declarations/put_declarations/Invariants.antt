@@ -1,5 +1,5 @@
 use Rattle.std.proofs.Common.{drop}
-use Rattle.ir_text.specs.Pieces.{spelled}
+use Rattle.ir_text.specs.TextTree.{spelled}
 use Rattle.ir_text.specs.TextDeclarations.{declarations}
 use Rattle.clif_print.proofs.Puts.{Going}
 use Rattle.clif_print.proofs.declarations.put_declarations.Given as goal

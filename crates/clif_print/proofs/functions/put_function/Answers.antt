@@ -1,6 +1,6 @@
 use Rattle.std.proofs.Common.{subst}
 use Rattle.ir_text.specs.Numbering.{Numbering}
-use Rattle.ir_text.specs.Pieces.{spelled}
+use Rattle.ir_text.specs.TextTree.{spelled}
 use Rattle.ir_text.specs.Text.{blocks}
 use Rattle.clif_print.specs.Output.{Puts}
 use Rattle.clif_print.proofs.Puts.{◌▸◌}

@@ -16,13 +16,13 @@ use Rattle.ir_core.specs.Uses.{targets}
 use Rattle.ir_core.specs.Lookup.{find_block}
 use Rattle.ir_core.specs.Lists.{In, Each}
 use Rattle.ir_semantics.specs.Available.{Reach, begin, next, branch, Available}
-use Rattle.ir_semantics.specs.Accepted.{Rule, no_terminator, entry_target, count_mismatch, type_mismatch, convention, signature_mismatch, slot_range, tag_place, not_available, KeptAtLine}
+use Rattle.ir_semantics.specs.Accepted.{Rule, no_terminator, entry_target, count_mismatch, type_mismatch, convention, signature_mismatch, slot_range, tag_place, not_available, HoldsAtLine}
 use Rattle.ir_semantics.specs.CallRules.{Declared}
 use Rattle.ir_semantics.proofs.Written.{signature, slot, declares, f, h}
 
 -- a rule holds at a line of a block
 abbrev KeptAt : Function → ℕ → ℕ → Rule → Type 0
-KeptAt f b i rule = IsSomeAnd (find_block b f.blocks) (λ block. IsSomeAnd (slice_get block.lines i) (λ l. KeptAtLine f b block i l rule))
+KeptAt f b i rule = IsSomeAnd (find_block b f.blocks) (λ block. IsSomeAnd (slice_get block.lines i) (λ l. HoldsAtLine f b block i l rule))
 
 -- A slot tag on a tail call.
 abbrev tail_tag : Function

@@ -7,7 +7,7 @@ use Rattle.ir_core.specs.declared.signatures.Ty.TheVariants.{I8}
 use Rattle.ir_core.specs.declared.signatures.Conv.TheVariants.{Fast}
 use Rattle.ir_core.specs.Module.{Const, PureImm, Plain, Return, Line, Function}
 use Rattle.ir_text.specs.Writable.{LineWritable}
-use Rattle.ir_semantics.specs.Accepted.{Types}
+use Rattle.ir_semantics.specs.TypeRules.{Types}
 use Rattle.ir_semantics.proofs.Written.{signature, f}
 
 -- `iconst.i8 300`

@@ -1,4 +1,6 @@
 pub mod Acceptance
+pub mod AcceptedModule
+pub mod Certificate
 pub mod Halves
 pub mod InRange
 pub mod IndirectTails

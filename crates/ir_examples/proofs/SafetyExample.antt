@@ -19,8 +19,8 @@ use Rattle.ir_core.specs.Uses.{targets}
 use Rattle.ir_semantics.specs.Available.{Reach, begin, next, branch}
 use Rattle.ir_semantics.specs.Splice.{Splicing, sides}
 use Rattle.ir_semantics.specs.Site.{Site}
-use Rattle.ir_core.specs.Whole.{Whole, IsModule}
-use Rattle.ir_semantics.specs.Accepted.{Rule, no_terminator, entry_target, count_mismatch, type_mismatch, convention, signature_mismatch, slot_range, tag_place, not_available, KeptAtLine, KeptAtBlock, KeptAtCallee, FunctionAccepted, Accepted}
+use Rattle.ir_core.specs.WellFormed.{WellFormed, IsModule}
+use Rattle.ir_semantics.specs.Accepted.{Rule, no_terminator, entry_target, count_mismatch, type_mismatch, convention, signature_mismatch, slot_range, tag_place, not_available, HoldsAtLine, HoldsAtBlock, HoldsAtCallee, RulesHold, Accepted}
 use Rattle.ir_semantics.specs.CallRules.{Declared}
 use Rattle.ir_semantics.proofs.SafetyTypes.{some_same, head_same}
 use Rattle.ir_semantics.proofs.Written.{signature, declares, f, g}
@@ -87,7 +87,7 @@ module _ (m : Module) (n : FuncName) (callees : List Callee) (l : Line) (results
   passes (branch {b = b} {i = i} r k found l' get t is entered e) =
       absurd (no_target i l' (ap (λ (z : Block). slice_get z.lines i) (only_block b k found) ∙ get) t is)
 
-  callee_kept : (c : Callee) → Declared m (function_of n callees l) c → (rule : Rule) → KeptAtCallee m (function_of n callees l) c rule
+  callee_kept : (c : Callee) → Declared m (function_of n callees l) c → (rule : Rule) → HoldsAtCallee m (function_of n callees l) c rule
   callee_kept c h signature_mismatch = h
   callee_kept c h no_terminator = tt
   callee_kept c h entry_target = tt
@@ -98,7 +98,7 @@ module _ (m : Module) (n : FuncName) (callees : List Callee) (l : Line) (results
   callee_kept c h tag_place = tt
   callee_kept c h not_available = tt
 
-  block_kept : (b : ℕ) (rule : Rule) → KeptAtBlock (function_of n callees l) b (block_of l) rule
+  block_kept : (b : ℕ) (rule : Rule) → HoldsAtBlock (function_of n callees l) b (block_of l) rule
   block_kept b no_terminator = λ e. cc
   block_kept b count_mismatch = λ e. refl
   block_kept b type_mismatch = λ e. refl
@@ -109,7 +109,7 @@ module _ (m : Module) (n : FuncName) (callees : List Callee) (l : Line) (results
   block_kept b tag_place = tt
   block_kept b not_available = tt
 
-  last_kept : (b : ℕ) (rule : Rule) → KeptAtLine (function_of n callees l) b (block_of l) 1 last_line rule
+  last_kept : (b : ℕ) (rule : Rule) → HoldsAtLine (function_of n callees l) b (block_of l) 1 last_line rule
   last_kept b no_terminator = tt
   last_kept b entry_target = tt
   last_kept b count_mismatch = (refl, refl)
@@ -120,7 +120,7 @@ module _ (m : Module) (n : FuncName) (callees : List Callee) (l : Line) (results
   last_kept b tag_place = refl
   last_kept b not_available = ((λ defs r. passes r), tt)
 
-  all_kept : ((c : Callee) → In c callees → Declared m (function_of n callees l) c) → ((b : ℕ) (rule : Rule) → KeptAtLine (function_of n callees l) b (block_of l) 0 l rule) → FunctionAccepted m (function_of n callees l)
+  all_kept : ((c : Callee) → In c callees → Declared m (function_of n callees l) c) → ((b : ℕ) (rule : Rule) → HoldsAtLine (function_of n callees l) b (block_of l) 0 l rule) → RulesHold m (function_of n callees l)
   all_kept declared first item.Whole rule = tt
   all_kept declared first (item.Callee k) rule = λ c get. callee_kept c (declared c (in_of callees k c get)) rule
     where
@@ -128,19 +128,19 @@ module _ (m : Module) (n : FuncName) (callees : List Callee) (l : Line) (results
       in_of [] i c h = cc
       in_of (d ∷ cs) zero c h = inl (sym (some_same h))
       in_of (d ∷ cs) (suc i) c h = inr (in_of cs i c h)
-  all_kept declared first (item.Block b) rule = λ k found. subst (λ z. KeptAtBlock (function_of n callees l) b z rule) (only_block b k found) (block_kept b rule)
+  all_kept declared first (item.Block b) rule = λ k found. subst (λ z. HoldsAtBlock (function_of n callees l) b z rule) (only_block b k found) (block_kept b rule)
   all_kept declared first (item.Inst at) rule =
       λ k l' found get.
       let same = only_block at.block k found in
       let get' : slice_get (l ∷ last_line ∷ []) at.index ≡ Some l' = ap (λ (z : Block). slice_get z.lines at.index) same ∙ get in
-      subst (λ z. KeptAtLine (function_of n callees l) at.block z at.index l' rule) same (elim (two_lines at.index l' get') [
-        | inl q ↦ subst (λ i. KeptAtLine (function_of n callees l) at.block (block_of l) i l' rule) (sym q.0) (subst (λ z. KeptAtLine (function_of n callees l) at.block (block_of l) 0 z rule) q.1 (first at.block rule))
-        | inr q ↦ subst (λ i. KeptAtLine (function_of n callees l) at.block (block_of l) i l' rule) (sym q.0) (subst (λ z. KeptAtLine (function_of n callees l) at.block (block_of l) 1 z rule) q.1 (last_kept at.block rule))
+      subst (λ z. HoldsAtLine (function_of n callees l) at.block z at.index l' rule) same (elim (two_lines at.index l' get') [
+        | inl q ↦ subst (λ i. HoldsAtLine (function_of n callees l) at.block (block_of l) i l' rule) (sym q.0) (subst (λ z. HoldsAtLine (function_of n callees l) at.block (block_of l) 0 z rule) q.1 (first at.block rule))
+        | inr q ↦ subst (λ i. HoldsAtLine (function_of n callees l) at.block (block_of l) i l' rule) (sym q.0) (subst (λ z. HoldsAtLine (function_of n callees l) at.block (block_of l) 1 z rule) q.1 (last_kept at.block rule))
       ])
 
 -- ---- the two functions
 
-call_kept : (b : ℕ) (rule : Rule) → KeptAtLine caller b (block_of (line_of (Call (Direct 0) (0 ∷ [])) None)) 0 (line_of (Call (Direct 0) (0 ∷ [])) None) rule
+call_kept : (b : ℕ) (rule : Rule) → HoldsAtLine caller b (block_of (line_of (Call (Direct 0) (0 ∷ [])) None)) 0 (line_of (Call (Direct 0) (0 ∷ [])) None) rule
 call_kept b no_terminator = tt
 call_kept b entry_target = tt
 call_kept b count_mismatch = (refl, refl)
@@ -151,7 +151,7 @@ call_kept b slot_range = tt
 call_kept b tag_place = tt
 call_kept b not_available = ((λ defs r. passes both f (declares g 0 ∷ []) (line_of (Call (Direct 0) (0 ∷ [])) None) refl refl r), tt)
 
-add_kept : (b : ℕ) (rule : Rule) → KeptAtLine callee b (block_of (line_of (Plain (Pure Iadd (0 ∷ 0 ∷ []))) (Some I64))) 0 (line_of (Plain (Pure Iadd (0 ∷ 0 ∷ []))) (Some I64)) rule
+add_kept : (b : ℕ) (rule : Rule) → HoldsAtLine callee b (block_of (line_of (Plain (Pure Iadd (0 ∷ 0 ∷ []))) (Some I64))) 0 (line_of (Plain (Pure Iadd (0 ∷ 0 ∷ []))) (Some I64)) rule
 unfolding row
 add_kept b no_terminator = tt
 add_kept b entry_target = tt
@@ -168,11 +168,11 @@ g_declared c (inl q) = subst (Declared both caller) (sym q) (λ h e. ap (λ (z :
 g_declared c (inr p) = elim p [ ]
 
 pub both_accepted : Accepted both
-both_accepted h (inl q) = subst (FunctionAccepted both) (sym q) (all_kept both f (declares g 0 ∷ []) (line_of (Call (Direct 0) (0 ∷ [])) None) refl refl g_declared call_kept)
-both_accepted h (inr (inl q)) = subst (FunctionAccepted both) (sym q) (all_kept both g [] (line_of (Plain (Pure Iadd (0 ∷ 0 ∷ []))) (Some I64)) refl refl (λ c p. elim p [ ]) add_kept)
+both_accepted h (inl q) = subst (RulesHold both) (sym q) (all_kept both f (declares g 0 ∷ []) (line_of (Call (Direct 0) (0 ∷ [])) None) refl refl g_declared call_kept)
+both_accepted h (inr (inl q)) = subst (RulesHold both) (sym q) (all_kept both g [] (line_of (Plain (Pure Iadd (0 ∷ 0 ∷ []))) (Some I64)) refl refl (λ c p. elim p [ ]) add_kept)
 both_accepted h (inr (inr p)) = elim p [ ]
 
-caller_whole : Whole caller
+caller_whole : WellFormed caller
 caller_whole =
     record {
       begins = λ e. cc;
@@ -185,7 +185,7 @@ caller_whole =
       lines = ((record { values = (inl refl, tt); blocks = tt; slots = tt; shown = tt; callees = (omega arith, tt); sigs = tt }, (record { values = (inr (inl refl), tt); blocks = tt; slots = tt; shown = tt; callees = tt; sigs = tt }, tt)), tt);
     }
 
-callee_whole : Whole callee
+callee_whole : WellFormed callee
 callee_whole =
     record {
       begins = λ e. cc;

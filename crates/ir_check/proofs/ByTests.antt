@@ -39,7 +39,7 @@ none_found t Good [] h e = refl
 none_found t Good (a ∷ xs) h e = ap (λ z. if z then first_failing t xs else Some a) ((h a (inl refl)).back e.0) ∙ none_found t Good xs (λ d i. h d (inr i)) e.1
 
 -- in a longer list
-longer : {A : Type 0} (Good : A → Type 0) (xs ys : List A) (x : A) → FirstBad Good xs x → FirstBad Good (xs ++ ys) x
+pub longer : {A : Type 0} (Good : A → Type 0) (xs ys : List A) (x : A) → FirstBad Good xs x → FirstBad Good (xs ++ ys) x
 longer Good [] ys x h = elim h [ ]
 longer Good (a ∷ xs) ys x (this p) = this p
 longer Good (a ∷ xs) ys x (later p h) = later p (longer Good xs ys x h)
@@ -52,7 +52,7 @@ pub fault_by_tests : law.FaultByTests
 fault_by_tests available m h =
     (λ c q. (c.func, finds (passes available m) (Passed m) (checks m) (twins available m h) c q), λ q. accepted_of m (finds_none (passes available m) (Passed m) (checks m) (twins available m h) q), λ ok. none_found (passes available m) (Passed m) (checks m) (twins available m h) (of_accepted m ok))
 
-not_last : Each (λ (r : Rule). r ≡ not_available → ⊥) first_rules
+pub not_last : Each (λ (r : Rule). r ≡ not_available → ⊥) first_rules
 not_last = (λ e. cc, (λ e. cc, (λ e. cc, (λ e. cc, (λ e. cc, (λ e. cc, (λ e. cc, (λ e. cc, tt))))))))
 
 pub early : law.EarlyFault

@@ -46,7 +46,7 @@ each_at P [] e x h = elim h [ ]
 each_at P (a ∷ xs) e x (inl q) = subst P (sym q) e.0
 each_at P (a ∷ xs) e x (inr i) = each_at P xs e.1 x i
 
-each_of : {A : Type 0} (P : A → Type 0) (xs : List A) → ((x : A) → In x xs → P x) → Each P xs
+pub each_of : {A : Type 0} (P : A → Type 0) (xs : List A) → ((x : A) → In x xs → P x) → Each P xs
 each_of P [] h = tt
 each_of P (a ∷ xs) h = (h a (inl refl), each_of P xs (λ x i. h x (inr i)))
 

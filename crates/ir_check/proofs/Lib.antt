@@ -6,3 +6,4 @@ pub mod Walks
 pub mod Ranged
 pub mod Rowed
 pub mod Using
+pub mod Searching

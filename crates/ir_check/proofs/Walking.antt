@@ -17,7 +17,7 @@ in_parts t (c ∷ xs) ys = go (t c) (in_parts t xs ys)
     go true h = h
     go false h = refl
 
-in_find : (b : Block) (bs : List Block) → Different (block_numbers bs) → In b bs → find_block b.number bs ≡ Some b
+pub in_find : (b : Block) (bs : List Block) → Different (block_numbers bs) → In b bs → find_block b.number bs ≡ Some b
 in_find b [] d i = elim i [ ]
 in_find b (c ∷ bs) d (inl q) = subst (λ z. find_block b.number (z ∷ bs) ≡ Some b) q (find_first b bs)
 in_find b (c ∷ bs) d (inr i) =

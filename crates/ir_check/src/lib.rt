@@ -3,9 +3,13 @@
 
 mod calls;
 mod checked;
+mod checking;
 mod counts;
+mod early;
+mod faults;
 mod forms;
 mod kinds;
+mod late;
 pub mod laws;
 mod lines;
 mod row_types;
@@ -15,4 +19,5 @@ mod typing;
 mod uses;
 
 pub use checked::Checked;
+pub use checking::{CheckErr, Rejected, check};
 pub use kinds::CheckKind;

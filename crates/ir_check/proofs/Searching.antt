@@ -1,12 +1,11 @@
 -- A search for the first fault: what is left of the checks, and the fronts that the code looks at.
-use Rattle.std.proofs.Common.{◌≡◌, ◌⊎◌, inl, inr, ℕ, zero, suc, ◌+◌, ◌<◌, ◌≤◌, ◌^◌, List, [], ◌∷◌, ◌++◌, length, map, drop, Option, Some, None, Bool, true, false, refl, sym, ap, subst, ◌∙◌, arith, add-one, append_assoc, append-nil, get_or, eq-eqb, ne_eqb}
+use Rattle.std.proofs.Common.{◌≡◌, ◌⊎◌, inl, inr, ℕ, suc, ◌+◌, ◌<◌, ◌≤◌, ◌^◌, List, [], ◌∷◌, ◌++◌, length, map, drop, Option, Some, None, Bool, true, false, refl, sym, ap, subst, ◌∙◌, arith, add-one, append_assoc, get_or, eq-eqb, ne_eqb}
 use Rattle.std.specs.Prelude.{slice_get, if◌then◌else◌, nat_eq, IsTrue, not, ◌↔◌, Result, Ok, Err, IfOk}
 use Rattle.std.specs.List.{list_all}
 use Rattle.std.proofs.lemmas.Bool.{cases_eq}
 use Rattle.std.proofs.lemmas.Option.{slice_get_past, slice_get_within, slice_get-get_or, slice_get_read}
 use Rattle.std.proofs.lemmas.List.{length-map}
 use Rattle.ir_core.specs.declared.declarations.Callee.{Callee}
-use Rattle.ir_core.specs.declared.instructions.BlockCall.{BlockCall}
 use Rattle.ir_core.specs.declared.instructions.InstData.{InstData}
 use Rattle.ir_core.specs.declared.places.Item.{Item}
 use Rattle.ir_core.specs.declared.places.Item.TheVariants as item
@@ -30,7 +29,7 @@ use Rattle.ir_check.specs.declared.kinds.CheckKind.TheVariants as kind
 use Rattle.ir_check.specs.Faults.{callee_items, line_items, block_items, items, Check, check, tried_at, tried, first_rules, last_rules, checks, FirstBad, this, later, Passed}
 use Rattle.ir_check.specs.Found.{Finds, FindsAny, block_at, block_parts}
 use Rattle.ir_check.specs.Kinds.{rule_of, rule_named, failing_rule, line_keeps}
-use Rattle.ir_check.specs.Twins.{kept, filled, empty, implies, is_first, kept_at_line, kept_at_block, kept_at_callee, always_available, ends_by, ends_rightly, terminated, if_some, leaves}
+use Rattle.ir_check.specs.Twins.{kept, filled, empty, implies, is_first, kept_at_line, kept_at_block, kept_at_callee, always_available, ends_by, ends_rightly, if_some, leaves}
 use Rattle.ir_check.proofs.ByTests.{longer, not_last}
 use Rattle.ir_check.proofs.Firsts.{each_at, each_of}
 use Rattle.ir_check.proofs.Tests.{Twin, kept_is}

@@ -73,8 +73,10 @@ fn find_err(alloc: Global, module: &Module) -> Option<CheckErr>
     }
 }
 
-/// Checks a module, in time and memory linear in it but for a logarithm of the number of blocks. Accepted or not, it is
-/// handed back.
+/// Checks a module. Accepted or not, it is handed back. All rules but availability take no memory, and time linear in the
+/// module but for a look-up of the name of each callee declaration, and for the signatures that callee declarations, tail
+/// calls and `try_call`s compare. Availability takes a logarithm of the number of blocks for each use, and for each function
+/// a few sweeps over its edges (more only for paths that are made to need them) and memory proportional to the function.
 pub fn check(alloc: Global, module: Module) -> Result<Checked, Rejected>
     ensures accepted { IfOk result (λ checked. (checked ≡ «module») × Accepted «module») }
     ensures same { IfErr result (λ rejected. rejected.«module» ≡ «module») }

@@ -1,15 +1,14 @@
 //! The first fault by another rule than availability.
-ghost use Rattle.std.specs.Prelude.{◌≡◌, ◌<◌, ℕ, length, nat_eq, slice_get, Some};
-ghost use Rattle.ir_core.specs.Edits.{params_of, lines_of};
+ghost use Rattle.std.specs.Prelude.{◌≡◌, ◌<◌, length, nat_eq};
 ghost use Rattle.ir_core.specs.Lists.{In};
 ghost use Rattle.ir_core.specs.Lookup.{block_numbers};
-ghost use Rattle.ir_core.specs.Module.{Module};
 ghost use Rattle.ir_core.specs.Sound.{IsSound};
 ghost use Rattle.ir_semantics.specs.Splice.{first_number};
-ghost use Rattle.ir_check.specs.Faults.{first_rules, tried_at, tried, line_items, block_items, callee_items, items};
-ghost use Rattle.ir_check.specs.Found.{Finds, FindsAny, block_at, block_parts};
+ghost use Rattle.ir_check.specs.Faults.{first_rules, tried};
+ghost use Rattle.ir_check.specs.Found.{Finds, FindsIn, FindsAny, block_at, block_keeps, callee_keeps, if_first, line_checks};
+ghost use Rattle.ir_check.specs.Found.{block_checks, checks_of_blocks, checks_of_callees, checks_of_function};
 ghost use Rattle.ir_check.specs.Kinds.{rule_named, failing_rule};
-ghost use Rattle.ir_check.specs.Twins.{always_available, implies, is_first, filled, entry_counts, entry_types, kept_at_block, kept_at_callee};
+ghost use Rattle.ir_check.specs.Twins.{filled, entry_counts, entry_types};
 
 use crate::faults::Fault;
 use crate::kinds::CheckKind;
@@ -54,7 +53,7 @@ fn has_entry_types(func: &Func, block: Block) -> bool
 fn keeps_entry_counts(func: &Func, first: Block, block: Block) -> bool
     requires first { first ≡ first_number func.now.function.blocks }
     requires there { In block (block_numbers func.now.function.blocks) }
-    ensures { result ≡ implies (is_first always_available func.now.function block) (entry_counts func.now.function (block_at func.now.function block)) }
+    ensures { result ≡ if_first func.now.function block entry_counts }
 {
     if !is_entry(first, block) {
         return true;
@@ -67,7 +66,7 @@ fn keeps_entry_types(func: &Func, first: Block, block: Block) -> bool
     requires sound { IsSound func.now.function }
     requires first { first ≡ first_number func.now.function.blocks }
     requires there { In block (block_numbers func.now.function.blocks) }
-    ensures { result ≡ implies (is_first always_available func.now.function block) (entry_types func.now.function (block_at func.now.function block)) }
+    ensures { result ≡ if_first func.now.function block entry_types }
 {
     if !is_entry(first, block) {
         return true;
@@ -80,7 +79,7 @@ fn find_block_fault(func: &Func, first: Block, block: Block) -> Option<CheckKind
     requires sound { IsSound func.now.function }
     requires first { first ≡ first_number func.now.function.blocks }
     requires there { In block (block_numbers func.now.function.blocks) }
-    ensures { rule_named result ≡ failing_rule (kept_at_block always_available func.now.function block (block_at func.now.function block)) first_rules }
+    ensures { rule_named result ≡ failing_rule (block_keeps func.now.function block) first_rules }
 {
     if !is_filled(func, block) {
         return Some(CheckKind::NoTerminator);
@@ -99,7 +98,7 @@ fn find_fault_in_lines(func: &Func, number: usize, first: Block, block: Block) -
     requires sound { IsSound func.now.function }
     requires first { first ≡ first_number func.now.function.blocks }
     requires there { In block (block_numbers func.now.function.blocks) }
-    ensures { (m : Module) → Finds m func.now.function (tried_at first_rules number func.now.function (line_items block 0 (lines_of block func.now.function.blocks))) result }
+    ensures { FindsIn func.now.function (line_checks first_rules number func.now.function block) result }
 {
     let insts = func.inst_slice(block);
     for (i, added) in insts.iter().enumerate() {
@@ -120,7 +119,7 @@ fn find_fault_in_block(func: &Func, number: usize, first: Block, block: Block) -
     requires sound { IsSound func.now.function }
     requires first { first ≡ first_number func.now.function.blocks }
     requires there { In block (block_numbers func.now.function.blocks) }
-    ensures { (m : Module) → Finds m func.now.function (tried_at first_rules number func.now.function (block_parts func.now.function block)) result }
+    ensures { FindsIn func.now.function (block_checks first_rules number func.now.function block) result }
 {
     if let Some(kind) = find_block_fault(func, first, block) {
         return Some(Fault {
@@ -135,7 +134,7 @@ fn find_fault_in_block(func: &Func, number: usize, first: Block, block: Block) -
 /// The first fault but availability among the blocks of a function. `first` is its first block.
 fn find_fault_in_blocks(func: &Func, number: usize, first: Block) -> Option<Fault>
     requires { first ≡ first_number func.now.function.blocks }
-    ensures { (m : Module) → Finds m func.now.function (tried_at first_rules number func.now.function (block_items func.now.function.blocks)) result }
+    ensures { FindsIn func.now.function (checks_of_blocks first_rules number func.now.function) result }
 {
     for block in func.blocks() {
         if let Some(fault) = find_fault_in_block(func, number, first, block) {
@@ -148,7 +147,7 @@ fn find_fault_in_blocks(func: &Func, number: usize, first: Block) -> Option<Faul
 /// The first rule but availability that a callee declaration does not keep.
 fn find_callee_fault(module: &Module, func: &Func, callee: &Callee) -> Option<CheckKind>
     requires { callee.now.sig < length func.now.function.sigs }
-    ensures { rule_named result ≡ failing_rule (kept_at_callee always_available «module».now func.now.function callee.now) first_rules }
+    ensures { rule_named result ≡ failing_rule (callee_keeps «module».now func.now.function callee.now) first_rules }
 {
     if declares_signature(module, func, callee) {
         None
@@ -160,7 +159,7 @@ fn find_callee_fault(module: &Module, func: &Func, callee: &Callee) -> Option<Ch
 /// The first fault but availability among the callee declarations of a function.
 fn find_fault_in_callees(module: &Module, func: &Func, number: usize) -> Option<Fault>
     requires { IsSound func.now.function }
-    ensures { Finds «module».now func.now.function (tried_at first_rules number func.now.function (callee_items 0 func.now.function.callees)) result }
+    ensures { Finds «module».now func.now.function (checks_of_callees first_rules number func.now.function) result }
 {
     let declared = func.callees();
     for (i, callee) in declared.iter().enumerate() {
@@ -189,7 +188,7 @@ fn find_first(func: &Func) -> Block
 
 /// The first fault but availability in a function.
 fn find_fault_in_func(module: &Module, func: &Func, number: usize) -> Option<Fault>
-    ensures { Finds «module».now func.now.function (tried_at first_rules number func.now.function (items func.now.function)) result }
+    ensures { Finds «module».now func.now.function (checks_of_function first_rules number func.now.function) result }
 {
     let first = find_first(func);
     if let Some(fault) = find_fault_in_callees(module, func, number) {

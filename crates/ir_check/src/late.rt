@@ -1,12 +1,10 @@
 //! The first use of a value that is not available.
-ghost use Rattle.std.specs.Prelude.{◌≡◌, ◌<◌, ℕ, length, IfOk};
-ghost use Rattle.ir_core.specs.Edits.{lines_of};
+ghost use Rattle.std.specs.Prelude.{◌≡◌, IfOk};
 ghost use Rattle.ir_core.specs.Lists.{In};
 ghost use Rattle.ir_core.specs.Lookup.{block_numbers};
-ghost use Rattle.ir_core.specs.Module.{Module};
 ghost use Rattle.ir_core.specs.Sound.{IsSound, IsWhole};
-ghost use Rattle.ir_check.specs.Faults.{last_rules, tried_at, tried, line_items, block_items, items};
-ghost use Rattle.ir_check.specs.Found.{Finds, FindsAny};
+ghost use Rattle.ir_check.specs.Faults.{last_rules, tried};
+ghost use Rattle.ir_check.specs.Found.{FindsIn, FindsAny, line_checks, checks_of_blocks, checks_of_function};
 
 use crate::faults::Fault;
 use crate::kinds::CheckKind;
@@ -20,7 +18,7 @@ fn find_use_in_lines(avail: &Avail<'_>, func: &Func, number: usize, block: Block
     requires sound { IsSound func.now.function }
     requires same { avail.now ≡ func.now.function }
     requires there { In block (block_numbers func.now.function.blocks) }
-    ensures { (m : Module) → Finds m func.now.function (tried_at last_rules number func.now.function (line_items block 0 (lines_of block func.now.function.blocks))) result }
+    ensures { FindsIn func.now.function (line_checks last_rules number func.now.function block) result }
 {
     let insts = func.inst_slice(block);
     for (i, added) in insts.iter().enumerate() {
@@ -39,7 +37,7 @@ fn find_use_in_lines(avail: &Avail<'_>, func: &Func, number: usize, block: Block
 /// The first instruction of a function that uses a value that is not available.
 fn find_use_in_blocks(avail: &Avail<'_>, func: &Func, number: usize) -> Option<Fault>
     requires { avail.now ≡ func.now.function }
-    ensures { (m : Module) → Finds m func.now.function (tried_at last_rules number func.now.function (block_items func.now.function.blocks)) result }
+    ensures { FindsIn func.now.function (checks_of_blocks last_rules number func.now.function) result }
 {
     for block in func.blocks() {
         if let Some(fault) = find_use_in_lines(avail, func, number, block) {
@@ -52,7 +50,7 @@ fn find_use_in_blocks(avail: &Avail<'_>, func: &Func, number: usize) -> Option<F
 /// The first instruction of a function that uses a value that is not available. Only `AllocError` refuses.
 fn find_use_in_func(alloc: Global, func: &Func, number: usize) -> Result<Option<Fault>, AllocError>
     requires { IsWhole func.now.function }
-    ensures { IfOk result (λ found. (m : Module) → Finds m func.now.function (tried_at last_rules number func.now.function (items func.now.function)) found) }
+    ensures { IfOk result (FindsIn func.now.function (checks_of_function last_rules number func.now.function)) }
 {
     let avail = flow(alloc, func)?;
     Ok(find_use_in_blocks(&avail, func, number))

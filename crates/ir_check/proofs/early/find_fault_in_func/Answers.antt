@@ -1,4 +1,4 @@
-use Rattle.std.proofs.Common.{sym, subst}
+use Rattle.std.proofs.Common.{subst}
 use Rattle.ir_check.specs.Faults.{first_rules, tried_at, callee_items}
 use Rattle.ir_check.specs.Found.{Finds}
 use Rattle.ir_check.proofs.Searching.{items_find, callees_find}

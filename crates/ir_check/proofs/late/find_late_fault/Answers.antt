@@ -1,4 +1,4 @@
-use Rattle.std.proofs.Common.{Some, arith, sym, subst}
+use Rattle.std.proofs.Common.{arith, subst}
 use Rattle.ir_check.specs.Faults.{last_rules, tried, tried_at, items}
 use Rattle.ir_check.specs.Found.{Finds}
 use Rattle.ir_check.proofs.Searching.{whole_rest, function_bad, function_good, functions_done}

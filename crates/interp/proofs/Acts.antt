@@ -12,7 +12,6 @@ use Rattle.clk_num.specs.declared.width.Width.{Width}
 use Rattle.clk_num.specs.Rows.{row}
 use Rattle.clk_num.specs.Operations.{DataValue, Evaluation, NoRow, widths, within, meaning, operation}
 use Rattle.clk_num.specs.declared.bits.Bits.{Bits}
-use Rattle.clk_num.specs.declared.width.Width.TheVariants.{W64}
 use Rattle.clk_num.specs.Views.{data_of, data_of_all}
 use Rattle.ir_core.specs.declared.instructions.BlockCall.{BlockCall}
 use Rattle.ir_core.specs.declared.declarations.SlotDecl.{SlotDecl}
@@ -44,8 +43,8 @@ choose_second (suc n) a b h = absurd (omega arith)
 
 -- ---- exceptions
 
-pub payloads : (p q : Bits) → (p.width ≡ W64) × (q.width ≡ W64) → data_of_all (p ∷ q ∷ []) ≡ i64 p.value ∷ i64 q.value ∷ []
-payloads p q h = ap (λ w. record { width = w; value = p.value } ∷ data_of q ∷ []) h.0 ∙ ap (λ w. i64 p.value ∷ record { width = w; value = q.value } ∷ []) h.1
+pub payloads : (p q : Bits) (a b : ℕ) → data_of p ≡ i64 a → data_of q ≡ i64 b → data_of_all (p ∷ q ∷ []) ≡ i64 a ∷ i64 b ∷ []
+payloads p q a b e h = ap (λ x. x ∷ data_of q ∷ []) e ∙ ap (λ x. i64 a ∷ x ∷ []) h
 
 -- one more frame waits
 pub waits_push : (m : Module) (ys : List CodeWait) (y : CodeWait) → waits_of m (ys ++ y ∷ []) ≡ wait_of m y ∷ waits_of m ys

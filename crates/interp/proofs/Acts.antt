@@ -1,7 +1,7 @@
 -- What is done at a line.
-use Rattle.std.proofs.Common.{◌≡◌, ℕ, suc, zero, ◌+◌, ◌<◌, ◌≤◌, ◌≢◌, List, [], ◌∷◌, Option, Some, None, refl, arith, ap, ◌∙◌, sym, Bool, true, false}
+use Rattle.std.proofs.Common.{◌≡◌, ℕ, suc, zero, ◌+◌, ◌<◌, ◌≤◌, ◌≢◌, List, [], ◌∷◌, Option, Some, None, refl, arith, ap, ◌∙◌, sym, false}
 use Rattle.std.proofs.Common.{◌++◌, map, length, slice_get, get_or, take, drop, append-nil, append_assoc}
-use Rattle.std.proofs.lemmas.List.{map-append, reverse-append, take_more}
+use Rattle.std.proofs.lemmas.List.{reverse-append, take_more}
 use Rattle.std.proofs.Math.Seq.{take-length}
 use Rattle.std.proofs.lemmas.List.{take-append-drop}
 use Rattle.std.proofs.lemmas.Option.{slice_get_past, slice_get-get_or}
@@ -13,14 +13,13 @@ use Rattle.clk_num.specs.Rows.{row}
 use Rattle.clk_num.specs.Operations.{DataValue, Evaluation, NoRow, widths, within, meaning, operation}
 use Rattle.clk_num.specs.declared.bits.Bits.{Bits}
 use Rattle.clk_num.specs.Views.{data_of, data_of_all}
-use Rattle.ir_core.specs.declared.instructions.BlockCall.{BlockCall}
 use Rattle.ir_core.specs.declared.declarations.SlotDecl.{SlotDecl}
 use Rattle.ir_core.specs.Module.{Function, Module}
 use Rattle.ir_semantics.specs.Values.{i64, join}
-use Rattle.ir_semantics.specs.Machine.{Frame, Wait, World, Moment, Caught, Shown, User}
+use Rattle.ir_semantics.specs.Machine.{Wait, World, Moment, Caught, Shown, User}
 use Rattle.ir_semantics.specs.Step as step
 use Rattle.ir_semantics.specs.Effect.{Effect, choose}
-use Rattle.interp.specs.State.{function_at, frame_of, wait_of, waits_of, world_of}
+use Rattle.interp.specs.State.{function_at, wait_of, waits_of}
 use Rattle.interp.specs.declared.state.Wait.{Wait as CodeWait}
 use Rattle.interp.proofs.Entering.{at_past, at_found}
 

@@ -1,19 +1,18 @@
 -- Numbers that are values of a function's parameters are an entry call of it.
-use Rattle.std.proofs.Common.{◌≡◌, ℕ, zero, suc, ◌-◌, ◌%◌, ◌^◌, ◌<◌, ◌≤◌, ℤ, pos, negsuc, List, [], ◌∷◌, Option, Some, None, Bool, true, false, if◌then◌else◌, refl, arith, ap, ◌∙◌, sym, subst}
+use Rattle.std.proofs.Common.{◌≡◌, ◌^◌, ◌<◌, ℤ, pos, negsuc, List, [], ◌∷◌, Option, Some, None, Bool, true, false, if◌then◌else◌, refl, arith, subst}
 use Rattle.std.proofs.Math.Nat.{mod-lt}
 use Rattle.std.proofs.lemmas.Nat.{pow_pos}
 use Rattle.clk_num.specs.declared.width.Width.{Width}
 use Rattle.clk_num.specs.Width.{bits_of}
 use Rattle.clk_num.specs.Numbers.{wrapped, fits}
 use Rattle.clk_num.specs.Operations.{DataValue}
-use Rattle.ir_core.specs.declared.names.FuncName.{FuncName}
 use Rattle.ir_core.specs.declared.signatures.Ty.{Ty}
-use Rattle.ir_core.specs.Module.{Function, Module}
+use Rattle.ir_core.specs.Module.{Function}
 use Rattle.ir_core.specs.Lookup.{find_function, param_types, width_of}
 use Rattle.ir_semantics.specs.Values.{cons_some, value_for, values_for}
-use Rattle.ir_semantics.specs.Runs.{HasType, HaveTypes, IsEntry}
+use Rattle.ir_semantics.specs.Runs.{HasType, HaveTypes}
 use Rattle.ir_semantics.proofs.SafetyTypes.{some_same, then_some}
-use Rattle.interp.specs.Entries.{entry_values, NumbersEnter}
+use Rattle.interp.specs.Entries.{NumbersEnter}
 
 wrapped_below : (w : Width) (z : ℤ) → wrapped (bits_of w) z < 2 ^ bits_of w
 unfolding wrapped

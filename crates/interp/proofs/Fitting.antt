@@ -1,13 +1,14 @@
 -- Lines that fit, and narrow loads.
-use Rattle.std.proofs.Common.{◌≡◌, ℕ, ◌*◌, ◌<◌, ◌≤◌, ◌^◌, ◌%◌, ℤ, List, [], ◌∷◌, map, Option, Some, None, Bool, true, false, ◌&&◌, ◌||◌, ◌==◌, nat_lt, nat_le, refl, arith, ap, ◌∙◌, sym, subst, if◌then◌else◌}
+use Rattle.std.proofs.Common.{◌≡◌, ℕ, ◌*◌, ◌<◌, ◌≤◌, ◌^◌, ◌%◌, ℤ, List, [], ◌∷◌, Option, Some, None, Bool, true, false, ◌&&◌, ◌||◌, ◌==◌, nat_lt, nat_le, refl, arith, ap, ◌∙◌, sym, subst}
 use Rattle.std.specs.Prelude.{IsTrue}
 use Rattle.std.proofs.lemmas.Bool.{ltb-true, lt-ltb}
 use Rattle.std.proofs.Math.Nat.{mod-eq_of_lt}
 use Rattle.clk_num.specs.declared.width.Width.{Width}
+use Rattle.clk_num.specs.declared.width.Width.TheVariants.{W8, W16, W32, W64, W128}
 use Rattle.clk_num.specs.declared.op.Op.TheVariants.{Uextend, Sextend}
 use Rattle.clk_num.specs.Width.{bits_of}
 use Rattle.clk_num.specs.Rows.{row, where_so}
-use Rattle.clk_num.specs.Operations.{DataValue, value_of, Evaluation, Values, NoRow, within, sextend, meaning, operation}
+use Rattle.clk_num.specs.Operations.{DataValue, value_of, Evaluation, Values, within, sextend, meaning, operation}
 use Rattle.ir_core.specs.declared.signatures.Ty.{Ty}
 use Rattle.ir_core.specs.declared.instructions.Access.{Access}
 use Rattle.ir_core.specs.declared.instructions.Access.TheVariants.{Uload, Sload}
@@ -18,7 +19,7 @@ use Rattle.ir_core.specs.Lookup.{width_of}
 use Rattle.ir_semantics.specs.Accepted.{is_narrow}
 use Rattle.ir_semantics.specs.Values.{number_of, by_endian, memory_read, address_at, bytes_read, loaded}
 use Rattle.ir_semantics.specs.Machine.{World, Trapped, Stuck}
-use Rattle.ir_semantics.specs.Effect.{Effect, Go, need, evaluated}
+use Rattle.ir_semantics.specs.Effect.{Go, need, evaluated}
 use Rattle.clk_num.specs.declared.op.TrapCode.TheVariants.{HeapOob}
 use Rattle.byte_store.specs.Bytes.{number_by}
 use Rattle.byte_store.specs.Cells.{bytes_at}
@@ -28,12 +29,11 @@ use Rattle.interp.specs.declared.state.Frame.{Frame}
 use Rattle.interp.specs.declared.state.Wait.{Wait}
 
 both : (a b : Bool) → IsTrue (a && b) → IsTrue a × IsTrue b
-both true b h = (tt, h)
-both false b h = elim h [ ]
+both true b h = (refl, h)
+both false b h = absurd (cc h)
 
 is_true : (b : Bool) → IsTrue b → b ≡ true
-is_true true h = refl
-is_true false h = elim h [ ]
+is_true b h = h
 
 pub first_fits : (l : Line) (ls : List Line) → IsTrue (lines_fit (l ∷ ls)) → IsTrue (line_fits l)
 first_fits l ls h = (both (line_fits l) (lines_fit ls) h).0
@@ -54,7 +54,11 @@ fewer n t h =
     ltb-true (8 * n) (bits_of (width_of t)) (is_true (nat_lt (8 * n) (bits_of (width_of t))) (both (n == 1 || n == 2 || n == 4) (nat_lt (8 * n) (bits_of (width_of t))) p).1)
 
 bits_most : (w : Width) → bits_of w ≤ 128
-bits_most w = elim w as (λ v. bits_of v ≤ 128) [ _ ↦ omega arith ]
+bits_most W8 = omega arith
+bits_most W16 = omega arith
+bits_most W32 = omega arith
+bits_most W64 = omega arith
+bits_most W128 = omega arith
 
 pub at_most : (n : ℕ) (t : Ty) → IsTrue (is_narrow n t) → n ≤ 16
 at_most n t h = let f = fewer n t h in let b = bits_most (width_of t) in omega arith

@@ -1,7 +1,7 @@
 -- What is found in a module before a run is what its runs rely on.
-use Rattle.std.proofs.Common.{◌≡◌, ℕ, zero, suc, ◌+◌, ◌-◌, ◌<◌, ◌≤◌, List, [], ◌∷◌, ◌++◌, length, map, Option, Some, None, get_or, slice_get, refl, arith, ap, ◌∙◌, sym, subst, inl, inr, Bool, true, false, ◌&&◌, take}
+use Rattle.std.proofs.Common.{◌≡◌, ℕ, zero, suc, ◌+◌, ◌-◌, ◌<◌, ◌≤◌, List, [], ◌∷◌, length, Option, Some, None, get_or, slice_get, refl, arith, ap, ◌∙◌, sym, inl, inr, Bool, true, false, ◌&&◌}
 use Rattle.std.specs.Prelude.{IsTrue, MatchOption}
-use Rattle.std.proofs.lemmas.List.{get_or-map, length-map, map_more}
+use Rattle.std.proofs.lemmas.List.{get_or-map, length-map}
 use Rattle.ir_core.specs.declared.declarations.Callee.{Callee}
 use Rattle.ir_core.specs.declared.names.FuncName.{FuncName}
 use Rattle.ir_core.specs.declared.places.Item.TheVariants as item
@@ -11,7 +11,7 @@ use Rattle.ir_core.specs.Lists.{In}
 use Rattle.ir_core.specs.Named.{place_of}
 use Rattle.ir_core.specs.Sound.{IsSound}
 use Rattle.ir_core.proofs.Indexing.{place_found}
-use Rattle.ir_semantics.specs.Accepted.{Counts, Types, InstructionCounts, InstructionTypes, FunctionAccepted, Accepted, count_mismatch, type_mismatch}
+use Rattle.ir_semantics.specs.Accepted.{InstructionCounts, InstructionTypes, FunctionAccepted, Accepted, count_mismatch, type_mismatch}
 use Rattle.interp.specs.Lines.{has_none, simple_fits, instruction_fits, line_fits, lines_fit}
 use Rattle.interp.specs.Linking.{LinksOf}
 use Rattle.interp.specs.State.{function_at, found_at, Linked}
@@ -21,38 +21,38 @@ use Rattle.interp.specs.declared.state.Program.{Program}
 -- ---- lines of an accepted module fit
 
 no_results : (vs : List ℕ) → length vs ≡ 0 → IsTrue (has_none vs)
-no_results [] h = tt
+no_results [] h = refl
 no_results (v ∷ vs) h = absurd (omega arith)
 
 simple_kept : (f : Function) (l : Line) (p : Simple) → InstructionCounts f l (Plain p) → InstructionTypes f l (Plain p) → IsTrue (simple_fits l.results p)
-simple_kept f l Nop c t = tt
-simple_kept f l (Const x) c t = tt
-simple_kept f l (Pure o args) c t = tt
-simple_kept f l (PureImm o a imm) c t = tt
+simple_kept f l Nop c t = refl
+simple_kept f l (Const x) c t = refl
+simple_kept f l (Pure o args) c t = refl
+simple_kept f l (PureImm o a imm) c t = refl
 simple_kept f l (Load access flags a offset) c t = t.2
 simple_kept f l (Store narrow flags v a offset) c t = no_results l.results c
-simple_kept f l (StackLoad t' k offset) c t = tt
-simple_kept f l (StackStore v k offset) c t = tt
-simple_kept f l (FuncAddr k) c t = tt
-simple_kept f l (Trap code) c t = tt
-simple_kept f l (Trapz v code) c t = tt
-simple_kept f l (Trapnz v code) c t = tt
+simple_kept f l (StackLoad t' k offset) c t = refl
+simple_kept f l (StackStore v k offset) c t = refl
+simple_kept f l (FuncAddr k) c t = refl
+simple_kept f l (Trap code) c t = refl
+simple_kept f l (Trapz v code) c t = refl
+simple_kept f l (Trapnz v code) c t = refl
 
 kept : (f : Function) (l : Line) (i : Instruction) → InstructionCounts f l i → InstructionTypes f l i → IsTrue (instruction_fits l.results i)
 kept f l (Plain p) c t = simple_kept f l p c t
-kept f l (Branches b) c t = tt
-kept f l SequencePoint c t = tt
-kept f l (Return vs) c t = tt
-kept f l (Call to args) c t = tt
-kept f l (ReturnCall to args) c t = tt
-kept f l (TryCall to sig args normal table) c t = tt
+kept f l (Branches b) c t = refl
+kept f l SequencePoint c t = refl
+kept f l (Return vs) c t = refl
+kept f l (Call to args) c t = refl
+kept f l (ReturnCall to args) c t = refl
+kept f l (TryCall to sig args normal table) c t = refl
 
 and_true : (a b : Bool) → IsTrue a → IsTrue b → IsTrue (a && b)
 and_true true b g h = h
-and_true false b g h = elim g [ ]
+and_true false b g h = cc g
 
 all_fit : (ls : List Line) → ((j : ℕ) (l : Line) → slice_get ls j ≡ Some l → IsTrue (line_fits l)) → IsTrue (lines_fit ls)
-all_fit [] h = tt
+all_fit [] h = refl
 all_fit (l ∷ ls) h = and_true (line_fits l) (lines_fit ls) (h 0 l refl) (all_fit ls (λ j k e. h (suc j) k e))
 
 there : (m : Module) (i : ℕ) → i < length m → In (function_at m i) m
@@ -90,8 +90,8 @@ linked p count sound found accepted = record {
   sound = sound;
   callees = λ i l lt. ap length (found i l lt).callees ∙ length-map (function_at p.module.now i).callees (λ (c : Callee). place_of c.name p.module.now);
   found = λ i k l d c lt lt'.
-    found_by_name p.module.now (get_or (function_at p.module.now i).callees k c).name
-    ∙ ap (found_at p.module.now) (sym (get_or-map (λ (c : Callee). place_of c.name p.module.now) (function_at p.module.now i).callees k c d lt') ∙ ap (λ xs. get_or xs k d) (sym (found i l lt).callees));
+      found_by_name p.module.now (get_or (function_at p.module.now i).callees k c).name
+      ∙ ap (found_at p.module.now) (sym (get_or-map (λ (c : Callee). place_of c.name p.module.now) (function_at p.module.now i).callees k c d lt') ∙ ap (λ xs. get_or xs k d) (sym (found i l lt).callees));
   fit = fit_of p.module.now accepted;
   blocks = λ i l lt. (found i l lt).blocks;
 }

@@ -1,5 +1,5 @@
 -- What a run gives, as the definition of runs has it.
-use Rattle.std.specs.Prelude.{List, map}
+use Rattle.std.specs.Prelude.{map}
 use Rattle.clk_num.specs.Views.{data_of_all}
 use Rattle.ir_semantics.specs.Machine as run
 use Rattle.ir_semantics.specs.Runs as runs

@@ -1,5 +1,5 @@
 -- The state of a run, as the definition's moment.
-use Rattle.std.specs.Prelude.{◌≡◌, ◌<◌, ℕ, zero, suc, List, [], ◌∷◌, map, reverse, length, Option, Some, None, Bool, true, false, if◌then◌else◌, slice_get, Vec, IsTrue}
+use Rattle.std.specs.Prelude.{◌≡◌, ◌<◌, ℕ, zero, suc, List, [], ◌∷◌, map, reverse, length, Option, Some, None, Bool, true, false, if◌then◌else◌, Vec, IsTrue}
 use Rattle.std.specs.declared.alloc.Global.{Global}
 use Rattle.ir_core.specs.declared.declarations.Callee.{Callee}
 use Rattle.ir_core.specs.Lookup.{find_function, find_block}
@@ -12,7 +12,7 @@ use Rattle.ir_core.specs.declared.signatures.Conv.TheVariants.{Fast}
 use Rattle.ir_core.specs.declared.instructions.InstData.{InstData}
 use Rattle.ir_core.specs.Module.{Simple, Block, Function, Module}
 use Rattle.ir_core.specs.Sound.{IsSound}
-use Rattle.ir_core.specs.Viewed.{line_of, instruction_of}
+use Rattle.ir_core.specs.Viewed.{line_of}
 use Rattle.ir_semantics.specs.Names.{names}
 use Rattle.ir_semantics.specs.Values.{Env}
 use Rattle.ir_semantics.specs.Machine as run

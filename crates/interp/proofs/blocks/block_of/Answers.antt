@@ -1,10 +1,8 @@
-use Rattle.std.proofs.Common.{◌≡◌, ◌∙◌, ap, sym, ◌<◌, ◌≤◌, length, map, rules, get_or}
+use Rattle.std.proofs.Common.{◌≡◌, ◌∙◌, ap, ◌<◌, length, map, rules}
 use Rattle.ir_core.specs.Viewed.{line_of}
-use Rattle.ir_core.specs.Module.{Function}
-use Rattle.ir_core.specs.Lookup.{find_block}
 use Rattle.interp.specs.State.{function_at}
 use Rattle.interp.specs.declared.state.Links.{Links}
-use Rattle.interp.proofs.Entering.{none_past, none_above, block_there, entered, at_found, sound_there}
+use Rattle.interp.proofs.Entering.{none_past, none_above, entered, sound_there}
 use Rattle.interp.proofs.blocks.block_of.Goals as goal
 
 pub returns-then-at-len : goal.returns-then-at-len

@@ -1,9 +1,8 @@
-use Rattle.std.proofs.Common.{◌≡◌, ◌∙◌, ◌<◌, length, ap, sym, true, false, map, rules, Some}
+use Rattle.std.proofs.Common.{◌∙◌, ◌<◌, length, ap, true, false, map, rules, Some}
 use Rattle.clk_num.specs.Views.{data_of_all}
 use Rattle.ir_core.specs.Viewed.{line_of}
-use Rattle.byte_store.specs.Cells.{bytes_at}
 use Rattle.interp.specs.State.{env_of, function_at}
-use Rattle.interp.proofs.Entering.{begin_past, begin_first, begun, entered, first_there}
+use Rattle.interp.proofs.Entering.{begin_past, begun, entered, first_there}
 use Rattle.interp.proofs.calls.begin.Goals as goal
 
 pub returns-then-at-len : goal.returns-then-at-len

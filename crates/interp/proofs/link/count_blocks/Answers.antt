@@ -7,5 +7,5 @@ use Rattle.interp.proofs.link.count_blocks.Goals as goal
 
 pub returns : goal.returns
 returns c =
-    count_from_yields_List c.blocks.result c.count.result c.count.ensures.ran (YieldsList-from_first (λ x. x) (λ left. left) (block_numbers c.args.func.now.function.blocks) c.blocks.ensures.numbers)
+    count_from_yields_List c.blocks-2.result c.count.result c.count.ensures.ran (YieldsList-from_first (λ x. x) (λ left. left) (block_numbers c.args.func.now.function.blocks) c.blocks-2.ensures.numbers)
     ∙ length-map c.args.func.now.function.blocks (λ (b : Block). b.number)

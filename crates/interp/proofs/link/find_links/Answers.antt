@@ -1,4 +1,4 @@
-use Rattle.std.proofs.Common.{◌≡◌, ◌∙◌, ap, sym, subst, map}
+use Rattle.std.proofs.Common.{◌∙◌, ap, sym, subst, map}
 use Rattle.ir_core.specs.declared.declarations.Callee.{Callee}
 use Rattle.ir_core.specs.Named.{place_of}
 use Rattle.ir_core.specs.Module.{Function}

@@ -1,5 +1,5 @@
 //! Scripts.
-use clk_num::{Bits, TrapCode};
+use clk_num::TrapCode;
 use ir_core::List;
 
 /// What a host function does, once its writes are made.
@@ -8,8 +8,8 @@ pub enum Act {
     /// It returns these numbers, each of which is to fit the type of a result.
     Return(List<i128>),
     Trap(TrapCode),
-    /// It throws an exception of the tag with two payloads, which have the width of `i64`.
-    Throw { tag: u32, p0: Bits, p1: Bits },
+    /// It throws an exception of the tag with two payloads.
+    Throw { tag: u32, p0: u64, p1: u64 },
 }
 
 /// The reply to one host call: first its writes, each an address and a byte, then what it does.

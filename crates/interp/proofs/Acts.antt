@@ -1,7 +1,7 @@
 -- What is done at a line.
-use Rattle.std.proofs.Common.{◌≡◌, ℕ, suc, zero, ◌+◌, ◌<◌, ◌≤◌, ◌≢◌, List, [], ◌∷◌, Option, Some, None, refl, arith, ap, ◌∙◌, sym, Bool, true, false}
+use Rattle.std.proofs.Common.{◌≡◌, ℕ, suc, zero, ◌+◌, ◌<◌, ◌≤◌, ◌≢◌, List, [], ◌∷◌, Option, Some, None, refl, arith, ap, ◌∙◌, sym, false}
 use Rattle.std.proofs.Common.{◌++◌, map, length, slice_get, get_or, take, drop, append-nil, append_assoc}
-use Rattle.std.proofs.lemmas.List.{map-append, reverse-append, take_more}
+use Rattle.std.proofs.lemmas.List.{reverse-append, take_more}
 use Rattle.std.proofs.Math.Seq.{take-length}
 use Rattle.std.proofs.lemmas.List.{take-append-drop}
 use Rattle.std.proofs.lemmas.Option.{slice_get_past, slice_get-get_or}
@@ -12,16 +12,14 @@ use Rattle.clk_num.specs.declared.width.Width.{Width}
 use Rattle.clk_num.specs.Rows.{row}
 use Rattle.clk_num.specs.Operations.{DataValue, Evaluation, NoRow, widths, within, meaning, operation}
 use Rattle.clk_num.specs.declared.bits.Bits.{Bits}
-use Rattle.clk_num.specs.declared.width.Width.TheVariants.{W64}
 use Rattle.clk_num.specs.Views.{data_of, data_of_all}
-use Rattle.ir_core.specs.declared.instructions.BlockCall.{BlockCall}
 use Rattle.ir_core.specs.declared.declarations.SlotDecl.{SlotDecl}
 use Rattle.ir_core.specs.Module.{Function, Module}
 use Rattle.ir_semantics.specs.Values.{i64, join}
-use Rattle.ir_semantics.specs.Machine.{Frame, Wait, World, Moment, Caught, Shown, User}
+use Rattle.ir_semantics.specs.Machine.{Wait, World, Moment, Caught, Shown, User}
 use Rattle.ir_semantics.specs.Step as step
 use Rattle.ir_semantics.specs.Effect.{Effect, choose}
-use Rattle.interp.specs.State.{function_at, frame_of, wait_of, waits_of, world_of}
+use Rattle.interp.specs.State.{function_at, wait_of, waits_of}
 use Rattle.interp.specs.declared.state.Wait.{Wait as CodeWait}
 use Rattle.interp.proofs.Entering.{at_past, at_found}
 
@@ -44,8 +42,8 @@ choose_second (suc n) a b h = absurd (omega arith)
 
 -- ---- exceptions
 
-pub payloads : (p q : Bits) → (p.width ≡ W64) × (q.width ≡ W64) → data_of_all (p ∷ q ∷ []) ≡ i64 p.value ∷ i64 q.value ∷ []
-payloads p q h = ap (λ w. record { width = w; value = p.value } ∷ data_of q ∷ []) h.0 ∙ ap (λ w. i64 p.value ∷ record { width = w; value = q.value } ∷ []) h.1
+pub payloads : (p q : Bits) (a b : ℕ) → data_of p ≡ i64 a → data_of q ≡ i64 b → data_of_all (p ∷ q ∷ []) ≡ i64 a ∷ i64 b ∷ []
+payloads p q a b e h = ap (λ x. x ∷ data_of q ∷ []) e ∙ ap (λ x. i64 a ∷ x ∷ []) h
 
 -- one more frame waits
 pub waits_push : (m : Module) (ys : List CodeWait) (y : CodeWait) → waits_of m (ys ++ y ∷ []) ≡ wait_of m y ∷ waits_of m ys

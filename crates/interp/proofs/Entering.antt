@@ -1,10 +1,9 @@
 -- Functions and blocks by their numbers.
-use Rattle.std.proofs.Common.{◌≡◌, ℕ, zero, suc, ◌+◌, ◌<◌, ◌≤◌, ◌≢◌, ◌⊎◌, List, [], ◌∷◌, length, map, Option, Some, None, get_or, slice_get, refl, arith, ap, ◌∙◌, sym, if◌then◌else◌, nat_eq, Bool, true, false, inl, inr, subst}
+use Rattle.std.proofs.Common.{◌≡◌, ℕ, zero, suc, ◌<◌, ◌≤◌, List, [], ◌∷◌, length, map, Option, Some, None, get_or, slice_get, refl, arith, ap, ◌∙◌, sym, if◌then◌else◌, nat_eq, Bool, true, false, inl, inr, subst}
 use Rattle.std.proofs.lemmas.Bool.{eq-eqb, ne_eqb, eqb-true}
 use Rattle.std.proofs.lemmas.List.{length-map}
 use Rattle.clk_num.specs.declared.bits.Bits.{Bits}
 use Rattle.clk_num.specs.Operations.{DataValue}
-use Rattle.clk_num.specs.Views.{data_of_all}
 use Rattle.ir_core.specs.declared.instructions.InstData.{InstData}
 use Rattle.ir_core.specs.declared.instructions.BlockCall.{BlockCall}
 use Rattle.ir_core.specs.Module.{Line, Block, Function, Module}
@@ -18,7 +17,7 @@ use Rattle.ir_semantics.specs.Values.{Env, Slots, bind, no_values, unwritten}
 use Rattle.ir_semantics.specs.Machine.{Frame, Wait, World, Moment, On, Over, Stuck}
 use Rattle.ir_semantics.specs.Step.{must, enter, enter_target, begin, frame_at}
 use Rattle.ir_semantics.specs.Effect.{target_at, go_to, arg_values, need, Enter}
-use Rattle.interp.specs.State.{function_at, nobody, some_if, on_if, frame_of, waits_of, env_of, done, moment}
+use Rattle.interp.specs.State.{function_at, nobody, some_if, on_if, frame_of, waits_of, env_of, done}
 use Rattle.interp.specs.declared.state.Frame.{Frame as CodeFrame}
 use Rattle.interp.specs.declared.state.Wait.{Wait as CodeWait}
 

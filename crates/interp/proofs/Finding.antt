@@ -1,12 +1,12 @@
 -- What a call of a callee declaration finds.
-use Rattle.std.proofs.Common.{◌≡◌, ℕ, ◌+◌, ◌<◌, ◌≤◌, List, [], ◌∷◌, length, Option, Some, None, slice_get, get_or, refl, ap, ◌∙◌, sym}
+use Rattle.std.proofs.Common.{◌≡◌, ℕ, ◌<◌, ◌≤◌, List, length, Option, Some, None, slice_get, get_or, ap, ◌∙◌, sym}
 use Rattle.std.proofs.lemmas.Option.{slice_get_past, slice_get-get_or}
 use Rattle.ir_core.specs.declared.declarations.Callee.{Callee}
 use Rattle.ir_core.specs.declared.signatures.Sig.{Sig}
 use Rattle.ir_core.specs.Module.{Function, Module}
 use Rattle.ir_core.specs.Lookup.{find_function}
 use Rattle.ir_semantics.specs.Effect.{ByName}
-use Rattle.ir_semantics.specs.Step.{Found, Missing, or_missing, by_name, found}
+use Rattle.ir_semantics.specs.Step.{Missing, or_missing, by_name, found}
 use Rattle.interp.specs.State.{function_at}
 use Rattle.interp.proofs.Entering.{at_past, at_found}
 

@@ -1,5 +1,5 @@
 -- Numbers as values of types, and what a host writes.
-use Rattle.std.proofs.Common.{◌≡◌, ◌≢◌, ℕ, zero, suc, ◌+◌, ◌<◌, ◌≤◌, List, [], ◌∷◌, ◌++◌, length, map, drop, Option, Some, None, Bool, true, false, if◌then◌else◌, get_or, refl, arith, ap, ◌∙◌, sym, drop-cons, add-one, append-nil, ℤ}
+use Rattle.std.proofs.Common.{◌≡◌, ◌≢◌, ℕ, suc, ◌+◌, ◌<◌, List, [], ◌∷◌, ◌++◌, length, drop, Option, Some, None, Bool, true, false, if◌then◌else◌, get_or, refl, arith, ap, ◌∙◌, sym, drop-cons, add-one, append-nil, ℤ}
 use Rattle.std.specs.Prelude.{is_some, IfSome}
 use Rattle.std.specs.Option.{option_map}
 use Rattle.std.proofs.Math.Seq.{drop-length}

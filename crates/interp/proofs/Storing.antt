@@ -1,12 +1,12 @@
 -- Writes to slots and to memory.
-use Rattle.std.proofs.Common.{◌≡◌, ℕ, zero, suc, ◌+◌, ◌<◌, ◌≤◌, ◌%◌, ℤ, List, [], ◌∷◌, ◌++◌, length, take, drop, set, Option, Some, None, Bool, true, false, nat_lt, ◌&&◌, get_or, drop-cons, add-one, refl, arith, ap, ◌∙◌, sym}
+use Rattle.std.proofs.Common.{◌≡◌, ℕ, suc, ◌+◌, ◌<◌, ◌≤◌, ℤ, List, [], ◌∷◌, ◌++◌, length, take, drop, set, Some, None, Bool, true, false, nat_lt, ◌&&◌, get_or, drop-cons, add-one, refl, arith, ap, ◌∙◌, sym}
 use Rattle.std.specs.Prelude.{Result, Ok, Err, OnOk, OnErr}
 use Rattle.clk_num.specs.Operations.{DataValue}
 use Rattle.ir_core.specs.declared.instructions.InstData.{InstData}
 use Rattle.ir_core.specs.Module.{Module, StackStore}
 use Rattle.ir_semantics.specs.Values.{Slots, slot_place, bytes_in, put_bytes, bytes_of, memory_write, by_endian}
 use Rattle.ir_semantics.specs.Machine.{World, Stuck}
-use Rattle.ir_semantics.specs.Effect.{Effect, need, Go}
+use Rattle.ir_semantics.specs.Effect.{need, Go}
 use Rattle.byte_store.specs.Cells.{bytes_at}
 use Rattle.byte_store.proofs.Bytes.{write_in, bytes_length}
 use Rattle.std.proofs.lemmas.List.{take-set, drop-set, take-append-drop}

@@ -1,5 +1,5 @@
 -- What a run gives, as the definition of runs has it.
-use Rattle.std.specs.Prelude.{List, map}
+use Rattle.std.specs.Prelude.{map}
 use Rattle.clk_num.specs.Views.{data_of_all}
 use Rattle.ir_semantics.specs.Machine as run
 use Rattle.ir_semantics.specs.Runs as runs
@@ -18,13 +18,13 @@ shown_of (Bytes bytes) = run.Bytes bytes
 abbrev pub event_of : Event → run.Event
 event_of (Host name args shown) = run.Host name (data_of_all args) (map shown_of shown)
 event_of (Point shown) = run.Point (map shown_of shown)
-event_of (Caught tag p0 p1 rank) = run.Caught tag p0.value p1.value rank
+event_of (Caught tag p0 p1 rank) = run.Caught tag p0 p1 rank
 
 abbrev pub end_of : End → run.End
 end_of Going = run.Going
 end_of (Returned values) = run.Returned (data_of_all values)
 end_of (Trapped code) = run.Trapped code
-end_of (Threw tag p0 p1) = run.Threw tag p0.value p1.value
+end_of (Threw tag p0 p1) = run.Threw tag p0 p1
 end_of Unwritten = run.Unwritten
 end_of ScriptEnded = run.ScriptEnded
 end_of BadReply = run.BadReply

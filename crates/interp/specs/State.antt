@@ -1,8 +1,8 @@
 -- The state of a run, as the definition's moment.
-use Rattle.std.specs.Prelude.{◌≡◌, ◌<◌, ℕ, zero, suc, List, [], ◌∷◌, map, reverse, length, Option, Some, None, Bool, true, false, if◌then◌else◌, slice_get, Vec}
+use Rattle.std.specs.Prelude.{◌≡◌, ◌<◌, ℕ, zero, suc, List, [], ◌∷◌, map, reverse, length, Option, Some, None, Bool, true, false, if◌then◌else◌, Vec, IsTrue}
 use Rattle.std.specs.declared.alloc.Global.{Global}
 use Rattle.ir_core.specs.declared.declarations.Callee.{Callee}
-use Rattle.ir_core.specs.Lookup.{find_function}
+use Rattle.ir_core.specs.Lookup.{find_function, find_block}
 use Rattle.std.specs.Option.{option_map}
 use Rattle.std.proofs.Common.{get_or}
 use Rattle.clk_num.specs.declared.bits.Bits.{Bits}
@@ -12,7 +12,7 @@ use Rattle.ir_core.specs.declared.signatures.Conv.TheVariants.{Fast}
 use Rattle.ir_core.specs.declared.instructions.InstData.{InstData}
 use Rattle.ir_core.specs.Module.{Simple, Block, Function, Module}
 use Rattle.ir_core.specs.Sound.{IsSound}
-use Rattle.ir_core.specs.Viewed.{line_of, instruction_of}
+use Rattle.ir_core.specs.Viewed.{line_of}
 use Rattle.ir_semantics.specs.Names.{names}
 use Rattle.ir_semantics.specs.Values.{Env}
 use Rattle.ir_semantics.specs.Machine as run
@@ -20,6 +20,7 @@ use Rattle.ir_semantics.specs.Effect as does
 use Rattle.ir_semantics.specs.Step as step
 use Rattle.byte_store.specs.Cells.{cell_of, bytes_at}
 use Rattle.host_script.specs.Script.{reply_of}
+use Rattle.interp.specs.Lines.{lines_fit}
 use Rattle.interp.specs.Outcome.{shown_of, event_of, end_of}
 use Rattle.interp.specs.declared.outcome.Shown.{Shown}
 use Rattle.interp.specs.declared.state.Target.{Target}
@@ -93,6 +94,7 @@ pub record Linked (p : Program) : Type 0 where
   pub sound : (i : ℕ) → i < length p.module.now → IsSound (function_at p.module.now i)
   pub callees : (i : ℕ) (l : Links) → i < length p.module.now → length (get_or p.links.items i l).callees.items ≡ length (function_at p.module.now i).callees
   pub found : (i k : ℕ) (l : Links) (d : Option ℕ) (c : Callee) → i < length p.module.now → k < length (function_at p.module.now i).callees → find_function (get_or (function_at p.module.now i).callees k c).name p.module.now ≡ found_at p.module.now (get_or (get_or p.links.items i l).callees.items k d)
+  pub fit : (i b : ℕ) (k : Block) → i < length p.module.now → find_block b (function_at p.module.now i).blocks ≡ Some k → IsTrue (lines_fit k.lines)
   pub blocks : (i : ℕ) (l : Links) → i < length p.module.now → (get_or p.links.items i l).blocks ≡ length (function_at p.module.now i).blocks
 
 -- what is done at a line that the frame on top is past, where it has this effect

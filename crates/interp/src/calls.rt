@@ -37,6 +37,7 @@ pub fn begin<'m>(
     args: &[Bits],
     extra: Vec<u32>,
 ) -> Result<Option<Frame<'m>>, AllocError>
+    requires linked { Linked program.now }
     ensures { IfOk result (λ o. frame_if program.now.module.now o ≡ step.begin (function_at program.now.module.now at) (data_of_all args.now) extra.items) }
 {
     let module = program.module;
@@ -144,6 +145,7 @@ pub fn call<'m>(
     at: usize,
     args: &[Bits],
 ) -> Result<Option<Stop>, AllocError>
+    requires linked { Linked program.now }
     ensures { IfOk result (λ r. (w : RunWorld) → moment program.now.module.now top.new below.new.items w r ≡ step.must w (step.begin (function_at program.now.module.now at) (data_of_all args.now) []) Stuck (λ y. On y (record { line = line_of line.now; frame = frame_of program.now.module.now top.old } ∷ waits_of program.now.module.now below.old.items) w)) }
 {
     let Some(frame) = begin(alloc, program, at, args, Vec::new(alloc))? else {
@@ -163,6 +165,7 @@ pub fn return_call<'m>(
     args: &[Bits],
     extra: Vec<u32>,
 ) -> Result<Option<Stop>, AllocError>
+    requires linked { Linked program.now }
     ensures { IfOk result (λ r. (below : List DeclaredWait) (w : RunWorld) → moment program.now.module.now top.new below w r ≡ step.must w (step.begin (function_at program.now.module.now at) (data_of_all args.now) extra.items) Stuck (λ y. On y (waits_of program.now.module.now below) w)) }
 {
     let Some(frame) = begin(alloc, program, at, args, extra)? else {

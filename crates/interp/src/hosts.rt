@@ -1,8 +1,7 @@
 //! What host functions reply.
 ghost use Rattle.std.specs.Prelude.{◌≡◌, true, length, map, IfOk};
-ghost use Rattle.ir_core.specs.Lists.{Each};
 ghost use Rattle.ir_semantics.specs.Step as step;
-ghost use Rattle.host_script.specs.Script.{reply_of, ReplyHasWords};
+ghost use Rattle.host_script.specs.Script.{reply_of};
 ghost use Rattle.std.specs.Option.{option_map};
 ghost use Rattle.clk_num.specs.Views.{data_of, data_of_all};
 ghost use Rattle.ir_core.specs.Lookup.{param_types};
@@ -82,7 +81,6 @@ pub fn reply<'m>(
     xs: &mut Vec<Bits>,
 ) -> Result<Option<Stop>, AllocError>
     requires linked { Linked program.now }
-    requires words { Each ReplyHasWords world.old.replies.now }
     ensures { IfOk result (λ r. moment program.now.module.now top.new below.new.items (world_of world.new) r ≡ step.reply sig.now (waits_of program.now.module.now below.old.items) (world_of world.old) (map reply_of world.old.replies.now)) }
 {
     let replies = world.replies;

@@ -2,11 +2,10 @@
 ghost use Rattle.std.specs.Prelude.{◌≡◌, ◌∷◌, [], map, IfOk, OnOk};
 ghost use Rattle.ir_core.specs.Module.{Module as RunModule};
 ghost use Rattle.clk_num.specs.Views.{data_of_all};
-ghost use Rattle.ir_core.specs.Lists.{Each};
 ghost use Rattle.ir_core.specs.Viewed.{line_of};
 ghost use Rattle.ir_semantics.specs.Machine.{Host};
 ghost use Rattle.ir_semantics.specs.Step as step;
-ghost use Rattle.host_script.specs.Script.{reply_of, ReplyHasWords};
+ghost use Rattle.host_script.specs.Script.{reply_of};
 ghost use Rattle.interp.specs.Outcome.{shown_of};
 ghost use Rattle.interp.specs.State.{frame_of, waits_of, world_of, moment, target_of, Linked};
 
@@ -35,7 +34,6 @@ fn call_host<'m>(
     xs: &mut Vec<Bits>,
 ) -> Result<Option<Stop>, AllocError>
     requires linked { Linked program.now }
-    requires words { Each ReplyHasWords world.old.replies.now }
     ensures { IfOk result (λ r. moment program.now.module.now top.new below.new.items (world_of world.new) r ≡ step.reply sig.now (waits_of program.now.module.now below.old.items) (step.with_event (world_of world.old) (Host name.now (data_of_all values.old.items) (map shown_of shown.items))) (map reply_of world.old.replies.now)) }
 {
     let args = Vec::from_slice(alloc, values.as_slice())?;
@@ -83,7 +81,6 @@ pub fn invoke<'m>(
     xs: &mut Vec<Bits>,
 ) -> Result<Option<Stop>, AllocError>
     requires linked { Linked program.now }
-    requires words { Each ReplyHasWords world.old.replies.now }
     ensures { IfOk result (λ r. let m = program.now.module.now in let s = record { line = line_of line.now; frame = frame_of m top.old } ∷ waits_of m below.old.items in moment m top.new below.new.items (world_of world.new) r ≡ step.invoke (target_of m target.entry) (data_of_all values.old.items) [] (step.shown s) s (world_of world.old)) }
 {
     match target {
@@ -120,7 +117,6 @@ pub fn invoke_tail<'m>(
     xs: &mut Vec<Bits>,
 ) -> Result<Option<Stop>, AllocError>
     requires linked { Linked program.now }
-    requires words { Each ReplyHasWords world.old.replies.now }
     ensures { IfOk result (λ r. let m = program.now.module.now in let s = waits_of m below.old.items in moment m top.new below.new.items (world_of world.new) r ≡ step.invoke (target_of m target.entry) (data_of_all values.old.items) extra.items (step.shown (record { line = line_of line.now; frame = frame_of m top.old } ∷ s)) s (world_of world.old)) }
 {
     match target {

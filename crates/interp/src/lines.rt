@@ -1,11 +1,9 @@
 //! Instructions that return, call or show.
 ghost use Rattle.std.specs.Prelude.{◌≡◌, true, false, IfOk};
-ghost use Rattle.ir_core.specs.Lists.{Each};
 ghost use Rattle.ir_core.specs.Module.{Direct};
 ghost use Rattle.ir_semantics.specs.Values.{all_of};
 ghost use Rattle.ir_semantics.specs.Machine.{World as RunWorld, Stuck};
 ghost use Rattle.ir_semantics.specs.Effect.{ShowTags, Give, need, calls};
-ghost use Rattle.host_script.specs.Script.{ReplyHasWords};
 ghost use Rattle.interp.specs.State.{env_of, world_of, moment, done, Linked};
 
 use crate::calls::{find_callee, join_numbers, resume};
@@ -74,7 +72,6 @@ pub fn call_callee<'m>(
     xs: &mut Vec<Bits>,
 ) -> Result<Option<Stop>, AllocError>
     requires linked { Linked program.now }
-    requires words { Each ReplyHasWords world.old.replies.now }
     ensures { IfOk result (λ r. moment program.now.module.now top.new below.new.items (world_of world.new) r ≡ done program.now.module.now top.old below.old.items (world_of world.old) line.now (calls (env_of top.old.values) (Direct callee) args.now false)) }
 {
     if !read_all(&top.values, args, values)? {
@@ -99,7 +96,6 @@ pub fn tail_call_callee<'m>(
     xs: &mut Vec<Bits>,
 ) -> Result<Option<Stop>, AllocError>
     requires linked { Linked program.now }
-    requires words { Each ReplyHasWords world.old.replies.now }
     ensures { IfOk result (λ r. moment program.now.module.now top.new below.new.items (world_of world.new) r ≡ done program.now.module.now top.old below.old.items (world_of world.old) line.now (calls (env_of top.old.values) (Direct callee) args.now true)) }
 {
     if !read_all(&top.values, args, values)? {

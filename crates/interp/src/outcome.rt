@@ -23,12 +23,11 @@ pub enum Event {
     Point {
         shown: List<Shown>,
     },
-    /// An exception was caught. The payloads are of the width of `i64`. `rank` is the number of table entries that were
-    /// passed before the one that took it.
+    /// An exception was caught. `rank` is the number of table entries that were passed before the one that took it.
     Caught {
         tag: u32,
-        p0: Bits,
-        p1: Bits,
+        p0: u64,
+        p1: u64,
         rank: u128,
     },
 }
@@ -39,7 +38,7 @@ pub enum End {
     Going,
     Returned(List<Bits>),
     Trapped(TrapCode),
-    Threw { tag: u32, p0: Bits, p1: Bits },
+    Threw { tag: u32, p0: u64, p1: u64 },
     /// A byte of a slot was read or shown before it was written.
     Unwritten,
     /// A host call found no reply left.

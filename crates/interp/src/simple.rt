@@ -32,7 +32,7 @@ pub fn give_results(
 }
 
 /// The results get what an operation gives.
-fn compute(
+pub fn compute(
     frame: &mut Frame,
     line: &InstData,
     op: Op,

@@ -1,4 +1,8 @@
 //! The state of a run.
+ghost use Rattle.std.specs.Prelude.{IsTrue, map};
+ghost use Rattle.ir_core.specs.Viewed.{line_of};
+ghost use Rattle.interp.specs.Lines.{lines_fit};
+
 use crate::outcome::{End, Event};
 use byte_store::{Cells, Memory, Slots};
 use clk_num::Bits;
@@ -31,6 +35,7 @@ pub struct Frame<'m> {
     pub values: Cells<Bits>,
     pub slots: Slots,
     pub extra: Vec<u32>,
+    pub ghost fit: { IsTrue (lines_fit (map line_of rest.now)) },
 }
 
 /// A frame that waits at a call.
@@ -60,6 +65,7 @@ pub enum Stop {
 pub struct Entry<'m> {
     pub params: &'m [Value],
     pub lines: &'m [InstData],
+    pub ghost fit: { IsTrue (lines_fit (map line_of lines.now)) },
 }
 
 /// What the search in the tables of a throw has found: the number of entries that were passed, with the target of the one

@@ -1,6 +1,6 @@
 //! Exceptions.
 ghost use Rattle.std.specs.Prelude.{◌≡◌, ◌+◌, ◌<◌, ◌≤◌, ◌^◌, ◌∷◌, [], IfOk, List};
-ghost use Rattle.clk_num.specs.declared.width.Width.TheVariants.{W64};
+ghost use Rattle.clk_num.specs.Views.{data_of};
 ghost use Rattle.ir_core.specs.Viewed.{instruction_of};
 ghost use Rattle.ir_semantics.specs.Values.{i64};
 ghost use Rattle.ir_semantics.specs.Machine.{World as RunWorld};
@@ -11,7 +11,7 @@ ghost use Rattle.interp.specs.State.{frame_of, world_of, waits_of, moment, searc
 use crate::blocks::enter_target;
 use crate::outcome::{End, Event};
 use crate::state::{Frame, Program, Search, Stop, Wait, World};
-use clk_num::Bits;
+use clk_num::{Bits, Width};
 use exn_tables::Entry;
 use ir_core::{BlockCall, Inst, InstData};
 use std::alloc::AllocError;
@@ -52,13 +52,12 @@ pub fn throw<'m>(
     below: &mut Vec<Wait<'m>>,
     world: &mut World<'m>,
     tag: u32,
-    p0: Bits,
-    p1: Bits,
+    p0: u64,
+    p1: u64,
     xs: &mut Vec<Bits>,
 ) -> Result<Option<Stop>, AllocError>
     requires linked { Linked program.now }
-    requires words { (p0.width ≡ W64) × (p1.width ≡ W64) }
-    ensures { IfOk result (λ r. moment program.now.module.now top.new below.new.items (world_of world.new) r ≡ step.throw tag p0.value p1.value (waits_of program.now.module.now below.old.items) 0 (world_of world.old)) }
+    ensures { IfOk result (λ r. moment program.now.module.now top.new below.new.items (world_of world.new) r ≡ step.throw tag p0 p1 (waits_of program.now.module.now below.old.items) 0 (world_of world.old)) }
 {
     let mut rank = 0u128;
     'waits: while let Some(wait) = below.pop() {
@@ -81,20 +80,30 @@ pub fn throw<'m>(
     Ok(Some(Stop::At(End::Threw { tag, p0, p1 })))
 }
 
+/// A payload as a value.
+fn word(payload: u64) -> Bits
+    ensures { data_of result ≡ i64 payload }
+{
+    Bits {
+        width: Width::W64,
+        value: u128::from(payload),
+    }
+}
+
 /// Enters the target of an entry that takes an exception.
 fn catch<'m>(
     program: &Program<'m>,
     frame: &mut Frame<'m>,
     target: &BlockCall,
-    p0: Bits,
-    p1: Bits,
+    p0: u64,
+    p1: u64,
     xs: &mut Vec<Bits>,
 ) -> Result<Option<Stop>, AllocError>
     requires linked { Linked program.now }
-    requires words { (p0.width ≡ W64) × (p1.width ≡ W64) }
-    ensures { IfOk result (λ r. (below : List DeclaredWait) (w : RunWorld) → moment program.now.module.now frame.new below w r ≡ step.enter_target (frame_of program.now.module.now frame.old) target.now [] (i64 p0.value ∷ i64 p1.value ∷ []) (waits_of program.now.module.now below) w) }
+    ensures { IfOk result (λ r. (below : List DeclaredWait) (w : RunWorld) → moment program.now.module.now frame.new below w r ≡ step.enter_target (frame_of program.now.module.now frame.old) target.now [] (i64 p0 ∷ i64 p1 ∷ []) (waits_of program.now.module.now below) w) }
 {
-    if enter_target(program, frame, target, &[], &[p0, p1], xs)? {
+    let payloads = [word(p0), word(p1)];
+    if enter_target(program, frame, target, &[], &payloads, xs)? {
         Ok(None)
     } else {
         Ok(Some(Stop::Stuck))

@@ -1,4 +1,4 @@
-use Rattle.std.proofs.Common.{◌≡◌, ◌∙◌, ap, sym, ◌+◌, ◌%◌, ◌^◌, of_z, to_z-of_z, FitsSigned}
+use Rattle.std.proofs.Common.{◌≡◌, ◌∙◌, ap, ◌+◌, ◌%◌, ◌^◌, of_z, to_z-of_z, FitsSigned}
 use Rattle.std.specs.Int.{w64}
 use Rattle.interp.proofs.Addresses.{address_is}
 use Rattle.interp.proofs.accesses.address_of.Goals as goal

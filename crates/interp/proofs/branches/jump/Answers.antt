@@ -1,8 +1,6 @@
-use Rattle.std.proofs.Common.{true, false, []}
-use Rattle.ir_semantics.specs.Effect.{go_to}
-use Rattle.ir_semantics.specs.Step.{enter_target}
-use Rattle.interp.specs.State.{frame_of, waits_of, env_of}
-use Rattle.interp.proofs.Entering.{on_is, went}
+use Rattle.std.proofs.Common.{true, false}
+use Rattle.interp.specs.State.{waits_of}
+use Rattle.interp.proofs.Entering.{went}
 use Rattle.interp.proofs.branches.jump.Goals as goal
 
 pub returns-then-branch : goal.returns-then-branch

@@ -1,4 +1,4 @@
-use Rattle.std.proofs.Common.{◌∙◌, ◌<◌, ◌≤◌, length, rules}
+use Rattle.std.proofs.Common.{◌∙◌}
 use Rattle.interp.proofs.Entering.{target_in, target_past}
 use Rattle.interp.proofs.branches.pick.Goals as goal
 

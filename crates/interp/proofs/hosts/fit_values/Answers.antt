@@ -1,4 +1,4 @@
-use Rattle.std.proofs.Common.{◌≡◌, ◌∙◌, ap, sym, rules, length, get_or, pos, to_z, of_z}
+use Rattle.std.proofs.Common.{◌≡◌, ◌∙◌, ap, rules, length, get_or, pos, to_z, of_z}
 use Rattle.std.specs.Int.{w128}
 use Rattle.clk_num.specs.Views.{data_of_all}
 use Rattle.ir_core.specs.declared.signatures.Param.{Param}

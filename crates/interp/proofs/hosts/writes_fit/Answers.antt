@@ -1,4 +1,4 @@
-use Rattle.std.proofs.Common.{◌≡◌, ◌∙◌, ap, sym, rules, length, ◌<◌, ◌≤◌, get_or}
+use Rattle.std.proofs.Common.{◌∙◌, rules, get_or}
 use Rattle.std.proofs.lemmas.Bool.{le-ltb, lt-ltb}
 use Rattle.interp.proofs.Storing.{outside_at, inside_at, fit_end}
 use Rattle.interp.proofs.hosts.writes_fit.Goals as goal

@@ -1,4 +1,4 @@
-use Rattle.std.proofs.Common.{◌≡◌, ◌∙◌, ap, sym, ◌+◌, None, Option, Bool, map}
+use Rattle.std.proofs.Common.{◌∙◌, ap, sym, ◌+◌, None, map}
 use Rattle.ir_core.specs.Viewed.{line_of}
 use Rattle.interp.specs.Outcome.{shown_of}
 use Rattle.interp.specs.State.{some_if, frame_of}

@@ -1,4 +1,4 @@
-use Rattle.std.proofs.Common.{◌≡◌, ◌∙◌, ap, sym, ◌<◌, ◌≤◌, length, get_or, rules}
+use Rattle.std.proofs.Common.{ap, ◌<◌, ◌≤◌, length, get_or, rules}
 use Rattle.ir_core.specs.declared.declarations.SlotDecl.{SlotDecl}
 use Rattle.interp.proofs.Acts.{size_past, size_none, size_some}
 use Rattle.interp.proofs.shows.slot_size.Goals as goal

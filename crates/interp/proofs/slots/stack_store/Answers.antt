@@ -1,4 +1,4 @@
-use Rattle.std.proofs.Common.{◌≡◌, ◌∙◌, ap, sym, rules, Some}
+use Rattle.std.proofs.Common.{◌≡◌, ◌∙◌, rules, Some}
 use Rattle.clk_num.specs.Views.{data_of}
 use Rattle.ir_semantics.specs.Values.{slot_place, bytes_in, put_bytes, bytes_of}
 use Rattle.byte_store.specs.Cells.{bytes_at}

@@ -1,0 +1,67 @@
+//! The names of one function, and its first faults.
+ghost use Rattle.std.specs.Prelude.{◌≡◌, IfOk};
+ghost use Rattle.clif_names.specs.Faults.{FunctionFault};
+ghost use Rattle.clif_names.specs.FunctionNames.{AreNamesOf};
+ghost use Rattle.clif_names.specs.LeastSpots.{AreLeast};
+ghost use Rattle.clif_names.specs.Using.{uses_of};
+
+use crate::aliases::{endless, links};
+use crate::least::LeastSpots;
+use crate::links::{End, ends};
+use crate::tables::Tables;
+use crate::uses::Uses;
+use clif_read::RawFunction;
+use std::alloc::{AllocError, Global};
+
+/// The names of a function: its words by kind, and what its alias lines stand for.
+#[derive(Drop)]
+pub struct FunctionNames {
+    pub uses: Uses,
+    /// How the chain of each value's word ends.
+    pub ends: Vec<End>,
+    /// The least spot of an alias line whose chain never ends.
+    pub endless: Option<usize>,
+}
+
+impl FunctionNames {
+    /// The names of a function. Takes time linear in the function's text.
+    pub fn of(alloc: Global, func: &RawFunction) -> Result<FunctionNames, AllocError>
+        ensures { IfOk result (λ names. AreNamesOf func.now names) }
+    {
+        let tables = Tables::of_definitions(alloc, func)?;
+        let links = links(alloc, &tables.values.words, tables.firsts.as_slice())?;
+        let ends = ends(alloc, &links)?;
+        let endless = endless(tables.firsts.as_slice(), &ends);
+        let mut uses = begun(tables);
+        uses.use_function(&ends, func);
+        Ok(FunctionNames {
+            uses,
+            ends,
+            endless,
+        })
+    }
+
+    /// The least spots of the function's faults.
+    pub(crate) fn least(&self, func: &RawFunction) -> LeastSpots
+        requires { AreNamesOf func.now self.now }
+        ensures { AreLeast (FunctionFault func.now) result }
+    {
+        LeastSpots::of_function(&self.uses, self.endless, func)
+    }
+}
+
+/// The words of a function before any use.
+fn begun(tables: Tables) -> Uses
+    ensures { result ≡ uses_of tables }
+{
+    Uses {
+        slots: tables.slots,
+        sigs: tables.sigs,
+        callees: tables.callees,
+        blocks: tables.blocks,
+        values: tables.values,
+        outside: None,
+        defined: 0,
+        untyped: None,
+    }
+}

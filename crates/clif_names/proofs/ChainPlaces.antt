@@ -41,8 +41,9 @@ look_place (d ∷ fs) n = elim (eqb_tells n d.name.number) [ inl t ↦ rw t.0 re
 pub look_number : (fs : List Def) (n : ℕ) (d : Def) → look fs n ≡ Some d → d.name.number ≡ n
 look_number [] n d h = absurd cc
 look_number (x ∷ fs) n d h = elim (eqb_tells n x.name.number) [
-    inl t ↦ (let k = rw t.0 at h in let e : x ≡ d = cc in sym (ap number e) ∙ sym t.1)
-  | inr f ↦ (let k = rw f.0 at h in look_number fs n d k) ]
+  | inl t ↦ (let k = rw t.0 at h in let e : x ≡ d = cc in sym (ap number e) ∙ sym t.1)
+  | inr f ↦ (let k = rw f.0 at h in look_number fs n d k)
+]
 
 abbrev pub end_of : List ℕ → Ending → End
 end_of ws (Ends e) = At (place ws e.name.number)
@@ -64,11 +65,13 @@ module _ (fs : List Def) where
   step_to : (k i : ℕ) (m : RawName) → ((d : Def) → look fs m.number ≡ Some d → places.chain links k (place ws m.number) ≡ option_map (end_of ws) (chain fs k d))
       → places.follow (to_place (position (nat_eq m.number) ws)) i (places.chain links k) ≡ option_map (end_of ws) (or_lost (look fs m.number) (chain fs k))
   step_to k i m rest = elim (leb_tells (suc (place ws m.number)) (length ws)) [
-      inl t ↦ rw t.0 (found (look fs m.number) refl t.1)
-    | inr f ↦ rw (f.0, none f.1) refl ]
+    | inl t ↦ rw t.0 (found (look fs m.number) refl t.1)
+    | inr f ↦ rw (f.0, none f.1) refl
+  ]
     where
       none : length ws < suc (place ws m.number) → look fs m.number ≡ None
       none gt = sym (look_place fs m.number) ∙ slice_get_past fs (place ws m.number) (omega (arith, length-map fs number))
+
       found : (r : Option Def) → look fs m.number ≡ r → place ws m.number < length ws → places.chain links k (place ws m.number) ≡ option_map (end_of ws) (or_lost (look fs m.number) (chain fs k))
       found (Some d) e lt = rw e (rest d e)
       found None e lt = absurd (let within : place ws m.number < length fs = omega (arith, length-map fs number) in let k = slice_get-get_or fs (place ws m.number) (record { name = m; target = None }) within in let j = look_place fs m.number in cc)
@@ -92,8 +95,9 @@ pub record Firsts (defs : List Def) (t : Tables) : Type 0 where
 
 has_look : (fs : List Def) (n p : ℕ) → position (nat_eq n) (map number fs) ≡ Some p → (d : Def) × (look fs n ≡ Some d)
 has_look fs n p h = elim (leb_tells (suc (place (map number fs) n)) (length (map number fs))) [
-    inl t ↦ by (look fs n) refl t.1
-  | inr f ↦ absurd (let k = rw f.0 at h in cc) ]
+  | inl t ↦ by (look fs n) refl t.1
+  | inr f ↦ absurd (let k = rw f.0 at h in cc)
+]
   where
     by : (o : Option Def) → look fs n ≡ o → place (map number fs) n < length (map number fs) → (d : Def) × (look fs n ≡ Some d)
     by (Some d) e lt = (d, e)
@@ -106,15 +110,17 @@ or_none (Some x) = refl
 
 own_front : (ws : List ℕ) (y n i : ℕ) → place ws n ≡ i → i < length ws → place (ws ++ y ∷ []) n ≡ i
 own_front ws y n i e h = elim (eqb_tells (place ws n) (length ws)) [
-    inl s ↦ absurd (let q : place ws n ≡ length ws = s.1 in omega arith)
-  | inr d ↦ position_or_len_push (nat_eq n) ws y ∙ rw d.0 e ]
+  | inl s ↦ absurd (let q : place ws n ≡ length ws = s.1 in omega arith)
+  | inr d ↦ position_or_len_push (nat_eq n) ws y ∙ rw d.0 e
+]
 
 own_last : (ws : List ℕ) (n : ℕ) → position (nat_eq n) ws ≡ None → place (ws ++ n ∷ []) n ≡ length ws
 own_last ws n e =
     let end = at_end (nat_eq n) ws e in
     position_or_len_push (nat_eq n) ws n ∙ elim (eqb_tells (place ws n) (length ws)) [
-      inl s ↦ rw (s.0, eq-eqb n n refl) (omega arith)
-    | inr d ↦ absurd (d.1 end) ]
+      | inl s ↦ rw (s.0, eq-eqb n n refl) (omega arith)
+      | inr d ↦ absurd (d.1 end)
+    ]
 
 pub firsts_next : (defs : List Def) (t : Tables) (d : Def) → Firsts defs t → Firsts (defs ++ d ∷ []) (define_value t d)
 unfolding define_value declare
@@ -124,16 +130,18 @@ firsts_next defs t d h = by (position (nat_eq d.name.number) t.values.words) ref
     by (Some p) e = rw e (record {
       words = h.words;
       looks = λ n. find-append (λ (x : Def). nat_eq n x.name.number) defs (d ∷ []) ∙ rw (h.looks n) (elim (eqb_tells n d.name.number) [
-          inl s ↦ (let q = has_look t.firsts n p (rw (s.1, h.words) e) in rw (q.1) refl)
-        | inr f ↦ rw f.0 (or_none (look t.firsts n)) ]);
+        | inl s ↦ (let q = has_look t.firsts n p (rw (s.1, h.words) e) in rw (q.1) refl)
+        | inr f ↦ rw f.0 (or_none (look t.firsts n))
+      ]);
       own = h.own;
     })
     by None e = rw e (record {
       words = map_push number t.firsts d ∙ ap (λ (l : List ℕ). l ++ d.name.number ∷ []) h.words;
       looks = λ n. find-append (λ (x : Def). nat_eq n x.name.number) defs (d ∷ []) ∙ rw (h.looks n) (sym (find-append (λ (x : Def). nat_eq n x.name.number) t.firsts (d ∷ [])));
       own = λ i x at. rw (map_push number t.firsts d) (elim (get_push t.firsts d i x at) [
-          inl a ↦ own_front (map number t.firsts) d.name.number x.name.number i (h.own i x a) (let w : i < length t.firsts = slice_get_within t.firsts i x a in omega (arith, length-map t.firsts number))
-        | inr b ↦ rw (b.1, b.0) (own_last (map number t.firsts) d.name.number (rw h.words e) ∙ length-map t.firsts number) ]);
+        | inl a ↦ own_front (map number t.firsts) d.name.number x.name.number i (h.own i x a) (let w : i < length t.firsts = slice_get_within t.firsts i x a in omega (arith, length-map t.firsts number))
+        | inr b ↦ rw (b.1, b.0) (own_last (map number t.firsts) d.name.number (rw h.words e) ∙ length-map t.firsts number)
+      ]);
     })
 
 pub firsts_all : (defs more : List Def) (t : Tables) → Firsts defs t → Firsts (defs ++ more) (fold define_value t more)
@@ -152,6 +160,7 @@ chain_same defs fs same (suc k) d = by d.target (λ e. chain_same defs fs same k
     lost : (o : Option Def) → ((e : Def) → chain defs k e ≡ chain fs k e) → or_lost o (chain defs k) ≡ or_lost o (chain fs k)
     lost None rest = refl
     lost (Some e) rest = rest e
+
     by : (t : Option RawName) → ((e : Def) → chain defs k e ≡ chain fs k e) → onward t d (λ m. or_lost (look defs m.number) (chain defs k)) ≡ onward t d (λ m. or_lost (look fs m.number) (chain fs k))
     by None rest = refl
     by (Some m) rest = rw (same m.number) (lost (look fs m.number) rest)

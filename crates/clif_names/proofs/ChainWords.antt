@@ -32,8 +32,9 @@ one_end links (suc k) (suc j) i a b h g = by (get_or links i Value) h g (λ n. o
 
 position_place : (ws : List ℕ) (n p : ℕ) → position (nat_eq n) ws ≡ Some p → (p ≡ place ws n) × (p < length ws)
 position_place ws n p h = elim (leb_tells (suc (place ws n)) (length ws)) [
-    inl t ↦ (let k = rw t.0 at h in let e : place ws n ≡ p = cc in (sym e, let l : suc (place ws n) ≤ length ws = t.1 in omega arith))
-  | inr f ↦ absurd (let k = rw f.0 at h in cc) ]
+  | inl t ↦ (let k = rw t.0 at h in let e : place ws n ≡ p = cc in (sym e, let l : suc (place ws n) ≤ length ws = t.1 in omega arith))
+  | inr f ↦ absurd (let k = rw f.0 at h in cc)
+]
 
 module _ (fs : List Def) (ends : List End) (right : places.AreEnds (map (link_of (map number fs)) fs) ends) where
   abbrev ws : List ℕ
@@ -64,16 +65,22 @@ module _ (fs : List Def) (ends : List End) (right : places.AreEnds (map (link_of
     where
       i : ℕ
       i = place ws n
+
       within : i < length fs
       within = slice_get_within fs i d (look_place fs n ∙ found)
+
       linked : i < length links
       linked = let w : i < length fs = within in omega (arith, length-map fs (link_of ws))
+
       inside : i < length ends
       inside = let w : i < length links = linked in omega (arith, right.0)
+
       at : position (nat_eq n) ws ≡ Some i
       at = elim (leb_tells (suc i) (length ws)) [ inl t ↦ rw t.0 refl | inr f ↦ absurd (let l : length ws < suc i = f.1 in let w : i < length fs = within in omega (arith, length-map fs number)) ]
+
       goes : places.chain links k i ≡ Some (At (place ws e.name.number))
       goes = same_chain fs k n d found ∙ ap (option_map (end_of ws)) c
+
       by : (x : End) → places.Means links x i → x ≡ At (place ws e.name.number)
       by (At j) (m, h) = one_end links m k i (At j) (At (place ws e.name.number)) h goes
       by Nowhere (m, h) = one_end links m k i Nowhere (At (place ws e.name.number)) h goes
@@ -94,6 +101,7 @@ module _ (fs : List Def) (ends : List End) (right : places.AreEnds (map (link_of
     where
       none : (k : ℕ) → places.chain links k (place ws n) ≡ None
       none k = same_chain fs k n d found ∙ ap (option_map (end_of ws)) (never k)
+
       by : (x : End) → places.Means links x (place ws n) → x ≡ Endless
       by (At j) (m, h) = absurd (let g = none m in cc)
       by Nowhere (m, h) = absurd (let g = none m in cc)

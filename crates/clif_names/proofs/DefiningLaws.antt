@@ -107,7 +107,7 @@ of_blocks t (b ∷ bs) =
     let k = of_blocks (define_block t b) bs in
     let o = values_same (with_block t b) (block_defs b) in
     let a = along_values (define_block t b) (fold define_value t (block_defs b)) (flat_map block_defs bs)
-              (along_values (with_block t b) t (block_defs b) (record { values = refl; firsts = refl })) in
+    (along_values (with_block t b) t (block_defs b) (record { values = refl; firsts = refl })) in
     let e = fold-append define_value t (block_defs b) (flat_map block_defs bs) in
     record {
       slots = k.slots ∙ o.slots;

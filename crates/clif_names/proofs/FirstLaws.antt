@@ -35,8 +35,9 @@ module _ (P : TextKind → ℕ → Type 0) (kind : TextKind) (below : (k : TextK
 
   at_or_past : (k : TextKind) (s t : ℕ) → k ≡ kind → s ≤ t → Before kind s k t
   at_or_past k s t e le = elim (leb_tells (suc s) t) [
-      inl a ↦ inl a.1
-    | inr a ↦ inr ((let lt : t < suc s = a.1 in omega arith), (let q : rank k ≡ rank kind = ap rank e in omega arith)) ]
+    | inl a ↦ inl a.1
+    | inr a ↦ inr ((let lt : t < suc s = a.1 in omega arith), (let q : rank k ≡ rank kind = ap rank e in omega arith))
+  ]
 
   past : (f : Fault) (k : TextKind) (s t : ℕ) → s < f.spot → Before f.kind f.spot k t → Before kind s k t
   past f k s t lt (inl a) = inl (omega arith)
@@ -44,8 +45,9 @@ module _ (P : TextKind → ℕ → Type 0) (kind : TextKind) (below : (k : TextK
 
   stays : (f : Fault) (k : TextKind) (s t : ℕ) → P f.kind f.spot → f.spot < suc s → k ≡ kind → s ≤ t → Before f.kind f.spot k t
   stays f k s t p le e lt = elim (leb_tells (suc f.spot) t) [
-      inl a ↦ inl a.1
-    | inr a ↦ inr ((let l : t < suc f.spot = a.1 in omega arith), (let q : rank k ≡ rank kind = ap rank e in let r : rank f.kind < rank kind = below f.kind f.spot p in omega arith)) ]
+    | inl a ↦ inl a.1
+    | inr a ↦ inr ((let l : t < suc f.spot = a.1 in omega arith), (let q : rank k ≡ rank kind = ap rank e in let r : rank f.kind < rank kind = below f.kind f.spot p in omega arith))
+  ]
 
   or_next : (first : Option Fault) (o : Option ℕ) → IsFirst P first → IsLeast Q o → IsFirst Both (or_earlier first kind o)
   unfolding IsFirst
@@ -53,8 +55,9 @@ module _ (P : TextKind → ℕ → Type 0) (kind : TextKind) (below : (k : TextK
   or_next (Some f) None h g = (inl h.0, λ k s e. elim e [ inl p ↦ h.1 k s p | inr q ↦ absurd (g s q.1) ])
   or_next None (Some s) h g = (inr (refl, g.0), λ k t e. elim e [ inl p ↦ absurd (h k t p) | inr q ↦ at_or_past k s t q.0 (g.1 t q.1) ])
   or_next (Some f) (Some s) h g = elim (leb_tells (suc s) f.spot) [
-      inl a ↦ rw a.0 (inr (refl, g.0), λ k t e. elim e [ inl p ↦ past f k s t a.1 (h.1 k t p) | inr q ↦ at_or_past k s t q.0 (g.1 t q.1) ])
-    | inr a ↦ rw a.0 (inl h.0, λ k t e. elim e [ inl p ↦ h.1 k t p | inr q ↦ stays f k s t h.0 a.1 q.0 (g.1 t q.1) ]) ]
+    | inl a ↦ rw a.0 (inr (refl, g.0), λ k t e. elim e [ inl p ↦ past f k s t a.1 (h.1 k t p) | inr q ↦ at_or_past k s t q.0 (g.1 t q.1) ])
+    | inr a ↦ rw a.0 (inl h.0, λ k t e. elim e [ inl p ↦ h.1 k t p | inr q ↦ stays f k s t h.0 a.1 q.0 (g.1 t q.1) ])
+  ]
 
 module _ (Stands : TextKind → ℕ → Type 0) (least : LeastSpots) (h : AreLeast Stands least) where
   abbrev None_ : TextKind → ℕ → Type 0
@@ -95,10 +98,10 @@ module _ (Stands : TextKind → ℕ → Type 0) (least : LeastSpots) (h : AreLea
   unfolding IsFirst
   all_kinds =
       or_next Four TooLarge four_below (Stands TooLarge) _ least.too_large
-        (or_next Three Untyped three_below (Stands Untyped) _ least.untyped
-          (or_next Two NumberRange two_below (Stands NumberRange) _ least.number_range
-            (or_next One Undefined one_below (Stands Undefined) _ least.undefined
-              (or_next None_ Duplicate (λ k s e. absurd e) (Stands Duplicate) None least.duplicate (λ k s e. e) h.duplicate) h.undefined) h.number_range) h.untyped) h.too_large
+      (or_next Three Untyped three_below (Stands Untyped) _ least.untyped
+      (or_next Two NumberRange two_below (Stands NumberRange) _ least.number_range
+      (or_next One Undefined one_below (Stands Undefined) _ least.undefined
+      (or_next None_ Duplicate (λ k s e. absurd e) (Stands Duplicate) None least.duplicate (λ k s e. e) h.duplicate) h.undefined) h.number_range) h.untyped) h.too_large
 
   five_stand : (k : TextKind) (s : ℕ) → Five k s → Stands k s
   five_stand k s (inr e) = rw (e.0) e.1
@@ -160,7 +163,7 @@ pub one_more_function : (fs : List RawFunction) (i : ℕ) (f d : RawFunction) (a
     → AreLeast (InSomeFunction (take i fs)) a → AreLeast (FunctionFault f) b → AreLeast (InSomeFunction (take (i + 1) fs)) (joined a b)
 one_more_function fs i f d a b within is h g =
     rw (take_more fs i d within, ← is) (along (λ k s. InSomeFunction (take i fs) k s ⊎ FunctionFault f k s) (InSomeFunction (take i fs ++ f ∷ [])) (joined a b) (in_more (take i fs) f) (in_split (take i fs) f)
-      (joined_least (InSomeFunction (take i fs)) (FunctionFault f) a b h g))
+    (joined_least (InSomeFunction (take i fs)) (FunctionFault f) a b h g))
 
 pub no_functions : AreLeast (InSomeFunction []) no_spots
 no_functions = record {

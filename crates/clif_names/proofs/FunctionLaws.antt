@@ -49,8 +49,8 @@ of_kinds : (P : Kind → ℕ → Type 0) (o : Kind → Option ℕ) → ((k : Kin
 unfolding earliest
 of_kinds P o h = least_along (λ s. (((P Slots s ⊎ P Sigs s) ⊎ P Callees s) ⊎ P Blocks s) ⊎ P Values s) (λ s. (k : Kind) × P k s) _ up (λ s (k, p). down s k p)
     (least_of_both (λ s. ((P Slots s ⊎ P Sigs s) ⊎ P Callees s) ⊎ P Blocks s) (P Values) _ _
-      (least_of_both (λ s. (P Slots s ⊎ P Sigs s) ⊎ P Callees s) (P Blocks) _ _
-        (least_of_both (λ s. P Slots s ⊎ P Sigs s) (P Callees) _ _ (least_of_both (P Slots) (P Sigs) _ _ (h Slots) (h Sigs)) (h Callees)) (h Blocks)) (h Values))
+    (least_of_both (λ s. (P Slots s ⊎ P Sigs s) ⊎ P Callees s) (P Blocks) _ _
+    (least_of_both (λ s. P Slots s ⊎ P Sigs s) (P Callees) _ _ (least_of_both (P Slots) (P Sigs) _ _ (h Slots) (h Sigs)) (h Callees)) (h Blocks)) (h Values))
   where
     up : (s : ℕ) → (((P Slots s ⊎ P Sigs s) ⊎ P Callees s) ⊎ P Blocks s) ⊎ P Values s → (k : Kind) × P k s
     up s (inr p) = (Values, p)
@@ -58,6 +58,7 @@ of_kinds P o h = least_along (λ s. (((P Slots s ⊎ P Sigs s) ⊎ P Callees s) 
     up s (inl (inl (inr p))) = (Callees, p)
     up s (inl (inl (inl (inr p)))) = (Sigs, p)
     up s (inl (inl (inl (inl p)))) = (Slots, p)
+
     down : (s : ℕ) (k : Kind) → P k s → (((P Slots s ⊎ P Sigs s) ⊎ P Callees s) ⊎ P Blocks s) ⊎ P Values s
     down s Slots p = inl (inl (inl (inl p)))
     down s Sigs p = inl (inl (inl (inr p)))
@@ -98,16 +99,18 @@ outside_split (x ∷ xs) ys s (suc i, n, at, is, bad) = elim (outside_split xs y
 
 above_limit : (n : ℕ) → greatest_number < n → keeps Entity (pos n) ≡ false
 above_limit n h = elim (leb_tells 0 n) [
-    inl z ↦ elim (leb_tells n greatest_number) [ inl t ↦ absurd (let le : n ≤ greatest_number = t.1 in not_both greatest_number n h le) | inr f ↦ rw (z.0, f.0) refl ]
-  | inr z ↦ absurd (let lt : n < 0 = z.1 in omega arith) ]
+  | inl z ↦ elim (leb_tells n greatest_number) [ inl t ↦ absurd (let le : n ≤ greatest_number = t.1 in not_both greatest_number n h le) | inr f ↦ rw (z.0, f.0) refl ]
+  | inr z ↦ absurd (let lt : n < 0 = z.1 in omega arith)
+]
   where
     not_both : (a b : ℕ) → a < b → b ≤ a → ⊥
     not_both a b h k = omega arith
 
 limit_above : (n : ℕ) → keeps Entity (pos n) ≡ false → greatest_number < n
 limit_above n h = elim (leb_tells 0 n) [
-    inl z ↦ elim (leb_tells n greatest_number) [ inl t ↦ absurd (let k = rw (z.0, t.0) at h in cc) | inr f ↦ f.1 ]
-  | inr z ↦ absurd (let lt : n < 0 = z.1 in omega arith) ]
+  | inl z ↦ elim (leb_tells n greatest_number) [ inl t ↦ absurd (let k = rw (z.0, t.0) at h in cc) | inr f ↦ f.1 ]
+  | inr z ↦ absurd (let lt : n < 0 = z.1 in omega arith)
+]
 
 above_outside : (ws : List RawName) (s : ℕ) → IsAbove ws s → IsOutside (map (of_word Entity) ws) s
 above_outside [] s (i, n, at, is, big) = absurd cc
@@ -127,8 +130,9 @@ module _ (f : RawFunction) where
   words_outside : (ks : List Kind) (s : ℕ) → IsOutside (map (of_word Entity) (flat_map (words f) ks)) s → (k : Kind) × IsAbove (words f k) s
   words_outside [] s (i, n, at, is, bad) = absurd cc
   words_outside (k ∷ ks) s h = elim (outside_split (map (of_word Entity) (words f k)) (map (of_word Entity) (flat_map (words f) ks)) s (rw map-append at h)) [
-      inl p ↦ (k, outside_above (words f k) s p)
-    | inr p ↦ words_outside ks s p ]
+    | inl p ↦ (k, outside_above (words f k) s p)
+    | inr p ↦ words_outside ks s p
+  ]
 
   outside_words : (ks : List Kind) (j : ℕ) (k : Kind) (s : ℕ) → slice_get ks j ≡ Some k → IsAbove (words f k) s → IsOutside (map (of_word Entity) (flat_map (words f) ks)) s
   outside_words [] j k s at h = absurd cc
@@ -159,11 +163,13 @@ module _ (f : RawFunction) where
 
   size_least : IsLeast (FunctionFault f TooLarge) (too_large_of f)
   size_least = elim (leb_tells (suc greatest_size) (capped (raw_size f))) [
-      inl t ↦ rw t.0 ((refl, more (raw_size f) t.1), λ s (at, big). (let q : name_spot f.name ≡ s = at in omega arith))
-    | inr t ↦ rw t.0 (λ s (at, big). less (raw_size f) t.1 big) ]
+    | inl t ↦ rw t.0 ((refl, more (raw_size f) t.1), λ s (at, big). (let q : name_spot f.name ≡ s = at in omega arith))
+    | inr t ↦ rw t.0 (λ s (at, big). less (raw_size f) t.1 big)
+  ]
     where
       more : (n : ℕ) → 262144 < capped n → 262144 < n
       more n h = omega arith
+
       less : (n : ℕ) → capped n < 262145 → 262144 < n → ⊥
       less n h k = omega arith
 
@@ -238,8 +244,8 @@ module _ (f : RawFunction) where
     number_range : IsLeast (IsOutside (limits f)) (earlier_of (earliest after.slots.outside after.sigs.outside after.callees.outside after.blocks.outside after.values.outside) after.outside)
     number_range = least_along (λ s. ((k : Kind) × IsAbove (words f k) s) ⊎ IsOutside others s) (IsOutside (limits f)) _ up_limits down_limits
         (least_of_both (λ s. (k : Kind) × IsAbove (words f k) s) (IsOutside others) _ _
-          (of_kinds (λ k. IsAbove (words f k)) (λ k. (table_at after k).outside) above)
-          (rw adds.numbers_seen (numbers_least others)))
+        (of_kinds (λ k. IsAbove (words f k)) (λ k. (table_at after k).outside) above)
+        (rw adds.numbers_seen (numbers_least others)))
 
     pub function_least : AreLeast (FunctionFault f) (least_of after (least_endless (defined f).firsts ends) f)
     function_least = record {

@@ -37,8 +37,9 @@ use Rattle.clif_names.proofs.LateWords.{IsLate}
 
 pub position_within : (p : ℕ → Bool) (ws : List ℕ) (i : ℕ) → position p ws ≡ Some i → (i ≡ at p ws) × (at p ws < length ws)
 position_within p ws i h = elim (leb_tells (suc (at p ws)) (length ws)) [
-    inl t ↦ (let k = rw t.0 at h in let e : at p ws ≡ i = cc in (sym e, t.1))
-  | inr f ↦ absurd (let k = rw f.0 at h in cc) ]
+  | inl t ↦ (let k = rw t.0 at h in let e : at p ws ≡ i = cc in (sym e, t.1))
+  | inr f ↦ absurd (let k = rw f.0 at h in cc)
+]
 
 pub position_front : (p : ℕ → Bool) (more ws : List ℕ) (i : ℕ) → position p ws ≡ Some i → position p (ws ++ more) ≡ Some i
 position_front p [] ws i h = rw append-nil h
@@ -51,13 +52,15 @@ count_next k t n more h = by (position (nat_eq n.number) t.words) refl
   where
     by : (o : Option ℕ) → position (nat_eq n.number) t.words ≡ o → next_count k (position (nat_eq n.number) ((declare t n).words ++ more)) ≡ length (declare t n).words
     by (Some p) e = rw (e, position_front (nat_eq n.number) more t.words p e) (elim (eqb_tells p k) [
-        inl s ↦ absurd (let w = position_within (nat_eq n.number) t.words p e in let a : p ≡ at (nat_eq n.number) t.words = w.0 in let b : at (nat_eq n.number) t.words < length t.words = w.1 in let q : p ≡ k = s.1 in omega arith)
-      | inr d ↦ rw d.0 h ])
+      | inl s ↦ absurd (let w = position_within (nat_eq n.number) t.words p e in let a : p ≡ at (nat_eq n.number) t.words = w.0 in let b : at (nat_eq n.number) t.words < length t.words = w.1 in let q : p ≡ k = s.1 in omega arith)
+      | inr d ↦ rw d.0 h
+    ])
     by None e =
         let new = position_new (nat_eq n.number) t.words n.number (at_end (nat_eq n.number) t.words e) (eq-eqb n.number n.number refl) in
         rw (e, position_front (nat_eq n.number) more (t.words ++ n.number ∷ []) (length t.words) new) (elim (eqb_tells (length t.words) k) [
-          inl s ↦ rw s.0 (sym (length-append t.words (n.number ∷ [])))
-        | inr d ↦ absurd (d.1 (sym h)) ])
+          | inl s ↦ rw s.0 (sym (length-append t.words (n.number ∷ [])))
+          | inr d ↦ absurd (d.1 (sym h))
+        ])
 
 -- the words so far are the first ones of all
 pub declared_more : (names : List RawName) (t : Names) → (more : List ℕ) × ((fold declare t names).words ≡ t.words ++ more)
@@ -155,10 +158,11 @@ words_of steps = (fold declare no_names (names_of (defs_of steps))).words
 
 pub words_split : (done more : List Step) → (rest : List ℕ) × (words_of (done ++ more) ≡ words_of done ++ rest)
 words_split done more =
-    let p = declared_more (names_of (defs_of more)) (fold declare no_names (names_of (defs_of done))) in
-    (p.0,
+    let p = declared_more (names_of (defs_of more)) (fold declare no_names (names_of (defs_of done))) in (
+      p.0,
       ap (λ (l : List RawName). (fold declare no_names l).words) (ap names_of (flat_map-append step_defs done more) ∙ map-append (λ (d : Def). d.name) (defs_of done) (defs_of more))
-      ∙ ap (λ (t : Names). t.words) (fold-append declare no_names (names_of (defs_of done)) (names_of (defs_of more))) ∙ p.1)
+          ∙ ap (λ (t : Names). t.words) (fold-append declare no_names (names_of (defs_of done)) (names_of (defs_of more))) ∙ p.1,
+    )
 
 abbrev step_names : Step → List RawName
 step_names s = names_of (step_defs s)
@@ -187,13 +191,15 @@ module _ (W : List ℕ) (ends : List End) where
     where
       other : (x : Option End) → slice_get ends q ≡ x → ((j : ℕ) → x ≡ Some (At j) → count ≤ j → ⊥) → IsLate W ends count n → ⊥
       other x f none = not_there count n (Some q) e (λ p j a b le. (let s : q ≡ p = cc in none j (sym f ∙ ap (slice_get ends) s ∙ b) le))
+
       by : (x : Option End) → slice_get ends q ≡ x → Tells count n (Some q)
       by None f = rw f (inr (refl, other None f (λ j a le. absurd cc)))
       by (Some Nowhere) f = rw f (inr (refl, other (Some Nowhere) f (λ j a le. absurd cc)))
       by (Some Endless) f = rw f (inr (refl, other (Some Endless) f (λ j a le. absurd cc)))
       by (Some (At j)) f = elim (leb_tells count j) [
-          inl t ↦ rw f (inl (t.0, (q, j, e, f, t.1)))
-        | inr t ↦ rw f (inr (t.0, other (Some (At j)) f (λ i a le. (let s : j ≡ i = cc in let lt : j < count = t.1 in absurd (omega arith))))) ]
+        | inl t ↦ rw f (inl (t.0, (q, j, e, f, t.1)))
+        | inr t ↦ rw f (inr (t.0, other (Some (At j)) f (λ i a le. (let s : j ≡ i = cc in let lt : j < count = t.1 in absurd (omega arith)))))
+      ]
 
   take_whole : (xs ys : List Step) → take (length xs) (xs ++ ys) ≡ xs
   take_whole [] ys = refl
@@ -214,8 +220,9 @@ module _ (W : List ℕ) (ends : List End) where
 
   untyped_split : (done : List Step) (s : Step) (spot : ℕ) → UntypedAt (done ++ s ∷ []) spot → UntypedAt done spot ⊎ Asked done s spot
   untyped_split done s spot (i, y, inst, x, at, has, is, asked, late) = elim (get_push done s i y at) [
-      inl q ↦ inl (i, y, inst, x, q, has, is, asked, (let e = take_front i done (s ∷ []) (slice_get_within done i y q) in rw e at late))
-    | inr q ↦ inr (inst, x, sym (ap step_inst q.1) ∙ has, is, asked, (let e : take i (done ++ s ∷ []) ≡ done = ap (λ (k : ℕ). take k (done ++ s ∷ [])) q.0 ∙ take_whole done (s ∷ []) in rw e at late)) ]
+    | inl q ↦ inl (i, y, inst, x, q, has, is, asked, (let e = take_front i done (s ∷ []) (slice_get_within done i y q) in rw e at late))
+    | inr q ↦ inr (inst, x, sym (ap step_inst q.1) ∙ has, is, asked, (let e : take i (done ++ s ∷ []) ≡ done = ap (λ (k : ℕ). take k (done ++ s ∷ [])) q.0 ∙ take_whole done (s ∷ []) in rw e at late))
+  ]
 
   pub record Inv (done : List Step) (u : Uses) : Type 0 where
     pub table : u.values.words ≡ W
@@ -249,37 +256,46 @@ module _ (W : List ℕ) (ends : List End) where
   late_next done (Param p) u more all h = finish done (Param p) u more all h.table h.count (quiet done (Param p) u.untyped (λ spot (inst, x, has, is, asked, late). absurd cc) h.untyped)
   late_next done (Line (line.Alias location n m)) u more all h =
       finish done (Line (line.Alias location n m)) (record u { values = refer u.values m }) more all (refer_one u.values m ∙ h.table) h.count
-        (quiet done (Line (line.Alias location n m)) u.untyped (λ spot (inst, x, has, is, asked, late). absurd cc) h.untyped)
+      (quiet done (Line (line.Alias location n m)) u.untyped (λ spot (inst, x, has, is, asked, late). absurd cc) h.untyped)
   late_next done (Line (line.Inst location tags results inst)) u more all h = subst (λ (ns : List RawName). Inv (done ++ s ∷ []) (fold define e ns)) names_are (finish done s e more all (k.words ∙ asked_words (asks inst) ∙ h.table) (k.defined ∙ asked_count (asks inst) ∙ h.count) (rw k.untyped (noted (asks inst) refl)))
     where
       s : Step
       s = Line (line.Inst location tags results inst)
+
       a : Uses
       a = ask_type ends u inst
+
       e : Uses
       e = fold use_target (use_operands (note_operands (fold use_tag a tags) inst.suffix inst.operands) inst.operands) (operand_targets inst.operands)
+
       k : Quiet a e
       k = quiet_inst a tags inst
+
       names_are : step_names s ≡ results
       names_are = same results
         where
           same : (ns : List RawName) → map (λ (d : Def). d.name) (map (λ (n : RawName). let d : Def = record { name = n; target = None } in d) ns) ≡ ns
           same [] = refl
           same (n ∷ ns) = ap (λ (l : List RawName). n ∷ l) (same ns)
+
       asked_words : (o : Option RawName) → (ask_operand ends u inst.opcode.spot o).values.words ≡ u.values.words
       asked_words None = refl
       asked_words (Some x) = refl
+
       asked_count : (o : Option RawName) → (ask_operand ends u inst.opcode.spot o).defined ≡ u.defined
       asked_count None = refl
       asked_count (Some x) = refl
+
       the_inst : (i : RawInst) → step_inst s ≡ Some i → inst ≡ i
       the_inst i h = cc
+
       noted : (o : Option RawName) → asks inst ≡ o → IsLeast (UntypedAt (done ++ s ∷ [])) (ask_operand ends u inst.opcode.spot o).untyped
       noted None f = quiet done s u.untyped (λ spot (i, x, has, is, asked, late). absurd (let w : inst ≡ i = the_inst i has in let q = sym f ∙ ap asks w ∙ asked in cc)) h.untyped
       noted (Some x) f = by (tells (length (words_of done)) x.number (position (nat_eq x.number) W) refl)
         where
           same_operand : (i : RawInst) (y : RawName) → step_inst s ≡ Some i → asks i ≡ Some y → x ≡ y
           same_operand i y has asked = (let w : inst ≡ i = the_inst i has in let q = sym f ∙ ap asks w ∙ asked in cc)
+
           by : Tells (length (words_of done)) x.number (position (nat_eq x.number) W) → IsLeast (UntypedAt (done ++ s ∷ [])) (ask_operand ends u inst.opcode.spot (Some x)).untyped
           by (inl t) = rw (h.table, h.count, t.0) (loud done s u.untyped inst.opcode.spot (inst, x, refl, refl, f, t.1) (λ at (i, y, has, is, asked, late). sym is ∙ ap (λ (i : RawInst). i.opcode.spot) (sym (the_inst i has))) h.untyped)
           by (inr t) = rw (h.table, h.count, t.0) (quiet done s u.untyped (λ at (i, y, has, is, asked, late). t.1 (let q = same_operand i y has asked in rw q late)) h.untyped)

@@ -24,8 +24,9 @@ module _ {A : Type 0} where
 pub least_add : (P Q : ℕ → Type 0) (o : Option ℕ) (b : ℕ) → IsLeast P o → Q b → ((s : ℕ) → P s → Q s) → ((s : ℕ) → Q s → P s ⊎ (s ≡ b)) → IsLeast Q (earlier_spot o b)
 least_add P Q None b h q up split = (q, λ s qs. elim (split s qs) [ inl p ↦ absurd (h s p) | inr e ↦ omega arith ])
 least_add P Q (Some a) b h q up split = elim (leb_tells a b) [
-    inl t ↦ rw t.0 (up a h.0, λ s qs. elim (split s qs) [ inl p ↦ h.1 s p | inr e ↦ (let le : a ≤ b = t.1 in omega arith) ])
-  | inr t ↦ rw t.0 (q, λ s qs. elim (split s qs) [ inl p ↦ (let lt : b < a = t.1 in let le : a ≤ s = h.1 s p in omega arith) | inr e ↦ omega arith ]) ]
+  | inl t ↦ rw t.0 (up a h.0, λ s qs. elim (split s qs) [ inl p ↦ h.1 s p | inr e ↦ (let le : a ≤ b = t.1 in omega arith) ])
+  | inr t ↦ rw t.0 (q, λ s qs. elim (split s qs) [ inl p ↦ (let lt : b < a = t.1 in let le : a ≤ s = h.1 s p in omega arith) | inr e ↦ omega arith ])
+]
 
 -- the set stays
 pub least_same : (P Q : ℕ → Type 0) (o : Option ℕ) → IsLeast P o → ((s : ℕ) → P s → Q s) → ((s : ℕ) → Q s → P s) → IsLeast Q o
@@ -39,8 +40,9 @@ least_of_both P Q None None h k = λ s e. elim e [ inl p ↦ h s p | inr q ↦ k
 least_of_both P Q (Some x) None h k = (inl h.0, λ s e. elim e [ inl p ↦ h.1 s p | inr q ↦ absurd (k s q) ])
 least_of_both P Q None (Some y) h k = (inr k.0, λ s e. elim e [ inl p ↦ absurd (h s p) | inr q ↦ k.1 s q ])
 least_of_both P Q (Some x) (Some y) h k = elim (leb_tells x y) [
-    inl t ↦ rw t.0 (inl h.0, λ s e. elim e [ inl p ↦ h.1 s p | inr q ↦ (let le : x ≤ y = t.1 in let l : y ≤ s = k.1 s q in omega arith) ])
-  | inr t ↦ rw t.0 (inr k.0, λ s e. elim e [ inl p ↦ (let lt : y < x = t.1 in let l : x ≤ s = h.1 s p in omega arith) | inr q ↦ k.1 s q ]) ]
+  | inl t ↦ rw t.0 (inl h.0, λ s e. elim e [ inl p ↦ h.1 s p | inr q ↦ (let le : x ≤ y = t.1 in let l : y ≤ s = k.1 s q in omega arith) ])
+  | inr t ↦ rw t.0 (inr k.0, λ s e. elim e [ inl p ↦ (let lt : y < x = t.1 in let l : x ≤ s = h.1 s p in omega arith) | inr q ↦ k.1 s q ])
+]
 
 -- where one set is the other
 pub least_along : (P Q : ℕ → Type 0) (o : Option ℕ) → ((s : ℕ) → P s → Q s) → ((s : ℕ) → Q s → P s) → IsLeast P o → IsLeast Q o
@@ -62,9 +64,11 @@ module _ {X : Type 0} (bad : X → ℕ → Type 0) (step : Option ℕ → X → 
       up s (inl (inl p)) = inl p
       up s (inl (inr b)) = inr (zero, x, refl, b)
       up s (inr (i, y, at, b)) = inr (suc i, y, at, b)
+
       later : (s i : ℕ) (y : X) → slice_get (x ∷ xs) i ≡ Some y → bad y s → (P s ⊎ bad x s) ⊎ SomeBad xs s
       later s zero y at b = inl (inr (let e : x ≡ y = cc in rw e b))
       later s (suc i) y at b = inr (i, y, at, b)
+
       down : (s : ℕ) → P s ⊎ SomeBad (x ∷ xs) s → (P s ⊎ bad x s) ⊎ SomeBad xs s
       down s (inl p) = inl (inl p)
       down s (inr (i, y, at, b)) = later s i y at b

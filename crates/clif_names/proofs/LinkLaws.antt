@@ -23,6 +23,7 @@ links_within words (d ∷ fs) zero j h = by d.target h
     at : (o : Option ℕ) (n : ℕ) → position (nat_eq n) words ≡ o → to_place o ≡ To j → j < length words
     at None n e h = absurd cc
     at (Some p) n e h = (let w = position_within (nat_eq n) words p e in let s : p ≡ j = cc in omega (arith, w.0, w.1))
+
     by : (t : Option RawName) → link_to words t ≡ To j → j < length words
     by None h = absurd cc
     by (Some n) h = at (position (nat_eq n.number) words) n.number refl h

@@ -78,11 +78,13 @@ repeats_here fs f (j, g, at, same) = (length fs, j, f, g, get_last fs f, refl, s
 
 repeats_split : (fs : List RawFunction) (f : RawFunction) (s : ℕ) → RepeatsName (fs ++ f ∷ []) s → RepeatsName fs s ⊎ ((s ≡ name_spot f.name) × Earlier fs f.name)
 repeats_split fs f s (i, j, a, b, at, is, less, at_j, same) = elim (get_push fs f i a at) [
-    inl p ↦ inl (i, j, a, b, p, is, less, earlier (slice_get_within fs i a p), same)
-  | inr q ↦ inr (sym is ∙ ap (λ (x : RawFunction). name_spot x.name) q.1, (j, b, earlier_at q.0, (let e : a ≡ f = q.1 in rw e at same))) ]
+  | inl p ↦ inl (i, j, a, b, p, is, less, earlier (slice_get_within fs i a p), same)
+  | inr q ↦ inr (sym is ∙ ap (λ (x : RawFunction). name_spot x.name) q.1, (j, b, earlier_at q.0, (let e : a ≡ f = q.1 in rw e at same)))
+]
   where
     earlier : i < length fs → slice_get fs j ≡ Some b
     earlier within = elim (get_push fs f j b at_j) [ inl p ↦ p | inr q ↦ absurd (let e : j ≡ length fs = q.0 in omega arith) ]
+
     earlier_at : i ≡ length fs → slice_get fs j ≡ Some b
     earlier_at e = elim (get_push fs f j b at_j) [ inl p ↦ p | inr q ↦ absurd (let g : j ≡ length fs = q.0 in omega arith) ]
 
@@ -99,8 +101,9 @@ many_more fs f s (i, a, at, is, le) = (i, a, get_front fs (f ∷ []) i a at, is,
 
 many_split : (fs : List RawFunction) (f : RawFunction) (s : ℕ) → IsOneTooMany (fs ++ f ∷ []) s → IsOneTooMany fs s ⊎ ((s ≡ name_spot f.name) × (65536 ≤ length fs))
 many_split fs f s (i, a, at, is, le) = elim (get_push fs f i a at) [
-    inl p ↦ inl (i, a, p, is, le)
-  | inr q ↦ inr (sym is ∙ ap (λ (x : RawFunction). name_spot x.name) q.1, (let e : i ≡ length fs = q.0 in omega arith)) ]
+  | inl p ↦ inl (i, a, p, is, le)
+  | inr q ↦ inr (sym is ∙ ap (λ (x : RawFunction). name_spot x.name) q.1, (let e : i ≡ length fs = q.0 in omega arith))
+]
 
 pub many_here : (fs : List RawFunction) (f : RawFunction) (o : Option ℕ) → 65536 ≤ length fs → IsLeast (IsOneTooMany fs) o → IsLeast (IsOneTooMany (fs ++ f ∷ [])) (earlier_spot o (name_spot f.name))
 many_here fs f o le h = least_add (IsOneTooMany fs) (IsOneTooMany (fs ++ f ∷ [])) o (name_spot f.name) h (length fs, f, get_last fs f, refl, le) (many_more fs f) (λ s q. elim (many_split fs f s q) [ inl p ↦ inl p | inr r ↦ inr r.0 ])
@@ -128,12 +131,15 @@ names_next fs f old new h add q = (up, down)
   where
     up : Has new q → Earlier (fs ++ f ∷ []) q
     up has = elim (add.only q has) [
-        inl a ↦ (let (j, g, at, same) = (h q).0 a in (j, g, get_front fs (f ∷ []) j g at, same))
-      | inr same ↦ (length fs, f, get_last fs f, same) ]
+      | inl a ↦ (let (j, g, at, same) = (h q).0 a in (j, g, get_front fs (f ∷ []) j g at, same))
+      | inr same ↦ (length fs, f, get_last fs f, same)
+    ]
+
     down : Earlier (fs ++ f ∷ []) q → Has new q
     down (j, g, at, same) = elim (get_push fs f j g at) [
-        inl a ↦ add.kept q ((h q).1 (j, g, a, same))
-      | inr e ↦ add.added q (let s : g ≡ f = e.1 in rw s at same) ]
+      | inl a ↦ add.kept q ((h q).1 (j, g, a, same))
+      | inr e ↦ add.added q (let s : g ≡ f = e.1 in rw s at same)
+    ]
 
 module _ (fs : List RawFunction) (i : ℕ) (f d : RawFunction) (within : i < length fs) (is : f ≡ get_or fs i d) where
   long : length (take i fs) ≡ i
@@ -167,8 +173,9 @@ bytes_test [] [] h = refl
 bytes_test [] (y ∷ ys) h = absurd cc
 bytes_test (x ∷ xs) [] h = absurd cc
 bytes_test (x ∷ xs) (y ∷ ys) h = elim (eqb_tells x y) [
-    inl t ↦ (let k = rw t.0 at h in let e : x ≡ y = t.1 in let r : xs ≡ ys = bytes_test xs ys k in cc)
-  | inr f ↦ absurd (let k = rw f.0 at h in cc) ]
+  | inl t ↦ (let k = rw t.0 at h in let e : x ≡ y = t.1 in let r : xs ≡ ys = bytes_test xs ys k in cc)
+  | inr f ↦ absurd (let k = rw f.0 at h in cc)
+]
 
 bytes_pass : (xs : List ℕ) → pointwise nat_eq xs xs ≡ true
 bytes_pass [] = refl
@@ -191,8 +198,9 @@ int_pass x = (Decides-int_eq x x).1 refl
 
 pair_test : (k l : ℕ × ℤ) → same_pair k l ≡ true → k ≡ l
 pair_test (a, x) (b, y) h = elim (eqb_tells a b) [
-    inl t ↦ (let k = rw t.0 at h in let e : a ≡ b = t.1 in let r : x ≡ y = int_test x y k in cc)
-  | inr f ↦ absurd (let k = rw f.0 at h in cc) ]
+  | inl t ↦ (let k = rw t.0 at h in let e : a ≡ b = t.1 in let r : x ≡ y = int_test x y k in cc)
+  | inr f ↦ absurd (let k = rw f.0 at h in cc)
+]
 
 pair_pass : (k : ℕ × ℤ) → same_pair k k ≡ true
 pair_pass (a, x) = rw (eq-eqb a a refl) (int_pass x)
@@ -218,9 +226,11 @@ adds_text old new key bytes spot e is users = record { only = less; kept = more;
     less : (q : RawFuncName) → Has new q → Has old q ⊎ SameName (func_name.Text bytes spot) q
     less (func_name.Text other at) h = elim (only same_text text_of text_tests (keys old.texts) key other (rw is at h)) [ inl a ↦ inl a | inr s ↦ inr (sym e ∙ s) ]
     less (func_name.User space number) h = inl (rw users at h)
+
     more : (q : RawFuncName) → Has old q → Has new q
     more (func_name.Text other at) h = rw is (kept same_text text_of text_tests (keys old.texts) key other h)
     more (func_name.User space number) h = rw users h
+
     here : (q : RawFuncName) → SameName (func_name.Text bytes spot) q → Has new q
     here (func_name.Text other at) s = rw is (added same_text text_of text_tests (keys old.texts) key other (e ∙ s))
     here (func_name.User space number) s = absurd s
@@ -239,12 +249,15 @@ adds_user old new space number is texts = record { only = less; kept = more; add
   where
     less : (q : RawFuncName) → Has new q → Has old q ⊎ SameName (func_name.User space number) q
     less (func_name.User a i) h = elim (only same_pair pair_of pair_tests (keys old.users) (space.number, number.value) (a.number, i.value) (rw is at h)) [
-        inl p ↦ inl p
-      | inr s ↦ inr (ap (λ (p : ℕ × ℤ). p.0) s, ap (λ (p : ℕ × ℤ). p.1) s) ]
+      | inl p ↦ inl p
+      | inr s ↦ inr (ap (λ (p : ℕ × ℤ). p.0) s, ap (λ (p : ℕ × ℤ). p.1) s)
+    ]
     less (func_name.Text other at) h = inl (rw texts at h)
+
     more : (q : RawFuncName) → Has old q → Has new q
     more (func_name.User a i) h = rw is (kept same_pair pair_of pair_tests (keys old.users) (space.number, number.value) (a.number, i.value) h)
     more (func_name.Text other at) h = rw texts h
+
     here : (q : RawFuncName) → SameName (func_name.User space number) q → Has new q
     here (func_name.User a i) (s, t) = rw is (added same_pair pair_of pair_tests (keys old.users) (space.number, number.value) (a.number, i.value) (let e : space.number ≡ a.number = s in let g : number.value ≡ i.value = t in cc))
     here (func_name.Text other at) s = absurd s

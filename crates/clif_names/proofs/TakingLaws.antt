@@ -1,9 +1,9 @@
 -- What is kept of the words of a kind says which are defined, and where the first faults among them stand.
-use Rattle.std.proofs.Common.{◌≡◌, ℕ, zero, suc, ◌+◌, ◌<◌, ◌≤◌, ◌⊎◌, ◌≢◌, Bool, true, false, List, [], ◌∷◌, ◌++◌, length, slice_get, Option, None, Some, refl, sym, ap, ◌∙◌, arith, inl, inr, append_assoc}
+use Rattle.std.proofs.Common.{◌≡◌, ℕ, zero, suc, ◌+◌, ◌<◌, ◌≤◌, ◌⊎◌, ◌≢◌, Bool, true, false, List, [], ◌∷◌, ◌++◌, length, slice_get, Option, None, Some, map, refl, sym, ap, ◌∙◌, arith, inl, inr, append_assoc}
 use Rattle.std.specs.Prelude.{nat_eq, nat_lt, fold, position}
 use Rattle.std.proofs.lemmas.Bool.{eq-eqb}
 use Rattle.std.proofs.lemmas.Bool.Decides.{eqb_tells, leb_tells}
-use Rattle.std.proofs.lemmas.List.{append-nil}
+use Rattle.std.proofs.lemmas.List.{append-nil, map-append}
 use Rattle.std.proofs.lemmas.Option.{slice_get_within}
 use Rattle.ir_text.specs.Writable.{greatest_number}
 use Rattle.clif_insts.specs.declared.raw.RawName.{RawName}
@@ -23,11 +23,13 @@ not_both a b h k = omega arith
 
 pub above_next : (names : List RawName) (t : Names) (n : RawName) → IsLeast (IsAbove names) t.outside → IsLeast (IsAbove (names ++ n ∷ [])) (see t n).outside
 above_next names t n h = elim (leb_tells (suc greatest_number) n.number) [
-    inl a ↦ rw a.0 (least_add (IsAbove names) (IsAbove (names ++ n ∷ [])) t.outside n.spot h (length names, n, get_last names n, refl, a.1) up (λ s q. elim (split s q) [ inl p ↦ inl p | inr e ↦ inr e.0 ]))
-  | inr b ↦ rw b.0 (least_same (IsAbove names) (IsAbove (names ++ n ∷ [])) t.outside h up (λ s q. elim (split s q) [ inl p ↦ p | inr e ↦ absurd (not_both greatest_number n.number e.1 b.1) ])) ]
+  | inl a ↦ rw a.0 (least_add (IsAbove names) (IsAbove (names ++ n ∷ [])) t.outside n.spot h (length names, n, get_last names n, refl, a.1) up (λ s q. elim (split s q) [ inl p ↦ inl p | inr e ↦ inr e.0 ]))
+  | inr b ↦ rw b.0 (least_same (IsAbove names) (IsAbove (names ++ n ∷ [])) t.outside h up (λ s q. elim (split s q) [ inl p ↦ p | inr e ↦ absurd (not_both greatest_number n.number e.1 b.1) ]))
+]
   where
     up : (s : ℕ) → IsAbove names s → IsAbove (names ++ n ∷ []) s
     up s (i, m, at, is, big) = (i, m, get_front names (n ∷ []) i m at, is, big)
+
     split : (s : ℕ) → IsAbove (names ++ n ∷ []) s → IsAbove names s ⊎ ((s ≡ n.spot) × (greatest_number < n.number))
     split s (i, m, at, is, big) = elim (get_push names n i m at) [ inl a ↦ inl (i, m, a, is, big) | inr e ↦ inr (sym is ∙ ap (λ (x : RawName). x.spot) e.1, (let e1 : m.number ≡ n.number = ap (λ (x : RawName). x.number) e.1 in omega arith)) ]
 
@@ -52,11 +54,13 @@ repeats_here defs d (j, e, at, is) = (length defs, j, d, e, get_last defs d, ref
 
 repeats_split : (defs : List RawName) (d : RawName) (s : ℕ) → Repeats (defs ++ d ∷ []) s → Repeats defs s ⊎ ((s ≡ d.spot) × IsDefined defs d.number)
 repeats_split defs d s (i, j, a, b, at, is, less, at_j, same) = elim (get_push defs d i a at) [
-    inl p ↦ inl (i, j, a, b, p, is, less, earlier (slice_get_within defs i a p), same)
-  | inr q ↦ inr (sym is ∙ ap (λ (x : RawName). x.spot) q.1, (j, b, earlier_at q.0, same ∙ ap (λ (x : RawName). x.number) q.1)) ]
+  | inl p ↦ inl (i, j, a, b, p, is, less, earlier (slice_get_within defs i a p), same)
+  | inr q ↦ inr (sym is ∙ ap (λ (x : RawName). x.spot) q.1, (j, b, earlier_at q.0, same ∙ ap (λ (x : RawName). x.number) q.1))
+]
   where
     earlier : i < length defs → slice_get defs j ≡ Some b
     earlier within = elim (get_push defs d j b at_j) [ inl p ↦ p | inr q ↦ absurd (let e : j ≡ length defs = q.0 in omega arith) ]
+
     earlier_at : i ≡ length defs → slice_get defs j ≡ Some b
     earlier_at e = elim (get_push defs d j b at_j) [ inl p ↦ p | inr q ↦ absurd (let f : j ≡ length defs = q.0 in omega arith) ]
 
@@ -66,16 +70,22 @@ holds_next defs t d h = by (position (nat_eq d.number) t.words) refl
   where
     here : position (nat_eq d.number) t.words ≡ None → position (nat_eq d.number) (t.words ++ d.number ∷ []) ≡ Some (length t.words)
     here e = position_new (nat_eq d.number) t.words d.number (at_end (nat_eq d.number) t.words e) (eq-eqb d.number d.number refl)
+
     has : position (nat_eq d.number) t.words ≡ None → (n p : ℕ) → position (nat_eq n) (t.words ++ d.number ∷ []) ≡ Some p → IsDefined (defs ++ d ∷ []) n
     has e n p k = elim (eqb_tells n d.number) [
-        inl s ↦ (length defs, d, get_last defs d, sym s.1)
-      | inr f ↦ defined_more defs d n (h.has n p (sym (position_more (nat_eq n) t.words d.number f.0) ∙ k)) ]
+      | inl s ↦ (length defs, d, get_last defs d, sym s.1)
+      | inr f ↦ defined_more defs d n (h.has n p (sym (position_more (nat_eq n) t.words d.number f.0) ∙ k))
+    ]
+
     lacks : position (nat_eq d.number) t.words ≡ None → (n : ℕ) → position (nat_eq n) (t.words ++ d.number ∷ []) ≡ None → IsDefined (defs ++ d ∷ []) n → ⊥
     lacks e n k q = elim (eqb_tells n d.number) [
-        inl s ↦ (let g = rw s.1 at k in let j = sym (here e) ∙ g in cc)
+      | inl s ↦ (let g = rw s.1 at k in let j = sym (here e) ∙ g in cc)
       | inr f ↦ elim (defined_split defs d n q) [
-          inl p ↦ h.lacks n (sym (position_more (nat_eq n) t.words d.number f.0) ∙ k) p
-        | inr s ↦ f.1 (sym s) ] ]
+        | inl p ↦ h.lacks n (sym (position_more (nat_eq n) t.words d.number f.0) ∙ k) p
+        | inr s ↦ f.1 (sym s)
+      ]
+    ]
+
     by : (o : Option ℕ) → position (nat_eq d.number) t.words ≡ o → Holds (defs ++ d ∷ []) (declare t d)
     by (Some p) e = rw e (record {
       has = λ n p k. defined_more defs d n (h.has n p k);
@@ -115,8 +125,10 @@ refers_next defs uses names t s u h r = record { stays = r.stays; repeats = r.re
   where
     up : (a : ℕ) → IsMissing defs uses a → IsMissing defs (uses ++ u ∷ []) a
     up a (i, m, at, is, none) = (i, m, get_front uses (u ∷ []) i m at, is, none)
+
     split : (a : ℕ) → IsMissing defs (uses ++ u ∷ []) a → IsMissing defs uses a ⊎ ((a ≡ u.spot) × (IsDefined defs u.number → ⊥))
     split a (i, m, at, is, none) = elim (get_push uses u i m at) [ inl p ↦ inl (i, m, p, is, none) | inr q ↦ inr (sym is ∙ ap (λ (x : RawName). x.spot) q.1, (let e : m.number ≡ u.number = ap (λ (x : RawName). x.number) q.1 in rw e at none)) ]
+
     by : (o : Option ℕ) → position (nat_eq u.number) t.words ≡ o → IsLeast (IsMissing defs (uses ++ u ∷ [])) (refer t u).missing
     by (Some p) e = rw e (least_same (IsMissing defs uses) (IsMissing defs (uses ++ u ∷ [])) t.missing r.missing up (λ a q. elim (split a q) [ inl p ↦ p | inr f ↦ absurd (f.1 (h.has u.number p (rw r.stays at e))) ]))
     by None e = rw e (least_add (IsMissing defs uses) (IsMissing defs (uses ++ u ∷ [])) t.missing u.spot r.missing (length uses, u, get_last uses u, refl, h.lacks u.number (rw r.stays at e)) up (λ a q. elim (split a q) [ inl p ↦ inl p | inr f ↦ inr f.0 ]))
@@ -140,3 +152,29 @@ taken defs uses = refers_all defs [] defs uses (fold declare no_names defs) (fol
   missing = rw (missing_stays defs no_names) (λ s (i, m, at, is, none). absurd cc);
   outside = (declared defs).outside;
 })
+
+-- ---- without a repeated word, the words of a kind are those of its definitions
+
+abbrev pub numbers_of : List RawName → List ℕ
+numbers_of names = map (λ (n : RawName). n.number) names
+
+fresh : (done more : List RawName) (d : RawName) → ((s : ℕ) → Repeats (done ++ d ∷ more) s → ⊥) → IsDefined done d.number → ⊥
+fresh done more d none (j, e, at, is) = none d.spot (length done, j, d, e, middle done, refl, slice_get_within done j e at, get_front done (d ∷ more) j e at, is)
+  where
+    middle : (xs : List RawName) → slice_get (xs ++ d ∷ more) (length xs) ≡ Some d
+    middle [] = refl
+    middle (x ∷ xs) = middle xs
+
+words_from : (done more : List RawName) (t : Names) → Holds done t → t.words ≡ numbers_of done → ((s : ℕ) → Repeats (done ++ more) s → ⊥) → (fold declare t more).words ≡ numbers_of (done ++ more)
+unfolding declare
+words_from done [] t h w none = rw append-nil w
+words_from done (d ∷ more) t h w none =
+    let e : done ++ (d ∷ more) ≡ (done ++ d ∷ []) ++ more = sym (append_assoc done (d ∷ []) more) in
+    rw e (words_from (done ++ d ∷ []) more (declare t d) (holds_next done t d h) (next (position (nat_eq d.number) t.words) refl) (rw e at none))
+  where
+    next : (o : Option ℕ) → position (nat_eq d.number) t.words ≡ o → (declare t d).words ≡ numbers_of (done ++ d ∷ [])
+    next (Some p) f = absurd (fresh done more d none (h.has d.number p f))
+    next None f = rw f (ap (λ (l : List ℕ). l ++ d.number ∷ []) w ∙ sym (map-append (λ (n : RawName). n.number) done (d ∷ [])))
+
+pub words_are : (defs : List RawName) → ((s : ℕ) → Repeats defs s → ⊥) → (fold declare no_names defs).words ≡ numbers_of defs
+words_are defs none = words_from [] defs no_names holds_none refl none

@@ -27,8 +27,9 @@ one_more n = omega arith
 place_past : (ws more : List ℕ) (n : ℕ) → place ws n ≡ length ws → length ws ≤ place (ws ++ more) n
 place_past [] more n h = omega arith
 place_past (w ∷ ws) more n h = elim (eqb_tells n w) [
-    inl t ↦ absurd (let k = rw t.0 at h in omega arith)
-  | inr f ↦ rw (f.0, one_more (place (ws ++ more) n)) (let k = rw (f.0, one_more (place ws n)) at h in let j : place ws n ≡ length ws = omega arith in let q = place_past ws more n j in omega arith) ]
+  | inl t ↦ absurd (let k = rw t.0 at h in omega arith)
+  | inr f ↦ rw (f.0, one_more (place (ws ++ more) n)) (let k = rw (f.0, one_more (place ws n)) at h in let j : place ws n ≡ length ws = omega arith in let q = place_past ws more n j in omega arith)
+]
 
 module _ (f : RawFunction) (t : Tables) (first : Firsts (value_defs f) t) (ends : List End)
     (right : places.AreEnds (map (link_of (map number t.firsts)) t.firsts) ends) (same : (fold declare no_names (definitions f Values)).words ≡ map number t.firsts) where
@@ -66,12 +67,29 @@ module _ (f : RawFunction) (t : Tables) (first : Firsts (value_defs f) t) (ends 
 
   pub untyped_up : (s : ℕ) → UntypedAt W ends (steps f) s → IsUntyped f s
   untyped_up s (i, step, inst, x, at, has, is, asked, late) =
-      let (d, e, found, (k, c), le) = late_words t.firsts ends right (length (so_far i)) x.number (rw same at late) in
-      (i, step, inst, x, e, at, has, is, asked,
+      let (d, e, found, (k, c), le) = late_words t.firsts ends right (length (so_far i)) x.number (rw same at late) in (
+        i,
+        step,
+        inst,
+        x,
+        e,
+        at,
+        has,
+        is,
+        asked,
         (d, first.looks x.number ∙ found, (k, chain_same (value_defs f) t.firsts first.looks k d ∙ c)),
-        not_before i e.name.number le)
+        not_before i e.name.number le,
+      )
 
   pub untyped_down : (s : ℕ) → IsUntyped f s → UntypedAt W ends (steps f) s
-  untyped_down s (i, step, inst, x, e, at, has, is, asked, (d, found, (k, c)), none) =
-      (i, step, inst, x, at, has, is, asked,
-        (let late = words_late t.firsts ends right (length (so_far i)) x.number d e (sym (first.looks x.number) ∙ found) (k, sym (chain_same (value_defs f) t.firsts first.looks k d) ∙ c) (behind i e.name.number none) in rw same late))
+  untyped_down s (i, step, inst, x, e, at, has, is, asked, (d, found, (k, c)), none) = (
+    i,
+    step,
+    inst,
+    x,
+    at,
+    has,
+    is,
+    asked,
+    (let late = words_late t.firsts ends right (length (so_far i)) x.number d e (sym (first.looks x.number) ∙ found) (k, sym (chain_same (value_defs f) t.firsts first.looks k d) ∙ c) (behind i e.name.number none) in rw same late),
+  )

@@ -130,11 +130,11 @@ adds_target : (u : Uses) (t : RawTarget) → Adds u (use_target u t) (target_wor
 adds_target u t =
     let v = record u { blocks = refer u.blocks t.block } in
     adds_as u (use_target u t) (λ k. target_words (record { block = t.block; args = [] }) k ++ flat_map (λ a. arg_words a k) t.args) (target_words t) ([] ++ flat_map arg_limits t.args) (target_limits t)
-      (each_kind (λ k. target_words (record { block = t.block; args = [] }) k ++ flat_map (λ a. arg_words a k) t.args ≡ target_words t k)
-        (flat_none t.args) (flat_none t.args) (flat_none t.args) (ap (λ (l : List RawName). t.block ∷ l) (flat_none t.args)) refl)
-      refl
-      (adds_then u v (use_target u t) (λ k. target_words (record { block = t.block; args = [] }) k) (λ k. flat_map (λ a. arg_words a k) t.args) [] (flat_map arg_limits t.args)
-        (adds_block_word u t.block) (adds_list use_arg arg_words arg_limits adds_arg v t.args))
+    (each_kind (λ k. target_words (record { block = t.block; args = [] }) k ++ flat_map (λ a. arg_words a k) t.args ≡ target_words t k)
+    (flat_none t.args) (flat_none t.args) (flat_none t.args) (ap (λ (l : List RawName). t.block ∷ l) (flat_none t.args)) refl)
+    refl
+    (adds_then u v (use_target u t) (λ k. target_words (record { block = t.block; args = [] }) k) (λ k. flat_map (λ a. arg_words a k) t.args) [] (flat_map arg_limits t.args)
+    (adds_block_word u t.block) (adds_list use_arg arg_words arg_limits adds_arg v t.args))
 
 adds_numbers : (u : Uses) (suffix : Option Ty) (o : RawOperands) → Adds u (note_operands u suffix o) no_words (operand_limits suffix o)
 adds_numbers u suffix o = record { words_taken = each_kind (λ k. table_at (note_operands u suffix o) k ≡ table_at u k) refl refl refl refl refl; numbers_seen = refl }
@@ -176,7 +176,7 @@ module _ (ends : List End) where
 
   adds_inst : (u : Uses) (tags : List RawTag) (results : List RawName) (inst : RawInst)
       → Adds u (use_line ends u (line.Inst None tags results inst)) (λ k. inst_words tags inst k ++ [])
-          ((flat_map tag_limits tags ++ (operand_limits inst.suffix inst.operands ++ ([] ++ flat_map target_limits (operand_targets inst.operands)))) ++ [])
+      ((flat_map tag_limits tags ++ (operand_limits inst.suffix inst.operands ++ ([] ++ flat_map target_limits (operand_targets inst.operands)))) ++ [])
   adds_inst u tags results inst =
       let a = ask_type ends u inst in
       let b = fold use_tag a tags in
@@ -203,20 +203,20 @@ module _ (ends : List End) where
   adds_line u (line.Alias location n m) =
       let v = record u { values = refer u.values m } in
       adds_as u (define v n) (λ k. line_uses k (line.Alias location n m) ++ []) (λ k. line_uses k (line.Alias location n m)) [] [] (λ k. append-nil (line_uses k (line.Alias location n m))) refl
-        (adds_then u v (define v n) (λ k. line_uses k (line.Alias location n m)) no_words [] []
-          (record { words_taken = each_kind (λ k. table_at v k ≡ fold refer (table_at u k) (line_uses k (line.Alias location n m))) refl refl refl refl refl; numbers_seen = refl }) (adds_define v n))
+      (adds_then u v (define v n) (λ k. line_uses k (line.Alias location n m)) no_words [] []
+      (record { words_taken = each_kind (λ k. table_at v k ≡ fold refer (table_at u k) (line_uses k (line.Alias location n m))) refl refl refl refl refl; numbers_seen = refl }) (adds_define v n))
   adds_line u (line.Inst location tags results inst) =
       adds_as u (use_line ends u (line.Inst location tags results inst)) (λ k. inst_words tags inst k ++ []) (λ k. line_uses k (line.Inst location tags results inst))
-        ((flat_map tag_limits tags ++ (operand_limits inst.suffix inst.operands ++ ([] ++ flat_map target_limits (operand_targets inst.operands)))) ++ []) (line_limits (line.Inst location tags results inst))
-        (λ k. append-nil (inst_words tags inst k) ∙ each_kind (λ k. inst_words tags inst k ≡ line_uses k (line.Inst location tags results inst))
-          (ap (λ (l : List RawName). flat_map tag_slots tags ++ (operand_slots inst.operands ++ l)) (flat_none (targets inst)) ∙ ap (λ (l : List RawName). flat_map tag_slots tags ++ l) (append-nil (operand_slots inst.operands)))
-          (nothing_before tags (operand_sigs inst.operands ++ flat_map (λ t. []) (targets inst)) ∙ ap (λ (l : List RawName). operand_sigs inst.operands ++ l) (flat_none (targets inst)) ∙ append-nil (operand_sigs inst.operands))
-          (nothing_before tags (operand_callees inst.operands ++ flat_map (λ t. []) (targets inst)) ∙ ap (λ (l : List RawName). operand_callees inst.operands ++ l) (flat_none (targets inst)) ∙ append-nil (operand_callees inst.operands))
-          (nothing_before tags (flat_map (λ t. t.block ∷ []) (targets inst)) ∙ flat_one (λ (t : RawTarget). t.block) (targets inst))
-          (nothing_before tags (operand_values inst.operands ++ flat_map target_values (targets inst)))
-          k)
-        (append-nil (flat_map tag_limits tags ++ (operand_limits inst.suffix inst.operands ++ ([] ++ flat_map target_limits (operand_targets inst.operands)))) ∙ sym (append_assoc_of tags inst))
-        (adds_inst u tags results inst)
+      ((flat_map tag_limits tags ++ (operand_limits inst.suffix inst.operands ++ ([] ++ flat_map target_limits (operand_targets inst.operands)))) ++ []) (line_limits (line.Inst location tags results inst))
+      (λ k. append-nil (inst_words tags inst k) ∙ each_kind (λ k. inst_words tags inst k ≡ line_uses k (line.Inst location tags results inst))
+      (ap (λ (l : List RawName). flat_map tag_slots tags ++ (operand_slots inst.operands ++ l)) (flat_none (targets inst)) ∙ ap (λ (l : List RawName). flat_map tag_slots tags ++ l) (append-nil (operand_slots inst.operands)))
+      (nothing_before tags (operand_sigs inst.operands ++ flat_map (λ t. []) (targets inst)) ∙ ap (λ (l : List RawName). operand_sigs inst.operands ++ l) (flat_none (targets inst)) ∙ append-nil (operand_sigs inst.operands))
+      (nothing_before tags (operand_callees inst.operands ++ flat_map (λ t. []) (targets inst)) ∙ ap (λ (l : List RawName). operand_callees inst.operands ++ l) (flat_none (targets inst)) ∙ append-nil (operand_callees inst.operands))
+      (nothing_before tags (flat_map (λ t. t.block ∷ []) (targets inst)) ∙ flat_one (λ (t : RawTarget). t.block) (targets inst))
+      (nothing_before tags (operand_values inst.operands ++ flat_map target_values (targets inst)))
+      k)
+      (append-nil (flat_map tag_limits tags ++ (operand_limits inst.suffix inst.operands ++ ([] ++ flat_map target_limits (operand_targets inst.operands)))) ∙ sym (append_assoc_of tags inst))
+      (adds_inst u tags results inst)
     where
       append_assoc_of : (tags : List RawTag) (inst : RawInst)
           → line_limits (line.Inst None tags [] inst) ≡ flat_map tag_limits tags ++ (operand_limits inst.suffix inst.operands ++ flat_map target_limits (operand_targets inst.operands))
@@ -238,6 +238,6 @@ module _ (ends : List End) where
       let ac = adds_then a b c in_decls in_blocks (flat_map decl_limits f.decls) limits_in (adds_list use_decl (λ d k. decl_uses k d) decl_limits adds_decl a f.decls) bc in
       let uc = adds_then u a c no_words (λ k. in_decls k ++ in_blocks k) (name_limits f.name) (flat_map decl_limits f.decls ++ limits_in) (adds_name u f.name) ac in
       adds_as u c (λ k. in_decls k ++ in_blocks k) (uses f) (name_limits f.name ++ (flat_map decl_limits f.decls ++ limits_in)) (name_limits f.name ++ (flat_map decl_limits f.decls ++ flat_map line_limits (lines f)))
-        (λ k. ap (λ (l : List RawName). in_decls k ++ l) (sym (flat_flat (line_uses k) (λ (b : RawBlock). b.lines) f.blocks)))
-        (ap (λ (l : List Limited). name_limits f.name ++ (flat_map decl_limits f.decls ++ l)) (sym (flat_flat line_limits (λ (b : RawBlock). b.lines) f.blocks)))
-        uc
+      (λ k. ap (λ (l : List RawName). in_decls k ++ l) (sym (flat_flat (line_uses k) (λ (b : RawBlock). b.lines) f.blocks)))
+      (ap (λ (l : List Limited). name_limits f.name ++ (flat_map decl_limits f.decls ++ l)) (sym (flat_flat line_limits (λ (b : RawBlock). b.lines) f.blocks)))
+      uc

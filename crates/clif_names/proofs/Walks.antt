@@ -81,5 +81,6 @@ leads_set links marks start at next within to leads =
   where
     kept : (j : ℕ) → get_or marks j Open ≡ Walking start → get_or (set marks at (Walking start)) j Open ≡ Walking start
     kept j e = at_set marks at (Walking start) within (λ x i. get_or marks i Open ≡ Walking start → x ≡ Walking start) (λ h. refl) (λ i h. h) j e
+
     moved : (i : ℕ) → GoesOn links marks start at i → GoesOn links (set marks at (Walking start)) start next i
     moved i p = (p.0, p.1, inl (elim p.2 [ inl a ↦ kept p.0 a | inr b ↦ rw (b, get_or-set_same marks at (Walking start) Open within) refl ]))

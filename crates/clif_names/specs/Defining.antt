@@ -10,7 +10,14 @@ use Rattle.clif_names.specs.Definitions.{param_defs, line_defs}
 use Rattle.clif_names.specs.Taking.{no_names, is_new, declare}
 
 abbrev pub no_tables : Tables
-no_tables = record { slots = no_names; sigs = no_names; callees = no_names; blocks = no_names; values = no_names; firsts = [] }
+no_tables = record {
+  slots = no_names;
+  sigs = no_names;
+  callees = no_names;
+  blocks = no_names;
+  values = no_names;
+  firsts = [];
+}
 
 abbrev pub define_decl : Tables → RawDecl → Tables
 define_decl t (decl.Slot n size align) = record t { slots = declare t.slots n }
@@ -26,7 +33,8 @@ define_value t d = record t {
 
 abbrev pub define_block : Tables → RawBlock → Tables
 define_block t b =
-    fold define_value (record t { blocks = declare t.blocks b.block }) (flat_map param_defs b.params ++ flat_map line_defs b.lines)
+    fold define_value (record t { blocks = declare t.blocks b.block })
+    (flat_map param_defs b.params ++ flat_map line_defs b.lines)
 
 abbrev pub defined : RawFunction → Tables
 defined f = fold define_block (fold define_decl no_tables f.decls) f.blocks

@@ -1,5 +1,5 @@
--- What a raw function defines, in order of the text: slots, signatures, callees, blocks and values. A value is defined by a
--- parameter of a block, as a result of an instruction, or by an alias line.
+-- What a raw function defines, in order of the text: slots, signatures, callees, blocks and values. A value is defined
+-- by a parameter of a block, as a result of an instruction, or by an alias line.
 use Rattle.std.specs.Prelude.{List, [], ◌∷◌, ◌++◌, None, Some, map, flat_map}
 use Rattle.clif_insts.specs.declared.raw.RawName.{RawName}
 use Rattle.clif_names.specs.declared.firsts.Def.{Def}

@@ -17,7 +17,8 @@ pub record WorkedFaults : Type 0 where
   pub endless_alias : FirstFault text.endless_alias Undefined 47
   pub one_name : FirstFault text.one_name Duplicate 48
   pub two_at_one_spot : FirstFault text.two_at_one_spot Undefined 35
-  pub numbers_outside : listed text.numbers_outside NumberRange ≡ 95 ∷ 213 ∷ 262 ∷ 9 ∷ 21 ∷ 52 ∷ 67 ∷ 82 ∷ 131 ∷ 162 ∷ 179 ∷ 247 ∷ 229 ∷ 278 ∷ 304 ∷ []
+  pub numbers_outside : listed text.numbers_outside NumberRange ≡
+      95 ∷ 213 ∷ 262 ∷ 9 ∷ 21 ∷ 52 ∷ 67 ∷ 82 ∷ 131 ∷ 162 ∷ 179 ∷ 247 ∷ 229 ∷ 278 ∷ 304 ∷ []
 
 pub record WorkedFreedom : Type 0 where
   pub given_early : NoFault text.given_early

@@ -1,5 +1,5 @@
--- The faults of names and numbers of a raw module, each as a relation of its kind and its spot, and the first of them: the
--- one with the smallest spot, and at one spot the one whose kind is listed first.
+-- The faults of names and numbers of a raw module, each as a relation of its kind and its spot, and the first of them:
+-- the one with the smallest spot, and at one spot the one whose kind is listed first.
 use Rattle.std.specs.Prelude.{◌≡◌, ℕ, ◌<◌, ◌≤◌, ◌⊎◌, ⊤, List, slice_get, Some}
 use Rattle.clif_lex.specs.declared.faults.TextKind.{TextKind}
 use Rattle.clif_lex.specs.declared.faults.TextKind.TheVariants.{BadChar, BadNumber, Syntax, UnknownOpcode, Unsupported, Duplicate, Undefined, NumberRange, Untyped, TooLarge, NoTerminator, EntryTarget, CountMismatch, TypeMismatch, Convention, SignatureMismatch, SlotRange, TagPlace, NotAvailable}
@@ -33,7 +33,8 @@ SameName (func_name.User a i) (func_name.Text b t) = ⊥
 
 abbrev pub FunctionFault : RawFunction → TextKind → ℕ → Type 0
 FunctionFault f Duplicate spot = (k : Kind) × Repeats (definitions f k) spot
-FunctionFault f Undefined spot = ((k : Kind) × IsMissing (definitions f k) (uses f k) spot) ⊎ IsEndless (value_defs f) spot
+FunctionFault f Undefined spot =
+    ((k : Kind) × IsMissing (definitions f k) (uses f k) spot) ⊎ IsEndless (value_defs f) spot
 FunctionFault f NumberRange spot = IsOutside (limits f) spot
 FunctionFault f Untyped spot = IsUntyped f spot
 FunctionFault f TooLarge spot = (name_spot f.name ≡ spot) × (greatest_size < raw_size f)
@@ -44,11 +45,14 @@ FunctionFault f _ spot = ⊥
 -- a function's name at this spot, which an earlier function has
 abbrev pub RepeatsName : List RawFunction → ℕ → Type 0
 RepeatsName fs spot =
-    (i j : ℕ) × (f g : RawFunction) × (slice_get fs i ≡ Some f) × (name_spot f.name ≡ spot) × (j < i) × (slice_get fs j ≡ Some g) × SameName g.name f.name
+    (i j : ℕ) × (f g : RawFunction)
+    × (slice_get fs i ≡ Some f) × (name_spot f.name ≡ spot) × (j < i)
+    × (slice_get fs j ≡ Some g) × SameName g.name f.name
 
 -- a function's name at this spot, and too many functions before it
 abbrev pub IsOneTooMany : List RawFunction → ℕ → Type 0
-IsOneTooMany fs spot = (i : ℕ) × (f : RawFunction) × (slice_get fs i ≡ Some f) × (name_spot f.name ≡ spot) × (most_functions ≤ i)
+IsOneTooMany fs spot =
+    (i : ℕ) × (f : RawFunction) × (slice_get fs i ≡ Some f) × (name_spot f.name ≡ spot) × (most_functions ≤ i)
 
 abbrev pub ListFault : List RawFunction → TextKind → ℕ → Type 0
 ListFault fs Duplicate spot = RepeatsName fs spot
@@ -94,7 +98,8 @@ abbrev pub Before : TextKind → ℕ → TextKind → ℕ → Type 0
 Before kind spot other at = (spot < at) ⊎ ((spot ≡ at) × (rank kind ≤ rank other))
 
 abbrev pub FirstFault : RawModule → TextKind → ℕ → Type 0
-FirstFault raw kind spot = IsFault raw kind spot × ((other : TextKind) (at : ℕ) → IsFault raw other at → Before kind spot other at)
+FirstFault raw kind spot =
+    IsFault raw kind spot × ((other : TextKind) (at : ℕ) → IsFault raw other at → Before kind spot other at)
 
 -- why a raw module is refused; memory may run out at any time
 abbrev pub IsNamesFault : RawModule → TextErr → Type 0
@@ -104,9 +109,11 @@ IsNamesFault raw errors.NoMemory = ⊤
 -- ---- laws
 
 abbrev pub OneFirstFault : Type 0
-OneFirstFault = (raw : RawModule) (k l : TextKind) (s t : ℕ) → FirstFault raw k s → FirstFault raw l t → (k ≡ l) × (s ≡ t)
+OneFirstFault =
+    (raw : RawModule) (k l : TextKind) (s t : ℕ) → FirstFault raw k s → FirstFault raw l t → (k ≡ l) × (s ≡ t)
 
 -- no fault is the first exactly where there is none
 abbrev pub FirstWhereAny : Type 0
 FirstWhereAny = (raw : RawModule) →
-    (((k : TextKind) (s : ℕ) → FirstFault raw k s → ⊥) → NoFault raw) × (NoFault raw → (k : TextKind) (s : ℕ) → FirstFault raw k s → ⊥)
+    (((k : TextKind) (s : ℕ) → FirstFault raw k s → ⊥) → NoFault raw)
+    × (NoFault raw → (k : TextKind) (s : ℕ) → FirstFault raw k s → ⊥)

@@ -15,9 +15,14 @@ IsFirstFault raw (Some fault) = FirstFault raw fault.kind fault.spot
 abbrev pub or_earlier : Option Fault → TextKind → Option ℕ → Option Fault
 or_earlier first kind None = first
 or_earlier None kind (Some spot) = Some (record { kind = kind; spot = spot })
-or_earlier (Some fault) kind (Some spot) = if nat_lt spot fault.spot then Some (record { kind = kind; spot = spot }) else Some fault
+or_earlier (Some fault) kind (Some spot) =
+    if nat_lt spot fault.spot then Some (record { kind = kind; spot = spot }) else Some fault
 
 abbrev pub first_of : LeastSpots → Option Fault
 first_of least =
-    or_earlier (or_earlier (or_earlier (or_earlier (or_earlier None Duplicate least.duplicate) Undefined least.undefined)
-      NumberRange least.number_range) Untyped least.untyped) TooLarge least.too_large
+    or_earlier
+    (or_earlier
+    (or_earlier (or_earlier (or_earlier None Duplicate least.duplicate) Undefined least.undefined)
+    NumberRange least.number_range)
+    Untyped least.untyped)
+    TooLarge least.too_large

@@ -108,7 +108,8 @@ tag_limits (tag.Slot n) = []
 abbrev pub line_limits : RawLine → List Limited
 line_limits (line.Alias location n m) = []
 line_limits (line.Inst location tags results inst) =
-    flat_map tag_limits tags ++ operand_limits inst.suffix inst.operands ++ flat_map target_limits (operand_targets inst.operands)
+    flat_map tag_limits tags ++ operand_limits inst.suffix inst.operands
+    ++ flat_map target_limits (operand_targets inst.operands)
 
 -- ---- the whole function
 
@@ -120,8 +121,11 @@ abbrev pub all_words : RawFunction → List RawName
 all_words f = flat_map (words f) all_kinds
 
 abbrev pub limits : RawFunction → List Limited
-limits f = map (of_word Entity) (all_words f) ++ name_limits f.name ++ flat_map decl_limits f.decls ++ flat_map line_limits (lines f)
+limits f =
+    map (of_word Entity) (all_words f) ++ name_limits f.name
+    ++ flat_map decl_limits f.decls ++ flat_map line_limits (lines f)
 
 -- a number at this spot that does not keep its limit
 abbrev pub IsOutside : List Limited → ℕ → Type 0
-IsOutside ns spot = (i : ℕ) × (n : Limited) × (slice_get ns i ≡ Some n) × (n.spot ≡ spot) × (keeps n.limit n.value ≡ false)
+IsOutside ns spot =
+    (i : ℕ) × (n : Limited) × (slice_get ns i ≡ Some n) × (n.spot ≡ spot) × (keeps n.limit n.value ≡ false)

@@ -131,7 +131,9 @@ AllListed = (raw : RawModule) (kind : TextKind) (spot : ℕ) → IsFault raw kin
 
 -- no listed fault is before this one
 abbrev pub none_before : TextKind → ℕ → TextKind → List ℕ → Bool
-none_before kind spot other spots = if nat_le (rank kind) (rank other) then list_all (λ at. nat_le spot at) spots else list_all (λ at. nat_lt spot at) spots
+none_before kind spot other spots =
+    if nat_le (rank kind) (rank other) then list_all (λ at. nat_le spot at) spots
+    else list_all (λ at. nat_lt spot at) spots
 
 abbrev pub names_kinds : List TextKind
 names_kinds = Duplicate ∷ Undefined ∷ NumberRange ∷ Untyped ∷ TooLarge ∷ []
@@ -152,7 +154,9 @@ ListedNone = (raw : RawModule) → none_listed raw ≡ true → NoFault raw
 
 -- a fault before which none is listed, is the first
 abbrev pub ListedFirst : Type 0
-ListedFirst = (raw : RawModule) (kind : TextKind) (spot : ℕ) → IsFault raw kind spot → leads raw kind spot ≡ true → FirstFault raw kind spot
+ListedFirst =
+    (raw : RawModule) (kind : TextKind) (spot : ℕ) → IsFault raw kind spot →
+    leads raw kind spot ≡ true → FirstFault raw kind spot
 
 -- ---- numbers of values, where each chain ends
 

@@ -1,5 +1,5 @@
 -- What becomes of the words of a kind, and of the faults among them, as definitions and uses are taken in order.
-use Rattle.std.specs.Prelude.{ℕ, Bool, nat_eq, position, is_none, nat_lt, [], ◌∷◌, ◌++◌, None, if◌then◌else◌}
+use Rattle.std.specs.Prelude.{ℕ, Bool, nat_eq, position, is_none, nat_lt, length, unwrap_or, List, [], ◌∷◌, ◌++◌, None, if◌then◌else◌}
 use Rattle.ir_text.specs.Writable.{greatest_number}
 use Rattle.clif_insts.specs.declared.raw.RawName.{RawName}
 use Rattle.clif_names.specs.declared.names.Names.{Names}
@@ -30,3 +30,7 @@ refer t n = record {
   missing = if is_new t n.number then earlier_spot t.missing n.spot else t.missing;
   outside = (see t n).outside;
 }
+
+-- the place of a word, or the number of words where it is none of them
+abbrev pub place_or_count : List ℕ → ℕ → ℕ
+place_or_count words n = unwrap_or (position (nat_eq n) words) (length words)

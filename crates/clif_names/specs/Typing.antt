@@ -42,10 +42,11 @@ step_inst (Line l) = line_inst l
 abbrev pub DefinedBefore : RawFunction → ℕ → ℕ → Type 0
 DefinedBefore f i n = IsDefined (names_of (defs_of (take i (steps f)))) n
 
--- At this opcode the type of an operand is asked for, and the definition that it stands for, after aliases, is a result of
--- this instruction or stands behind it.
+-- At this opcode the type of an operand is asked for, and the definition that it stands for, after aliases, is a result
+-- of this instruction or stands behind it.
 abbrev pub IsUntyped : RawFunction → ℕ → Type 0
 IsUntyped f spot =
     (i : ℕ) × (step : Step) × (inst : RawInst) × (x : RawName) × (e : Def)
-    × (slice_get (steps f) i ≡ Some step) × (step_inst step ≡ Some inst) × (inst.opcode.spot ≡ spot) × (asks inst ≡ Some x)
+    × (slice_get (steps f) i ≡ Some step) × (step_inst step ≡ Some inst) × (inst.opcode.spot ≡ spot)
+    × (asks inst ≡ Some x)
     × StandsFor (value_defs f) x.number e × (DefinedBefore f i e.name.number → ⊥)

@@ -93,7 +93,8 @@ line_uses Slots (line.Inst location tags results inst) = flat_map tag_slots tags
 line_uses Sigs (line.Inst location tags results inst) = operand_sigs inst.operands
 line_uses Callees (line.Inst location tags results inst) = operand_callees inst.operands
 line_uses Blocks (line.Inst location tags results inst) = map (λ t. t.block) (operand_targets inst.operands)
-line_uses Values (line.Inst location tags results inst) = operand_values inst.operands ++ flat_map target_values (operand_targets inst.operands)
+line_uses Values (line.Inst location tags results inst) =
+    operand_values inst.operands ++ flat_map target_values (operand_targets inst.operands)
 line_uses Values (line.Alias location n m) = m ∷ []
 line_uses _ (line.Alias location n m) = []
 

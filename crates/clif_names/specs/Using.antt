@@ -92,7 +92,8 @@ is_late ends u n = is_late_at ends u.defined (position (nat_eq n) u.values.words
 
 abbrev pub ask_operand : List End → Uses → ℕ → Option RawName → Uses
 ask_operand ends u spot None = u
-ask_operand ends u spot (Some x) = record u { untyped = if is_late ends u x.number then earlier_spot u.untyped spot else u.untyped }
+ask_operand ends u spot (Some x) =
+    record u { untyped = if is_late ends u x.number then earlier_spot u.untyped spot else u.untyped }
 
 abbrev pub ask_type : List End → Uses → RawInst → Uses
 ask_type ends u inst = ask_operand ends u inst.opcode.spot (asks inst)
@@ -110,11 +111,8 @@ define u n = record u { defined = next_count u.defined (position (nat_eq n.numbe
 abbrev pub use_line : List End → Uses → RawLine → Uses
 use_line ends u (line.Alias location n m) = define (record u { values = refer u.values m }) n
 use_line ends u (line.Inst location tags results inst) =
-    fold define
-      (fold use_target
-        (use_operands (note_operands (fold use_tag (ask_type ends u inst) tags) inst.suffix inst.operands) inst.operands)
-        (operand_targets inst.operands))
-      results
+    let noted = note_operands (fold use_tag (ask_type ends u inst) tags) inst.suffix inst.operands in
+    fold define (fold use_target (use_operands noted inst.operands) (operand_targets inst.operands)) results
 
 abbrev pub define_param : Uses → RawBlockParam → Uses
 define_param u p = define u p.value

@@ -8,11 +8,14 @@ IsDefined defs n = (i : ℕ) × (d : RawName) × (slice_get defs i ≡ Some d) �
 
 -- a definition at this spot, and one of the same word before it
 abbrev pub Repeats : List RawName → ℕ → Type 0
-Repeats defs spot = (i j : ℕ) × (d e : RawName) × (slice_get defs i ≡ Some d) × (d.spot ≡ spot) × (j < i) × (slice_get defs j ≡ Some e) × (e.number ≡ d.number)
+Repeats defs spot =
+    (i j : ℕ) × (d e : RawName)
+    × (slice_get defs i ≡ Some d) × (d.spot ≡ spot) × (j < i) × (slice_get defs j ≡ Some e) × (e.number ≡ d.number)
 
 -- a use at this spot of a word without a definition
 abbrev pub IsMissing : List RawName → List RawName → ℕ → Type 0
-IsMissing defs uses spot = (i : ℕ) × (u : RawName) × (slice_get uses i ≡ Some u) × (u.spot ≡ spot) × (IsDefined defs u.number → ⊥)
+IsMissing defs uses spot =
+    (i : ℕ) × (u : RawName) × (slice_get uses i ≡ Some u) × (u.spot ≡ spot) × (IsDefined defs u.number → ⊥)
 
 -- the place of a word's first definition among these
 abbrev pub place_in : List RawName → ℕ → ℕ

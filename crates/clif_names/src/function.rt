@@ -3,6 +3,7 @@ ghost use Rattle.std.specs.Prelude.{◌≡◌, IfOk};
 ghost use Rattle.clif_names.specs.Faults.{FunctionFault};
 ghost use Rattle.clif_names.specs.FunctionNames.{AreNamesOf};
 ghost use Rattle.clif_names.specs.LeastSpots.{AreLeast};
+ghost use Rattle.clif_names.specs.Taking.{place_or_count};
 ghost use Rattle.clif_names.specs.Using.{uses_of};
 
 use crate::aliases::{endless, links};
@@ -39,6 +40,38 @@ impl FunctionNames {
             ends,
             endless,
         })
+    }
+
+    /// The place of a slot's word, or the number of slots where it has no definition.
+    #[inline]
+    pub fn slot(&self, word: u64) -> usize
+        ensures { result ≡ place_or_count self.now.uses.slots.words word }
+    {
+        self.uses.slots.place_or_count(word)
+    }
+
+    /// The place of a signature's word among the declared ones, or their number where it has no definition.
+    #[inline]
+    pub fn sig(&self, word: u64) -> usize
+        ensures { result ≡ place_or_count self.now.uses.sigs.words word }
+    {
+        self.uses.sigs.place_or_count(word)
+    }
+
+    /// The place of a callee's word, or the number of callees where it has no definition.
+    #[inline]
+    pub fn callee(&self, word: u64) -> usize
+        ensures { result ≡ place_or_count self.now.uses.callees.words word }
+    {
+        self.uses.callees.place_or_count(word)
+    }
+
+    /// The place of a block's word, or the number of blocks where it has no definition.
+    #[inline]
+    pub fn block(&self, word: u64) -> usize
+        ensures { result ≡ place_or_count self.now.uses.blocks.words word }
+    {
+        self.uses.blocks.place_or_count(word)
     }
 
     /// The least spots of the function's faults.

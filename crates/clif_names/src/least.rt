@@ -48,11 +48,7 @@ impl LeastSpots {
     }
 
     /// The least spots of a function, where its words were used and `endless` is that of the alias lines.
-    pub(crate) fn of_function(
-        uses: &Uses,
-        endless: Option<usize>,
-        func: &RawFunction,
-    ) -> LeastSpots
+    pub(crate) fn of_function(uses: &Uses, endless: Option<usize>, func: &RawFunction) -> LeastSpots
         ensures { result ≡ spec.least_of uses.now endless func.now }
     {
         LeastSpots {

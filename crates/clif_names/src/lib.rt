@@ -1,4 +1,4 @@
-//! The names of a raw module: the words that it defines and uses, the numbers that it writes, and what is wrong with them.
+//! The names of a raw module: the words that it defines and uses, its numbers, and the first fault of these.
 #![tactic(auto)]
 
 mod aliases;

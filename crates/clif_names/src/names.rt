@@ -72,6 +72,17 @@ impl Names {
         }
     }
 
+    /// The place of a word in order of definition, or the number of words where it has no definition.
+    #[inline]
+    pub(crate) fn place_or_count(&self, word: u64) -> usize
+        ensures { result ≡ spec.place_or_count self.now.words word }
+    {
+        match self.words.place(word) {
+            Some(place) => place,
+            None => self.words.len(),
+        }
+    }
+
     /// Takes uses in order.
     #[tactic(auto, using(crate::proofs::Folds::fold_one))]
     pub(crate) fn refer_all(&mut self, names: &[RawName])

@@ -82,7 +82,9 @@ fn operands_size(operands: &RawOperands) -> usize
             .saturating_add(yes.get().args.as_slice().len())
             .saturating_add(no.get().args.as_slice().len()),
         RawOperands::BrTable {
-            default, entries, ..
+            default,
+            entries,
+            ..
         } => 1usize
             .saturating_add(default.get().args.as_slice().len())
             .saturating_add(entries_size(entries.as_slice())),

@@ -8,9 +8,7 @@ use crate::links::End;
 use crate::names::Names;
 use crate::operands::asks;
 use crate::spots::earlier_spot;
-use clif_insts::{
-    RawArg, RawEntry, RawInst, RawName, RawNumber, RawOperands, RawTarget, RawTrap,
-};
+use clif_insts::{RawArg, RawEntry, RawInst, RawName, RawNumber, RawOperands, RawTarget, RawTrap};
 use clif_read::{
     RawBlock, RawBlockParam, RawCalleeSig, RawDecl, RawFuncName, RawFunction, RawLine, RawTag,
 };
@@ -141,7 +139,9 @@ impl Uses {
                 self.use_target(no.get());
             }
             RawOperands::BrTable {
-                default, entries, ..
+                default,
+                entries,
+                ..
             } => {
                 self.use_target(default.get());
                 self.use_targets(entries.as_slice());

@@ -9,5 +9,5 @@ returns c =
     let among = rw c.as_slice-functions.ensures at c.in_ok-among.ensures in
     let inside = rw c.as_slice-functions.ensures at c.in_ok-inside.ensures in
     rw (c.first_of.ensures, c.join.ensures)
-      (first_is c.args.raw.now (joined c.in_ok-among.among c.in_ok-inside.inside)
-        (joined_least (ListFault fs) (InSomeFunction fs) c.in_ok-among.among c.in_ok-inside.inside among inside))
+    (first_is c.args.raw.now (joined c.in_ok-among.among c.in_ok-inside.inside)
+    (joined_least (ListFault fs) (InSomeFunction fs) c.in_ok-among.among c.in_ok-inside.inside among inside))

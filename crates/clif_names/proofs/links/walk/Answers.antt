@@ -31,7 +31,8 @@ pub settle-requires-clause-means : goal.settle-requires-clause-means
 settle-requires-clause-means c =
     let i = c.walk.invariant in
     i.same_end c.match-marks-at.end (elim c.match-marks-at.branch [
-      in-Ended w ↦ rw w.end-is (i.right c.walk.at w.in-Ended.end w.in-Ended.is)
-    | in-Walking+then-by-start w ↦ rw w.end-is (meets_itself c.args.links.now c.walk.marks c.args.start c.walk.at i.leads (w.in-Walking.is ∙ ap Walking w.if-by-start.true))
-    | in-Value w ↦ rw w.end-is (at_value c.args.links.now c.walk.at w.in-Value.is)
-    | in-Missing w ↦ rw w.end-is (at_missing c.args.links.now c.walk.at w.in-Missing.is) ])
+      | in-Ended w ↦ rw w.end-is (i.right c.walk.at w.in-Ended.end w.in-Ended.is)
+      | in-Walking+then-by-start w ↦ rw w.end-is (meets_itself c.args.links.now c.walk.marks c.args.start c.walk.at i.leads (w.in-Walking.is ∙ ap Walking w.if-by-start.true))
+      | in-Value w ↦ rw w.end-is (at_value c.args.links.now c.walk.at w.in-Value.is)
+      | in-Missing w ↦ rw w.end-is (at_missing c.args.links.now c.walk.at w.in-Missing.is)
+    ])

@@ -11,13 +11,13 @@ use Rattle.clif_names.proofs.function.FunctionNames.of.Goals as goal
 pub ends-requires : goal.ends-requires
 ends-requires c =
     let links : c.deref.result.now ≡ map (link_of (defined c.args.func.now).values.words) (defined c.args.func.now).firsts =
-        c.deref.ensures.value ∙ c.in_ok-links.ensures ∙ rw (c.as_slice.ensures, c.in_ok-tables.ensures) refl in
+    c.deref.ensures.value ∙ c.in_ok-links.ensures ∙ rw (c.as_slice.ensures, c.in_ok-tables.ensures) refl in
     record { links_in_range = subst InRange (sym links) (links_in_range c.args.func.now) }
 
 pub returns : goal.returns
 returns c =
     let links : c.deref.result.now ≡ map (link_of (defined c.args.func.now).values.words) (defined c.args.func.now).firsts =
-        c.deref.ensures.value ∙ c.in_ok-links.ensures ∙ rw (c.as_slice.ensures, c.in_ok-tables.ensures) refl in
+    c.deref.ensures.value ∙ c.in_ok-links.ensures ∙ rw (c.as_slice.ensures, c.in_ok-tables.ensures) refl in
     record {
       ends = rw (← links) c.in_ok-ends.ensures;
       uses = c.use_function.ensures ∙ rw (c.deref-3.ensures.value, c.begun-uses.ensures, c.in_ok-tables.ensures) refl;

@@ -13,7 +13,7 @@ use Rattle.clif_insts.specs.declared.raw.RawOperands.TheVariants as operands
 use Rattle.clif_words.specs.Classes.{code}
 use Rattle.clif_words.specs.Terminals.{◌then◌, ◌or◌, arrow, comma, equals, value}
 use Rattle.clif_insts.specs.Grammar.{return_alone}
-use Rattle.clif_insts.specs.Reading.{next_is, name, name_at}
+use Rattle.clif_insts.specs.Reading.{next_is, name, opcode, opcode_at, name_at}
 use Rattle.clif_insts.specs.Arguments.{more_values_at, values_at}
 use Rattle.clif_insts.specs.Values.{◌otherwise◌, seen}
 use Rattle.clif_insts.specs.InstValues.{raw}
@@ -129,7 +129,7 @@ pub record Alone (ts : List Lexeme) : Type 0 where
   pub all : ts ≡ first ∷ rest
   pub is_return : first.class ≡ code classes.Return
   pub starts : Starts return_alone ts
-  pub read : one_at ts ≡ Ok (raw (name first) None (operands.Return []), rest)
+  pub read : one_at ts ≡ Ok (raw (opcode first) None (operands.Return []), rest)
 
 pub record Whole (ts : List Lexeme) : Type 0 where
   pub starts_not : Starts return_alone ts → ⊥
@@ -143,7 +143,7 @@ no_return ts h = record {
 }
 
 with_return : (x : Lexeme) (xs : List Lexeme) → next_is classes.Return (x ∷ xs) ≡ true → Decided xs → Alone (x ∷ xs) ⊎ Whole (x ∷ xs)
-unfolding one_at return_line_at return_values_at
+unfolding one_at return_line_at return_values_at opcode_at
 with_return x xs h d =
     let takes : name_at classes.Return (x ∷ xs) ≡ Ok (name x, xs) = takes_name classes.Return (x ∷ xs) h (name x) xs (λ y ys e. ap name (let f : x ≡ y = cc in f)) refl in
     elim d [

@@ -14,7 +14,7 @@ use Rattle.clif_words.specs.Classes.{code}
 use Rattle.clif_insts.specs.Grammar.{whole_inst}
 use Rattle.clif_insts.specs.declared.stop.Stop.{Stop}
 use Rattle.clif_insts.specs.declared.stop.Stop.TheVariants as stops
-use Rattle.clif_insts.specs.Reading.{name, name_at, Stops}
+use Rattle.clif_insts.specs.Reading.{opcode, opcode_at, name_at, Stops}
 use Rattle.clif_insts.specs.Values.{seen}
 use Rattle.clif_insts.specs.InstValues.{raw, whole_value}
 use Rattle.clif_insts.specs.Forms.{opt_values_at, return_values_at, whole_at, one_at}
@@ -78,16 +78,16 @@ says_whole ts place own (Err e) h =
     (ts, own, (m.0, m.1, m.2, (m.3.1, no_text whole_inst refl refl ts m.0 e.1 e.0 cut h, m.3.2, place_same ts m.0 e.1 place (m.2 ∙ ap (λ (l : List Lexeme). m.0 ++ l) m.3.0))))
 
 -- a `return` and nothing else
-return_only : (x : Lexeme) → x.class ≡ code classes.Return → whole_at (x ∷ []) ≡ Ok (raw (name x) None (operands.Return []), [])
-unfolding whole_at return_values_at opt_values_at name_at
+return_only : (x : Lexeme) → x.class ≡ code classes.Return → whole_at (x ∷ []) ≡ Ok (raw (opcode x) None (operands.Return []), [])
+unfolding whole_at return_values_at opt_values_at opcode_at name_at
 return_only x h = rw h refl
 
 says_alone : (ts : List Lexeme) (place : List Lexeme → ℕ) → Alone ts → (o : Out (Value whole_inst)) (x : Lexeme) (rest : List Lexeme) → ts ≡ x ∷ rest → Own ts (x ∷ [])
-    → read whole_inst (x ∷ []) ≡ o → seen whole_value o ≡ Ok (raw (name x) None (operands.Return []), []) → Found ts place (raw (name x) None (operands.Return [])) (place rest)
+    → read whole_inst (x ∷ []) ≡ o → seen whole_value o ≡ Ok (raw (opcode x) None (operands.Return []), []) → Found ts place (raw (opcode x) None (operands.Return [])) (place rest)
 says_alone ts place a (Err e) x rest all own h s = absurd cc
 says_alone ts place a (Ok (v, left)) x rest all own h s =
-    let none_left : left ≡ [] = (let p = same_pair (whole_value v, left) (raw (name x) None (operands.Return []), []) s in ap (λ (p : RawInst × List Lexeme). p.1) p) in
-    let value : raw (name x) None (operands.Return []) ≡ whole_value v = (let p = same_pair (whole_value v, left) (raw (name x) None (operands.Return []), []) s in sym (ap (λ (p : RawInst × List Lexeme). p.0) p)) in
+    let none_left : left ≡ [] = (let p = same_pair (whole_value v, left) (raw (opcode x) None (operands.Return []), []) s in ap (λ (p : RawInst × List Lexeme). p.1) p) in
+    let value : raw (opcode x) None (operands.Return []) ≡ whole_value v = (let p = same_pair (whole_value v, left) (raw (opcode x) None (operands.Return []), []) s in sym (ap (λ (p : RawInst × List Lexeme). p.0) p)) in
     let f = found (x ∷ []) v left h in
     let us : x ∷ [] ≡ f.0 = f.2 ∙ ap (λ (l : List Lexeme). f.0 ++ l) (f.3.0 ∙ none_left) ∙ append-nil f.0 in
     let same : place rest ≡ place_behind place f.0 ts = ap (λ (l : List Lexeme). place (drop (length l) (x ∷ rest))) us ∙ ap (λ (l : List Lexeme). place_behind place f.0 l) (sym all) in
@@ -101,7 +101,7 @@ says ts place =
     elim (alone_or_whole ts) [
       | inl a ↦ subst (Says ts place) (sym a.read) (
           let own : Own ts (a.first ∷ []) = inl (a.starts, sym (ap (take 1) a.all)) in
-          let s : seen whole_value (read whole_inst (a.first ∷ [])) ≡ Ok (raw (name a.first) None (operands.Return []), []) = sym (whole_is.same (a.first ∷ [])) ∙ return_only a.first a.is_return in
+          let s : seen whole_value (read whole_inst (a.first ∷ [])) ≡ Ok (raw (opcode a.first) None (operands.Return []), []) = sym (whole_is.same (a.first ∷ [])) ∙ return_only a.first a.is_return in
           says_alone ts place a (read whole_inst (a.first ∷ [])) a.first a.rest a.all own refl s)
       | inr w ↦ subst (Says ts place) (sym (w.read ∙ whole_is.same ts)) (says_whole ts place (inr (w.starts_not, refl)) (read whole_inst ts) refl)
     ]

@@ -4,7 +4,7 @@ use Rattle.grammar.specs.Rules.{Lexeme, Kind, Syntax, Rule, Tok, Seq, Alt, Opt, 
 use Rattle.clif_words.specs.declared.class.Class.{Class}
 use Rattle.clif_words.specs.Classes.{code}
 use Rattle.clif_words.specs.Terminals.{one, refused, codes_of}
-use Rattle.clif_insts.specs.Reading.{name, amount, name_at, amount_at, each, refuse, refuse_codes}
+use Rattle.clif_insts.specs.Reading.{name, opcode, opcode_by, amount, name_at, opcode_at, amount_at, each, refuse, refuse_codes}
 use Rattle.clif_insts.specs.Values.{either, perhaps, seen}
 
 -- the reading p is that of the rule r, seen through f
@@ -64,6 +64,10 @@ token_is c ts = go (token c ts)
 pub name_is : (class : Class) → Is (one class) name (name_at class)
 unfolding name_at
 name_is class = record { same = λ ts. ap (λ (z : Out Lexeme). z >>= λ x. Ok (name x.0, x.1)) (token_is (code class) ts) ∙ seen_map (λ x. x) name (token (code class) ts) }
+
+pub opcode_is : (class : Class) → Is (one class) opcode (opcode_at class)
+unfolding opcode_at
+opcode_is class = map_is (name_is class) opcode_by
 
 pub amount_is : (class : Class) → Is (one class) amount (amount_at class)
 unfolding amount_at

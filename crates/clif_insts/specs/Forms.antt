@@ -9,7 +9,7 @@ use Rattle.clif_insts.specs.declared.raw.RawName.{RawName}
 use Rattle.clif_insts.specs.declared.raw.RawInst.{RawInst}
 use Rattle.clif_insts.specs.declared.raw.RawOperands.TheVariants as operands
 use Rattle.clif_insts.specs.Grammar.{excepted, words_but}
-use Rattle.clif_insts.specs.Reading.{next_is, name_at, refuse_codes}
+use Rattle.clif_insts.specs.Reading.{next_is, name_at, opcode_at, refuse_codes}
 use Rattle.clif_insts.specs.Types.{suffix_at, opt_suffix_at, suffix_i64_at, opt_suffix_i64_at}
 use Rattle.clif_insts.specs.Codes.{condition_at, trap_at}
 use Rattle.clif_insts.specs.Arguments.{more_values_at, values_at, args_at}
@@ -20,14 +20,14 @@ use Rattle.clif_insts.specs.Flags.{flags_at}
 
 unfoldable pub iconst_at : List Lexeme → Out RawInst
 iconst_at ts = do
-  opcode ← name_at classes.Iconst ts
+  opcode ← opcode_at classes.Iconst ts
   suffix ← suffix_at opcode.1
   number ← number_at suffix.1
   Ok (record { opcode = opcode.0; suffix = Some suffix.0; operands = operands.Number number.0 }, number.1)
 
 unfoldable pub binary_at : List Lexeme → Out RawInst
 binary_at ts = do
-  opcode ← name_at classes.Binary ts
+  opcode ← opcode_at classes.Binary ts
   suffix ← opt_suffix_at opcode.1
   x ← name_at classes.Value suffix.1
   s2 ← name_at classes.Comma x.1
@@ -36,14 +36,14 @@ binary_at ts = do
 
 unfoldable pub unary_at : List Lexeme → Out RawInst
 unary_at ts = do
-  opcode ← name_at classes.Unary ts
+  opcode ← opcode_at classes.Unary ts
   suffix ← opt_suffix_at opcode.1
   x ← name_at classes.Value suffix.1
   Ok (record { opcode = opcode.0; suffix = suffix.0; operands = operands.Unary x.0 }, x.1)
 
 unfoldable pub icmp_at : List Lexeme → Out RawInst
 icmp_at ts = do
-  opcode ← name_at classes.Icmp ts
+  opcode ← opcode_at classes.Icmp ts
   suffix ← opt_suffix_at opcode.1
   condition ← condition_at suffix.1
   x ← name_at classes.Value condition.1
@@ -53,7 +53,7 @@ icmp_at ts = do
 
 unfoldable pub select_at : List Lexeme → Out RawInst
 select_at ts = do
-  opcode ← name_at classes.Select ts
+  opcode ← opcode_at classes.Select ts
   suffix ← opt_suffix_at opcode.1
   x ← name_at classes.Value suffix.1
   s2 ← name_at classes.Comma x.1
@@ -64,14 +64,14 @@ select_at ts = do
 
 unfoldable pub convert_at : List Lexeme → Out RawInst
 convert_at ts = do
-  opcode ← name_at classes.Convert ts
+  opcode ← opcode_at classes.Convert ts
   suffix ← suffix_at opcode.1
   x ← name_at classes.Value suffix.1
   Ok (record { opcode = opcode.0; suffix = Some suffix.0; operands = operands.Unary x.0 }, x.1)
 
 unfoldable pub binary_imm_at : List Lexeme → Out RawInst
 binary_imm_at ts = do
-  opcode ← name_at classes.BinaryImm ts
+  opcode ← opcode_at classes.BinaryImm ts
   suffix ← opt_suffix_at opcode.1
   x ← name_at classes.Value suffix.1
   s2 ← name_at classes.Comma x.1
@@ -80,7 +80,7 @@ binary_imm_at ts = do
 
 unfoldable pub icmp_imm_at : List Lexeme → Out RawInst
 icmp_imm_at ts = do
-  opcode ← name_at classes.IcmpImm ts
+  opcode ← opcode_at classes.IcmpImm ts
   suffix ← opt_suffix_at opcode.1
   condition ← condition_at suffix.1
   x ← name_at classes.Value condition.1
@@ -90,7 +90,7 @@ icmp_imm_at ts = do
 
 unfoldable pub load_at : List Lexeme → Out RawInst
 load_at ts = do
-  opcode ← name_at classes.Load ts
+  opcode ← opcode_at classes.Load ts
   suffix ← suffix_at opcode.1
   flags ← flags_at suffix.1
   address ← name_at classes.Value flags.1
@@ -99,7 +99,7 @@ load_at ts = do
 
 unfoldable pub load_wide_at : List Lexeme → Out RawInst
 load_wide_at ts = do
-  opcode ← name_at classes.LoadWide ts
+  opcode ← opcode_at classes.LoadWide ts
   suffix ← opt_suffix_at opcode.1
   flags ← flags_at suffix.1
   address ← name_at classes.Value flags.1
@@ -108,7 +108,7 @@ load_wide_at ts = do
 
 unfoldable pub store_at : List Lexeme → Out RawInst
 store_at ts = do
-  opcode ← name_at classes.Store ts
+  opcode ← opcode_at classes.Store ts
   suffix ← opt_suffix_at opcode.1
   flags ← flags_at suffix.1
   value ← name_at classes.Value flags.1
@@ -119,7 +119,7 @@ store_at ts = do
 
 unfoldable pub stack_load_at : List Lexeme → Out RawInst
 stack_load_at ts = do
-  opcode ← name_at classes.StackLoad ts
+  opcode ← opcode_at classes.StackLoad ts
   suffix ← suffix_at opcode.1
   slot ← name_at classes.Slot suffix.1
   offset ← offset_at slot.1
@@ -127,7 +127,7 @@ stack_load_at ts = do
 
 unfoldable pub stack_store_at : List Lexeme → Out RawInst
 stack_store_at ts = do
-  opcode ← name_at classes.StackStore ts
+  opcode ← opcode_at classes.StackStore ts
   suffix ← opt_suffix_at opcode.1
   value ← name_at classes.Value suffix.1
   s2 ← name_at classes.Comma value.1
@@ -137,25 +137,25 @@ stack_store_at ts = do
 
 unfoldable pub func_addr_at : List Lexeme → Out RawInst
 func_addr_at ts = do
-  opcode ← name_at classes.FuncAddr ts
+  opcode ← opcode_at classes.FuncAddr ts
   s0 ← suffix_i64_at opcode.1
   callee ← name_at classes.Callee s0.1
   Ok (record { opcode = opcode.0; suffix = None; operands = operands.FuncAddr callee.0 }, callee.1)
 
 unfoldable pub nullary_at : List Lexeme → Out RawInst
 nullary_at ts = do
-  opcode ← name_at classes.Nullary ts
+  opcode ← opcode_at classes.Nullary ts
   Ok (record { opcode = opcode.0; suffix = None; operands = operands.Nullary }, opcode.1)
 
 unfoldable pub jump_at : List Lexeme → Out RawInst
 jump_at ts = do
-  opcode ← name_at classes.Jump ts
+  opcode ← opcode_at classes.Jump ts
   target ← target_at places.Branch opcode.1
   Ok (record { opcode = opcode.0; suffix = None; operands = operands.Jump target.0 }, target.1)
 
 unfoldable pub brif_at : List Lexeme → Out RawInst
 brif_at ts = do
-  opcode ← name_at classes.Brif ts
+  opcode ← opcode_at classes.Brif ts
   suffix ← opt_suffix_at opcode.1
   cond ← name_at classes.Value suffix.1
   s2 ← name_at classes.Comma cond.1
@@ -166,7 +166,7 @@ brif_at ts = do
 
 unfoldable pub br_table_at : List Lexeme → Out RawInst
 br_table_at ts = do
-  opcode ← name_at classes.BrTable ts
+  opcode ← opcode_at classes.BrTable ts
   index ← name_at classes.Value opcode.1
   s1 ← name_at classes.Comma index.1
   default ← target_at places.Branch s1.1
@@ -176,18 +176,18 @@ br_table_at ts = do
 
 unfoldable pub return_inst_at : List Lexeme → Out RawInst
 return_inst_at ts = do
-  opcode ← name_at classes.Return ts
+  opcode ← opcode_at classes.Return ts
   Ok (record { opcode = opcode.0; suffix = None; operands = operands.Return [] }, opcode.1)
 
 unfoldable pub trap_inst_at : List Lexeme → Out RawInst
 trap_inst_at ts = do
-  opcode ← name_at classes.Trap ts
+  opcode ← opcode_at classes.Trap ts
   code ← trap_at opcode.1
   Ok (record { opcode = opcode.0; suffix = None; operands = operands.Trap code.0 }, code.1)
 
 unfoldable pub trap_if_at : List Lexeme → Out RawInst
 trap_if_at ts = do
-  opcode ← name_at classes.TrapIf ts
+  opcode ← opcode_at classes.TrapIf ts
   suffix ← opt_suffix_at opcode.1
   x ← name_at classes.Value suffix.1
   s2 ← name_at classes.Comma x.1
@@ -196,14 +196,14 @@ trap_if_at ts = do
 
 unfoldable pub call_at : List Lexeme → Out RawInst
 call_at ts = do
-  opcode ← name_at classes.Call ts
+  opcode ← opcode_at classes.Call ts
   callee ← name_at classes.Callee opcode.1
   args ← args_at callee.1
   Ok (record { opcode = opcode.0; suffix = None; operands = operands.Call callee.0 args.0 }, args.1)
 
 unfoldable pub try_call_at : List Lexeme → Out RawInst
 try_call_at ts = do
-  opcode ← name_at classes.TryCall ts
+  opcode ← opcode_at classes.TryCall ts
   callee ← name_at classes.Callee opcode.1
   args ← args_at callee.1
   s2 ← name_at classes.Comma args.1
@@ -216,7 +216,7 @@ try_call_at ts = do
 
 unfoldable pub call_indirect_at : List Lexeme → Out RawInst
 call_indirect_at ts = do
-  opcode ← name_at classes.CallIndirect ts
+  opcode ← opcode_at classes.CallIndirect ts
   s0 ← opt_suffix_i64_at opcode.1
   sig ← name_at classes.Sig s0.1
   s2 ← name_at classes.Comma sig.1
@@ -226,7 +226,7 @@ call_indirect_at ts = do
 
 unfoldable pub try_call_indirect_at : List Lexeme → Out RawInst
 try_call_indirect_at ts = do
-  opcode ← name_at classes.TryCallIndirect ts
+  opcode ← opcode_at classes.TryCallIndirect ts
   s0 ← opt_suffix_i64_at opcode.1
   address ← name_at classes.Value s0.1
   args ← args_at address.1
@@ -280,7 +280,7 @@ opt_values_at ts = if next_is classes.Value ts then values_at ts else Ok ([], ts
 -- `return v, ..`
 unfoldable pub return_values_at : List Lexeme → Out RawInst
 return_values_at ts = do
-  opcode ← name_at classes.Return ts
+  opcode ← opcode_at classes.Return ts
   values ← opt_values_at opcode.1
   Ok (record { opcode = opcode.0; suffix = None; operands = operands.Return values.0 }, values.1)
 
@@ -298,7 +298,7 @@ own_values_at ts =
 
 unfoldable pub return_line_at : List Lexeme → Out RawInst
 return_line_at ts = do
-  opcode ← name_at classes.Return ts
+  opcode ← opcode_at classes.Return ts
   values ← own_values_at opcode.1
   Ok (record { opcode = opcode.0; suffix = None; operands = operands.Return values.0 }, values.1)
 

@@ -1,13 +1,17 @@
 //! Laws of the grammar.
 
-ghost use Rattle.std.specs.Prelude.{◌≡◌, List};
-ghost use Rattle.grammar.specs.Rules.{Lexeme, Answers, read, read_all};
+ghost use Rattle.std.specs.Prelude.{◌≡◌, ℕ, List};
+ghost use Rattle.grammar.specs.Rules.{Lexeme, Answers, Derives, Value, read, read_all};
+ghost use Rattle.clif_words.specs.declared.class.Class.{Class};
+ghost use Rattle.clif_words.specs.TextTokens.{AreTextTokens};
 ghost use Rattle.clif_insts.specs.declared.opening.Opening.{Opening};
 ghost use Rattle.clif_insts.specs.Grammar.{excepted, inst};
 ghost use Rattle.clif_insts.specs.FlagLetter.{FlagsLetter};
 ghost use Rattle.clif_insts.specs.Values.{seen};
 ghost use Rattle.clif_insts.specs.InstValues.{inst_value};
 ghost use Rattle.clif_insts.specs.Forms.{inst_at};
+ghost use Rattle.clif_insts.specs.Marks.{MarksFormed, inst_marks};
+ghost use Rattle.clif_insts.specs.OfForm.{InstFormed};
 
 /// Behind what stands before it every list of tokens is one instruction, whose values after `return` stand behind it, or has a first place where no instruction goes on.
 pub fn one_reading()
@@ -23,4 +27,12 @@ pub fn read_by_the_grammar()
 /// These have the same texts, with the same values, the same beginnings, and the same refused words.
 pub fn flags_by_the_letter()
     ensures { (tokens : List Lexeme) → FlagsLetter tokens }
+{}
+
+/// Wherever the grammar derives an instruction from tokens of a text, its operands and its suffix are of the opcode's
+/// form, and the words and numbers in it stand in the text in their order.
+pub fn derived_insts_are_formed()
+    ensures { (excepted : List Class) (len : ℕ) (tokens : List Lexeme) (v : Value (inst excepted)) →
+        AreTextTokens len tokens → Derives (inst excepted) tokens v
+        → InstFormed (inst_value excepted v) × MarksFormed len (inst_marks (inst_value excepted v)) }
 {}

@@ -16,10 +16,10 @@ ghost use Rattle.clif_insts.specs.Reading.{Gives, same};
 ghost use Rattle.clif_insts.specs.Shown.{IsOf, Shows};
 
 use crate::opening::Opening;
-use crate::raw::{RawName, RawNumber, RawText};
+use crate::raw::{RawName, RawNumber, RawOpcode, RawText};
 use crate::stop::Stop;
 use clif_lex::{TokenKind, Tokens};
-use clif_words::{Class, token_meaning};
+use clif_words::{Class, opcode_of, token_meaning};
 use ir_core::List;
 use std::alloc::Global;
 use std::marker::Model;
@@ -322,6 +322,21 @@ impl<'a> Reader<'a> {
         } else {
             Err(Stop::Syntax)
         }
+    }
+
+    /// The opcode that a token of this class is.
+    #[tactic(auto, unfolding(crate::specs::Reading::opcode_at))]
+    #[inline]
+    pub fn take_opcode(&mut self, class: Class) -> Result<RawOpcode, Stop>
+        ensures is { Gives same self.new result (spec.opcode_at class self.old) }
+        ensures no_memory { IfErr result (λ e. e ≢ NoMemory) }
+        ensures shorter { IfOk result (λ _. length self.new < length self.old) }
+    {
+        let word = self.take(class)?;
+        Ok(RawOpcode {
+            kind: opcode_of(word.number),
+            spot: word.spot,
+        })
     }
 
     /// The number that a token of this class spells.

@@ -1,5 +1,5 @@
 -- How the faults of a text are named, and which fault of a text an answer of `tokens` is.
-use Rattle.std.specs.Prelude.{ℕ, List, codes}
+use Rattle.std.specs.Prelude.{ℕ, ◌≤◌, List, codes}
 use Rattle.clif_lex.specs.declared.faults.LexErr.{LexErr}
 use Rattle.clif_lex.specs.declared.faults.LexErr.TheVariants as lex
 use Rattle.clif_lex.specs.declared.faults.TextKind.{TextKind}
@@ -34,3 +34,8 @@ abbrev pub text_err_of : LexErr → TextErr
 text_err_of (lex.BadChar spot) = text.Fault BadChar spot
 text_err_of (lex.BadNumber spot) = text.Fault BadNumber spot
 text_err_of lex.NoMemory = text.NoMemory
+
+-- a fault stands at a byte of a text of so many bytes, or at its end
+abbrev pub StandsWithin : ℕ → TextErr → Type 0
+StandsWithin len (text.Fault kind spot) = spot ≤ len
+StandsWithin len text.NoMemory = Unit {0}

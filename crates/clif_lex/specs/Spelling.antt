@@ -99,3 +99,9 @@ pub record IsTokenIn (text : List ℕ) (t : Token) : Type 0 where
 -- each token of a list is one in the text
 pub record AreIn (text : List ℕ) (ts : List Token) : Type 0 where
   pub each : (i : ℕ) (t : Token) → slice_get ts i ≡ Some t → IsTokenIn text t
+
+-- The tokens stand in the text from here on, one behind the other, and each is spelled as its kind says.
+abbrev pub StandFrom : List ℕ → ℕ → List Token → Type 0
+StandFrom text from [] = Unit {0}
+StandFrom text from (t ∷ ts) =
+    (from ≤ t.start) × IsTokenIn text t × ((preamble : Bool) × (spells preamble t.kind (spelling text t) ≡ true)) × StandFrom text t.end ts

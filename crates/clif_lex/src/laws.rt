@@ -4,7 +4,7 @@ ghost use Rattle.std.specs.Prelude.{◌≡◌, ◌<◌, ◌≤◌, ◌++◌, ◌
 ghost use Rattle.clif_lex.specs.declared.spans.Token.{Token};
 ghost use Rattle.clif_lex.specs.declared.faults.LexErr.{LexErr};
 ghost use Rattle.clif_lex.specs.Lexing.{token_at, tokens_of};
-ghost use Rattle.clif_lex.specs.Spelling.{Stands, IsReading, IsTokenIn};
+ghost use Rattle.clif_lex.specs.Spelling.{Stands, IsReading, IsTokenIn, StandFrom};
 ghost use Rattle.clif_lex.specs.Pieces.{piece_tokens, two_pieces, preamble_after, IsPiece, IsCut};
 
 use crate::spans::Tokens;
@@ -50,4 +50,10 @@ pub fn piece_by_piece(text: &[u8])
 /// The piece that is the whole text has the text's tokens.
 pub fn whole_piece(text: &[u8])
     ensures { (ts : List Token) → IsPiece text.now true 0 (length text.now) ts ↔ (tokens_of text.now ≡ Ok ts) }
+{}
+
+/// The tokens of a text stand in it one behind the other, and each is spelled as its kind says.
+pub fn tokens_stand(text: &[u8], tokens: &Tokens)
+    requires { tokens_of text.now ≡ Ok tokens.now }
+    ensures { StandFrom text.now 0 tokens.now }
 {}

@@ -10,7 +10,7 @@ use Rattle.clif_insts.specs.declared.raw.RawOperands.TheVariants as operands
 use Rattle.clif_words.specs.Classes.{code}
 use Rattle.clif_words.specs.Terminals.{◌then◌, refused, value, comma, condition, sig, callee, iconst, binary, unary, icmp, select, convert, binary_imm, icmp_imm, load, load_wide, store, stack_load, stack_store, func_addr, nullary, jump, brif, br_table, return_word, trap, trap_if, call, try_call, call_indirect, try_call_indirect}
 use Rattle.clif_insts.specs.Grammar.{commas, number, suffix, suffix_i64, any_trap, flags, address, slot_address, target, normal_target, table, args, target_list, words_but, instruction, return_values}
-use Rattle.clif_insts.specs.Reading.{name}
+use Rattle.clif_insts.specs.Reading.{name, opcode}
 use Rattle.clif_insts.specs.Values.{perhaps, never, commas_value}
 use Rattle.clif_insts.specs.InstValues.{raw, iconst_value, binary_value, unary_value, icmp_value, select_value, convert_value, binary_imm_value, icmp_imm_value, load_value, load_wide_value, store_value, stack_load_value, stack_store_value, func_addr_value, nullary_value, jump_value, brif_value, br_table_value, return_inst_value, trap_inst_value, trap_if_value, call_value, try_call_value, call_indirect_value, try_call_indirect_value, instruction_value, return_values_value}
 use Rattle.clif_read.specs.Alike.{Alike}
@@ -42,7 +42,7 @@ form : (r : Rule) (f : Value r → RawInst) → may_end c r ≡ false → nullab
 form r f m some = given_same c r values f f values_value give_inst (λ v. refl) m some
 
 returned : Given c return_values return_word values return_values_value return_inst_value values_value give_inst
-returned = given_end c values (λ x o. raw (name x) None (operands.Return (perhaps [] values_value o))) return_inst_value values_value give_inst (λ x. refl) (λ x z. refl)
+returned = given_end c values (λ x o. raw (opcode x) None (operands.Return (perhaps [] values_value o))) return_inst_value values_value give_inst (λ x. refl) (λ x z. refl)
 
 pub inst_given : (excepted : List Class) → Given c (instruction return_values excepted) (instruction return_word excepted) values (whole_of excepted) (alone_of excepted) values_value give_inst
 inst_given excepted =

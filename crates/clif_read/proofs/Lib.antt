@@ -48,3 +48,6 @@ mod DeclarationExamples
 pub mod LetterModule
 pub mod LetterAttributes
 mod LineExamples
+pub mod ModuleMarks
+pub mod ModuleFormed
+pub mod Within

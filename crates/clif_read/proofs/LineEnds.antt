@@ -19,7 +19,7 @@ use Rattle.clif_read.specs.LineValues.{Whole, Values, made_value, debug_tags_val
 use Rattle.clif_read.specs.Lines.{returns, is_return}
 use Rattle.clif_read.proofs.Ends.{Ends, never_ends, token_ends, either_ends, refused_ends, then_ends, also_ends}
 
-abbrev return_code : Class
+abbrev pub return_code : Class
 return_code = code classes.Return
 
 abbrev is_return_inst : RawInst → Bool

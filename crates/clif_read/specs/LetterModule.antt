@@ -33,6 +33,7 @@ letter_function_value v = record {
   signature = signature_value v.1.1.0;
   decls = map decl_value v.1.1.1.1.0;
   blocks = letter_block_value v.1.1.1.1.1.0 ∷ map letter_block_value v.1.1.1.1.1.1.0;
+  end_spot = v.1.1.1.1.1.1.1.spot;
 }
 
 abbrev pub letter_module_value : Value letter_module → RawModule

@@ -25,3 +25,5 @@ pub mod Alike
 pub mod LetterLines
 pub mod LetterModule
 pub mod LetterAttributes
+pub mod Marks
+pub mod Formed

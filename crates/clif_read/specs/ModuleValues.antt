@@ -31,6 +31,7 @@ function_value v = record {
   signature = signature_value v.1.1.0;
   decls = map decl_value v.1.1.1.1.0;
   blocks = block_value v.1.1.1.1.1.0 ∷ map block_value v.1.1.1.1.1.1.0;
+  end_spot = v.1.1.1.1.1.1.1.spot;
 }
 
 abbrev pub module_value : Value module_rule → RawModule

@@ -24,10 +24,11 @@ mod tags;
 mod tests;
 mod texts;
 
-pub use pieces::read_text;
+pub use pieces::{read_text, read_text_alone};
 pub use raw::{
     RawAttribute, RawBlock, RawBlockParam, RawCalleeSig, RawDecl, RawFuncName, RawFunction,
     RawLine, RawModule, RawParam, RawSignature, RawTag,
 };
 pub use shares::read_raw;
 pub use simple::{SimpleErr, read_simple, read_simple_text};
+pub use texts::read_raw_alone;

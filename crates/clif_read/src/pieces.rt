@@ -1,15 +1,17 @@
 //! Modules read in pieces, by several workers at once.
 
 ghost use Rattle.std.specs.Prelude.{◌≡◌, ◌≤◌, length, true, IfOk, IfErr, IfSome};
+ghost use Rattle.clif_lex.specs.Faults.{StandsWithin};
 ghost use Rattle.clif_lex.specs.Lexing as lexing;
 ghost use Rattle.clif_lex.specs.Pieces.{IsCut, preamble_after};
+ghost use Rattle.clif_read.specs.Formed.{IsFormed};
 ghost use Rattle.clif_read.specs.Pieces.{AreFunctions, IsFaultOf, IsFront, IsModuleText, IsRange, with_functions};
 
 use crate::modules::{all_functions, whole_module};
 use crate::ranges::{PIECE, piece_end};
 use crate::raw::{RawFunction, RawModule};
 use crate::sharing::{Ranges, joined, read_shares};
-use crate::texts::read_alone;
+use crate::texts::read_raw_alone;
 use clif_insts::Reader;
 use clif_lex::{TextErr, TokenKind, Tokens, next_line_with, tokens, tokens_between};
 use ir_core::List;
@@ -110,13 +112,19 @@ pub(crate) fn read_in_pieces<R: Threads + Sync>(
     extended(front, rest)
 }
 
-/// The module that a text is, or its first fault, from the list of all its tokens.
-fn read_at_once(alloc: Global, text: &[u8]) -> Result<RawModule, TextErr>
+/// The module that a text is, read by the calling thread alone.
+///
+/// # Errors
+///
+/// Those of `read_text`.
+pub fn read_text_alone(alloc: Global, text: &[u8]) -> Result<RawModule, TextErr>
     ensures found { IfOk result (λ found. IsModuleText text.now found) }
     ensures fault { IfErr result (λ e. IsFaultOf text.now e) }
+    ensures formed { IfOk result (λ found. IsFormed (length text.now) found) }
+    ensures within { IfErr result (λ e. StandsWithin (length text.now) e) }
 {
     let tokens = tokens(alloc, text)?;
-    read_alone(alloc, text, &tokens)
+    read_raw_alone(alloc, text, &tokens)
 }
 
 /// As `read_text`, by pieces of this size.
@@ -132,7 +140,7 @@ pub(crate) fn read_text_by<R: Threads + Sync>(
 {
     match read_in_pieces(rt, alloc, text, workers, size) {
         Some(found) => Ok(found),
-        None => read_at_once(alloc, text),
+        None => read_text_alone(alloc, text),
     }
 }
 
@@ -149,9 +157,11 @@ pub fn read_text<R: Threads + Sync>(
 ) -> Result<RawModule, TextErr>
     ensures found { IfOk result (λ found. IsModuleText text.now found) }
     ensures fault { IfErr result (λ e. IsFaultOf text.now e) }
+    ensures formed { IfOk result (λ found. IsFormed (length text.now) found) }
+    ensures within { IfErr result (λ e. StandsWithin (length text.now) e) }
 {
     if text.len() / 2 < PIECE {
-        return read_at_once(alloc, text);
+        return read_text_alone(alloc, text);
     }
     read_text_by(rt, alloc, text, workers, PIECE)
 }

@@ -38,6 +38,21 @@ pub enum RawFuncName {
     User { space: RawName, number: RawNumber },
 }
 
+impl RawFuncName {
+    ghost use Rattle.std.specs.Prelude.{◌≡◌};
+    ghost use Rattle.clif_read.specs.Marks.{name_spot};
+
+    /// The name's first byte.
+    pub fn spot(&self) -> usize
+        ensures { result ≡ name_spot self.now }
+    {
+        match self {
+            RawFuncName::Text { spot, .. } => *spot,
+            RawFuncName::User { space, .. } => space.spot,
+        }
+    }
+}
+
 /// The signature of a callee: one that is declared, or its own.
 #[derive(Drop)]
 pub enum RawCalleeSig {
@@ -118,6 +133,8 @@ pub struct RawFunction {
     pub signature: RawSignature,
     pub decls: List<RawDecl>,
     pub blocks: List<RawBlock>,
+    /// The spot of the `}`.
+    pub end_spot: usize,
 }
 
 /// A module: the spots of its header lines, and its functions in the order of the text.

@@ -1,8 +1,10 @@
 //! Modules read from the list of a text's tokens, by several workers at once.
 
 ghost use Rattle.std.specs.Prelude.{◌≡◌, ◌<◌, length, slice_range, Ok, IfOk, IfErr, IfSome};
+ghost use Rattle.clif_lex.specs.Faults.{StandsWithin};
 ghost use Rattle.clif_lex.specs.Lexing.{tokens_of};
 ghost use Rattle.clif_words.specs.Lexemes.{lexemes};
+ghost use Rattle.clif_read.specs.Formed.{IsFormed};
 ghost use Rattle.clif_read.specs.Pieces.{AreListed, IsShare};
 ghost use Rattle.clif_read.specs.Texts.{IsModule, Stopped};
 
@@ -10,7 +12,7 @@ use crate::modules::{all_functions, whole_module};
 use crate::pieces::extended;
 use crate::raw::{RawFunction, RawModule};
 use crate::sharing::{Ranges, read_shares};
-use crate::texts::read_alone;
+use crate::texts::read_raw_alone;
 use clif_insts::Reader;
 use clif_lex::{TextErr, Tokens};
 use std::alloc::Global;
@@ -119,7 +121,7 @@ pub(crate) fn read_raw_by<R: Threads + Sync>(
 {
     match read_in_shares(rt, alloc, text, tokens, workers, size) {
         Some(found) => Ok(found),
-        None => read_alone(alloc, text, tokens),
+        None => read_raw_alone(alloc, text, tokens),
     }
 }
 
@@ -140,9 +142,11 @@ pub fn read_raw<R: Threads + Sync>(
     requires whole { tokens_of text.now ≡ Ok tokens.now }
     ensures found { IfOk result (λ m. IsModule (lexemes text.now tokens.now) m) }
     ensures stop { IfErr result (λ e. Stopped (lexemes text.now tokens.now) (length text.now) e) }
+    ensures formed { IfOk result (λ m. IsFormed (length text.now) m) }
+    ensures within { IfErr result (λ e. StandsWithin (length text.now) e) }
 {
     if workers <= 1 || tokens.len() / 2 < PIECE {
-        return read_alone(alloc, text, tokens);
+        return read_raw_alone(alloc, text, tokens);
     }
     read_raw_by(rt, alloc, text, tokens, workers, PIECE)
 }

@@ -1,5 +1,5 @@
 -- The opcodes in the order of the table, and how each is spelled.
-use Rattle.std.specs.Prelude.{ℕ, ◌+◌, List, [], ◌∷◌, codes}
+use Rattle.std.specs.Prelude.{ℕ, ◌+◌, List, [], ◌∷◌, codes, slice_get, Option, Some, None}
 use Rattle.clk_num.specs.declared.op.Cc.TheVariants as cc
 use Rattle.clk_num.specs.declared.op.Op.TheVariants as ops
 use Rattle.clk_num.specs.declared.width.Width.TheVariants as widths
@@ -20,6 +20,15 @@ all_opcodes =
     Istore8 ∷ Istore16 ∷ Istore32 ∷ StackLoad ∷ StackStore ∷ FuncAddr ∷ Nop ∷ SequencePoint ∷ Jump ∷ Brif ∷
     BrTable ∷ Return ∷ Trap ∷ Trapz ∷ Trapnz ∷ Call ∷ ReturnCall ∷ TryCall ∷ CallIndirect ∷
     ReturnCallIndirect ∷ TryCallIndirect ∷ []
+
+-- the opcode at a place, and `nop` where there is none
+abbrev pub or_nop : Option Opcode → Opcode
+or_nop (Some opcode) = opcode
+or_nop None = Nop
+
+-- the opcode that a word with this number is
+unfoldable pub opcode_of : ℕ → Opcode
+opcode_of n = or_nop (slice_get all_opcodes n)
 
 abbrev pub word : Opcode → List ℕ
 word Iconst = codes "iconst"

@@ -59,32 +59,35 @@ module _ (fs : List Def) (ends : List End) (right : places.AreEnds (map (link_of
       let c = ended (chain fs m.0 d) j (sym (same_chain fs m.0 n d found) ∙ ap (places.chain links m.0) (sym q.0) ∙ m.1) in
       (d, c.0, found, (m.0, c.1), rw c.2 le)
 
-  pub words_late : (count n : ℕ) (d e : Def) → look fs n ≡ Some d → ComesTo fs d (Ends e) → count ≤ place ws e.name.number → IsLate ws ends count n
+  -- a word with a definition stands among the words
+  pub word_place : (n : ℕ) (d : Def) → look fs n ≡ Some d → position (nat_eq n) ws ≡ Some (place ws n)
+  word_place n d found =
+      let within = slice_get_within fs (place ws n) d (look_place fs n ∙ found) in
+      elim (leb_tells (suc (place ws n)) (length ws)) [ inl t ↦ rw t.0 refl | inr f ↦ absurd (let l : length ws < suc (place ws n) = f.1 in omega (arith, length-map fs number)) ]
+
+  -- the end that is kept for a word is the place of the definition that it stands for
+  pub end_kept : (k n : ℕ) (d e : Def) → look fs n ≡ Some d → chain fs k d ≡ Some (Ends e) → get_or ends (place ws n) Nowhere ≡ At (place ws e.name.number)
   unfolding places.Means
-  words_late count n d e found (k, c) le = (i, place ws e.name.number, at, slice_get-get_or ends i Nowhere inside ∙ ap (λ (x : End). Some x) (by (get_or ends i Nowhere) (right.1 i linked)), le)
+  end_kept k n d e found c = by (get_or ends (place ws n) Nowhere) (right.1 (place ws n) (let within = slice_get_within fs (place ws n) d (look_place fs n ∙ found) in omega (arith, length-map fs (link_of ws))))
     where
-      i : ℕ
-      i = place ws n
-
-      within : i < length fs
-      within = slice_get_within fs i d (look_place fs n ∙ found)
-
-      linked : i < length links
-      linked = let w : i < length fs = within in omega (arith, length-map fs (link_of ws))
-
-      inside : i < length ends
-      inside = let w : i < length links = linked in omega (arith, right.0)
-
-      at : position (nat_eq n) ws ≡ Some i
-      at = elim (leb_tells (suc i) (length ws)) [ inl t ↦ rw t.0 refl | inr f ↦ absurd (let l : length ws < suc i = f.1 in let w : i < length fs = within in omega (arith, length-map fs number)) ]
-
-      goes : places.chain links k i ≡ Some (At (place ws e.name.number))
+      goes : places.chain links k (place ws n) ≡ Some (At (place ws e.name.number))
       goes = same_chain fs k n d found ∙ ap (option_map (end_of ws)) c
 
-      by : (x : End) → places.Means links x i → x ≡ At (place ws e.name.number)
-      by (At j) (m, h) = one_end links m k i (At j) (At (place ws e.name.number)) h goes
-      by Nowhere (m, h) = one_end links m k i Nowhere (At (place ws e.name.number)) h goes
+      by : (x : End) → places.Means links x (place ws n) → x ≡ At (place ws e.name.number)
+      by (At j) (m, h) = one_end links m k (place ws n) (At j) (At (place ws e.name.number)) h goes
+      by Nowhere (m, h) = one_end links m k (place ws n) Nowhere (At (place ws e.name.number)) h goes
       by Endless h = absurd (let g = sym (h k) ∙ goes in cc)
+
+  pub words_late : (count n : ℕ) (d e : Def) → look fs n ≡ Some d → ComesTo fs d (Ends e) → count ≤ place ws e.name.number → IsLate ws ends count n
+  words_late count n d e found (k, c) le =
+      let within = slice_get_within fs (place ws n) d (look_place fs n ∙ found) in
+      let inside : place ws n < length ends = omega (arith, right.0, length-map fs (link_of ws)) in (
+        place ws n,
+        place ws e.name.number,
+        word_place n d found,
+        slice_get-get_or ends (place ws n) Nowhere inside ∙ ap (λ (x : End). Some x) (end_kept k n d e found c),
+        le,
+      )
 
   -- and a chain that the code calls endless never ends
   pub endless_words : (n : ℕ) (d : Def) → look fs n ≡ Some d → (get_or ends (place ws n) Nowhere ≡ Endless) → NeverEnds fs d

@@ -25,7 +25,7 @@ worked_freedom = record {
 -- ---- faults
 
 raw_function : List RawFunction → RawFunction
-raw_function [] = text.function 0 (func_name.Text [] 0) (text.signature [] [] None) [] []
+raw_function [] = text.function 0 0 (func_name.Text [] 0) (text.signature [] [] None) [] []
 raw_function (f ∷ fs) = f
 
 abbrev names_before : ℕ → RawFunction → List RawName

@@ -22,7 +22,8 @@ use Rattle.clif_names.specs.Aliases.{link_of, least_endless}
 use Rattle.clif_names.specs.Chains.{IsEndless}
 use Rattle.clif_names.specs.Defining.{no_tables, define_value, defined}
 use Rattle.clif_names.specs.Definitions.{Kind, Slots, Sigs, Callees, Blocks, Values, all_kinds, definitions, steps, value_defs, block_steps, lines}
-use Rattle.clif_names.specs.Faults.{FunctionFault, name_spot}
+use Rattle.clif_read.specs.Marks.{name_spot}
+use Rattle.clif_names.specs.Faults.{FunctionFault}
 use Rattle.clif_names.specs.Least.{IsLeast, earlier_of, earlier_spot}
 use Rattle.clif_names.specs.LeastSpots.{AreLeast, earliest, least_of, too_large_of}
 use Rattle.clif_names.specs.Limits.{of_word, keeps, words, all_words, limits, name_limits, decl_limits, line_limits, IsOutside}
@@ -183,7 +184,7 @@ module _ (f : RawFunction) where
     adds : Adds before after (uses f) others
     adds = adds_function ends before f
 
-    table_is : (k : Kind) → table_at after k ≡ fold refer (fold declare no_names (definitions f k)) (uses f k)
+    pub table_is : (k : Kind) → table_at after k ≡ fold refer (fold declare no_names (definitions f k)) (uses f k)
     table_is k = adds.words_taken k ∙ ap (λ (t : Names). fold refer t (uses f k)) (each_kind (λ k. table_at before k ≡ names_at (defined f) k) refl refl refl refl refl k ∙ defined_names f k)
 
     repeated : (k : Kind) → IsLeast (Repeats (definitions f k)) (table_at after k).repeated
@@ -199,13 +200,13 @@ module _ (f : RawFunction) where
     first : Firsts (value_defs f) (fold define_value no_tables (value_defs f))
     first = firsts (value_defs f)
 
-    same_firsts : (defined f).firsts ≡ (fold define_value no_tables (value_defs f)).firsts
+    pub same_firsts : (defined f).firsts ≡ (fold define_value no_tables (value_defs f)).firsts
     same_firsts = (defined_values f).firsts
 
     same_words : (defined f).values.words ≡ map number (fold define_value no_tables (value_defs f)).firsts
     same_words = ap (λ (t : Names). t.words) (defined_values f).values ∙ sym first.words
 
-    right_firsts : places.AreEnds (map (link_of (map number (fold define_value no_tables (value_defs f)).firsts)) (fold define_value no_tables (value_defs f)).firsts) ends
+    pub right_firsts : places.AreEnds (map (link_of (map number (fold define_value no_tables (value_defs f)).firsts)) (fold define_value no_tables (value_defs f)).firsts) ends
     right_firsts = rw (same_words, same_firsts) at right
 
     endless : IsLeast (IsEndless (value_defs f)) (least_endless (defined f).firsts ends)
@@ -233,7 +234,7 @@ module _ (f : RawFunction) where
         let q = decls_quiet (note_name before f.name) f.decls in
         rw (ap (λ (u : Uses). u.untyped) after_is) (late W ends (steps f) begun refl (ap (λ (t : Names). t.words) (q.0 ∙ defined_names f Values)) q.1 q.2)
 
-    same_late : W ≡ map number (fold define_value no_tables (value_defs f)).firsts
+    pub same_late : W ≡ map number (fold define_value no_tables (value_defs f)).firsts
     same_late = sym (ap (λ (t : Names). t.words) (defined_names f Values)) ∙ same_words
 
     untyped : IsLeast (IsUntyped f) after.untyped

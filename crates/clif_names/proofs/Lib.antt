@@ -21,3 +21,6 @@ pub mod FunctionLaws
 pub mod FirstLaws
 pub mod LinkLaws
 pub mod NameSetLaws
+pub mod Numberings
+pub mod ValueLaws
+pub mod Counts

@@ -22,7 +22,8 @@ use Rattle.clif_names.specs.declared.limits.Limited.{Limited}
 use Rattle.clif_names.specs.Limits.{limits, keeps, IsOutside}
 use Rattle.clif_names.specs.Sizes.{raw_size, greatest_size, most_functions}
 use Rattle.clif_names.specs.Typing.{step_inst, IsUntyped}
-use Rattle.clif_names.specs.Faults.{FunctionFault, ListFault, Before, rank, SameName, name_spot}
+use Rattle.clif_read.specs.Marks.{name_spot}
+use Rattle.clif_names.specs.Faults.{FunctionFault, ListFault, Before, rank, SameName}
 use Rattle.clif_names.specs.Listed
 
 -- ---- lists
@@ -235,7 +236,7 @@ pub and_both : (a b : Bool) → a && b ≡ true → (a ≡ true) × (b ≡ true)
 and_both true b h = (refl, h)
 and_both false b h = absurd cc
 
-all_in : {A : Type 0} (p : A → Bool) (xs : List A) (x : A) → list_all p xs ≡ true → In x xs → p x ≡ true
+pub all_in : {A : Type 0} (p : A → Bool) (xs : List A) (x : A) → list_all p xs ≡ true → In x xs → p x ≡ true
 all_in p [] x h m = absurd m
 all_in p (y ∷ ys) x h (inl e) = let q = and_both (p y) (list_all p ys) h in rw e q.0
 all_in p (y ∷ ys) x h (inr m) = let q = and_both (p y) (list_all p ys) h in all_in p ys x q.1 m
@@ -287,7 +288,7 @@ ends_by ds d None c h = absurd cc
 ends_by ds d (Some Lost) c h = absurd cc
 ends_by ds d (Some (Ends e)) c h = (e, (length ds, c), refl)
 
-in_found : (ds : List Def) (i : ℕ) (d : Def) → slice_get ds i ≡ Some d → In d ds
+pub in_found : (ds : List Def) (i : ℕ) (d : Def) → slice_get ds i ≡ Some d → In d ds
 in_found [] i d at = absurd cc
 in_found (x ∷ xs) zero d at = inl (let e : x ≡ d = cc in sym e)
 in_found (x ∷ xs) (suc i) d at = inr (in_found xs i d at)

@@ -13,7 +13,8 @@ use Rattle.std.proofs.lemmas.Option.{slice_get_within}
 use Rattle.clif_read.specs.declared.raw.RawFuncName.{RawFuncName}
 use Rattle.clif_read.specs.declared.raw.RawFuncName.TheVariants as func_name
 use Rattle.clif_read.specs.declared.raw.RawFunction.{RawFunction}
-use Rattle.clif_names.specs.Faults.{SameName, RepeatsName, IsOneTooMany, name_spot}
+use Rattle.clif_read.specs.Marks.{name_spot}
+use Rattle.clif_names.specs.Faults.{SameName, RepeatsName, IsOneTooMany}
 use Rattle.clif_names.specs.Least.{IsLeast, earlier_spot}
 use Rattle.indexmap.specs.IndexSet.{keys}
 use Rattle.clif_names.specs.declared.repeated.NameSet.{NameSet}

@@ -158,7 +158,7 @@ taken defs uses = refers_all defs [] defs uses (fold declare no_names defs) (fol
 abbrev pub numbers_of : List RawName → List ℕ
 numbers_of names = map (λ (n : RawName). n.number) names
 
-fresh : (done more : List RawName) (d : RawName) → ((s : ℕ) → Repeats (done ++ d ∷ more) s → ⊥) → IsDefined done d.number → ⊥
+pub fresh : (done more : List RawName) (d : RawName) → ((s : ℕ) → Repeats (done ++ d ∷ more) s → ⊥) → IsDefined done d.number → ⊥
 fresh done more d none (j, e, at, is) = none d.spot (length done, j, d, e, middle done, refl, slice_get_within done j e at, get_front done (d ∷ more) j e at, is)
   where
     middle : (xs : List RawName) → slice_get (xs ++ d ∷ more) (length xs) ≡ Some d

@@ -9,6 +9,7 @@ use Rattle.clif_read.specs.declared.raw.RawFuncName.{RawFuncName}
 use Rattle.clif_read.specs.declared.raw.RawFuncName.TheVariants as func_name
 use Rattle.clif_read.specs.declared.raw.RawFunction.{RawFunction}
 use Rattle.clif_read.specs.declared.raw.RawModule.{RawModule}
+use Rattle.clif_read.specs.Marks.{name_spot}
 use Rattle.clif_names.specs.Definitions.{Kind, definitions, value_defs}
 use Rattle.clif_names.specs.Uses.{uses}
 use Rattle.clif_names.specs.Words.{Repeats, IsMissing}
@@ -16,11 +17,6 @@ use Rattle.clif_names.specs.Chains.{IsEndless}
 use Rattle.clif_names.specs.Limits.{limits, IsOutside}
 use Rattle.clif_names.specs.Sizes.{raw_size, greatest_size, most_functions}
 use Rattle.clif_names.specs.Typing.{IsUntyped}
-
--- the spot of a function
-abbrev pub name_spot : RawFuncName → ℕ
-name_spot (func_name.Text bytes spot) = spot
-name_spot (func_name.User space number) = space.spot
 
 -- two names are one; how their numbers are written does not count
 abbrev pub SameName : RawFuncName → RawFuncName → Type 0

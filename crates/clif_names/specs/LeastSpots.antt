@@ -6,7 +6,7 @@ use Rattle.clif_lex.specs.declared.faults.TextKind.TheVariants.{Duplicate, Undef
 use Rattle.clif_read.specs.declared.raw.RawFunction.{RawFunction}
 use Rattle.clif_names.specs.declared.least.LeastSpots.{LeastSpots}
 use Rattle.clif_names.specs.declared.uses.Uses.{Uses}
-use Rattle.clif_names.specs.Faults.{name_spot}
+use Rattle.clif_read.specs.Marks.{name_spot}
 use Rattle.clif_names.specs.Least.{IsLeast, earlier_of}
 use Rattle.clif_names.specs.Sizes.{raw_size, greatest_size}
 

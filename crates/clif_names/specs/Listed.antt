@@ -20,7 +20,8 @@ use Rattle.clif_names.specs.declared.limits.Limited.{Limited}
 use Rattle.clif_names.specs.Limits.{limits, keeps}
 use Rattle.clif_names.specs.Sizes.{raw_size, greatest_size, most_functions}
 use Rattle.clif_names.specs.Typing.{asks, step_inst}
-use Rattle.clif_names.specs.Faults.{IsFault, NoFault, FirstFault, rank, name_spot}
+use Rattle.clif_read.specs.Marks.{name_spot}
+use Rattle.clif_names.specs.Faults.{IsFault, NoFault, FirstFault, rank}
 
 abbrev pub spot_where : Bool → ℕ → List ℕ
 spot_where true spot = spot ∷ []

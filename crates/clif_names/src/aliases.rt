@@ -1,5 +1,5 @@
 //! What alias lines stand for.
-ghost use Rattle.std.specs.Prelude.{◌≡◌, IfOk, map};
+ghost use Rattle.std.specs.Prelude.{◌≡◌, ◌≤◌, IfOk, map};
 ghost use Rattle.clif_names.specs.Aliases as spec;
 
 use crate::firsts::Def;
@@ -32,6 +32,32 @@ pub(crate) fn links(alloc: Global, words: &Words, firsts: &[Def]) -> Result<Vec<
         links.push(link_to(words, first.target))?;
     }
     Ok(links)
+}
+
+/// How many values a definition defines: an alias line none.
+#[inline]
+fn value_count(def: &Def) -> usize
+    ensures count { result ≡ spec.value_count def.now }
+    ensures small { result ≤ 1 }
+{
+    match def.target {
+        None => 1,
+        Some(_) => 0,
+    }
+}
+
+/// How many values are defined before each definition, and at last by all of them.
+pub(crate) fn values_before(alloc: Global, firsts: &[Def]) -> Result<Vec<usize>, AllocError>
+    ensures { IfOk result (λ counts. spec.AreCounts firsts.now counts.items) }
+{
+    let mut counts = Vec::with_capacity(alloc, firsts.len())?;
+    let mut count = 0usize;
+    for first in firsts {
+        counts.push(count)?;
+        count += value_count(first);
+    }
+    counts.push(count)?;
+    Ok(counts)
 }
 
 /// The least spot of an alias line whose chain never ends.

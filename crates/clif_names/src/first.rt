@@ -6,7 +6,7 @@ ghost use Rattle.clif_names.specs.FirstOf as spec;
 ghost use Rattle.clif_names.specs.LeastSpots.{AreLeast};
 
 use crate::function::FunctionNames;
-use crate::least::{LeastSpots, name_spot};
+use crate::least::LeastSpots;
 use crate::repeated::repeated_name;
 use crate::spots::earlier_spot;
 use clif_lex::TextKind;
@@ -64,7 +64,7 @@ fn one_too_many(functions: &[RawFunction]) -> Option<usize>
     let mut least = None;
     for (place, func) in functions.iter().enumerate() {
         if place >= MOST_FUNCTIONS {
-            least = earlier_spot(least, name_spot(&func.name));
+            least = earlier_spot(least, func.name.spot());
         }
     }
     least

@@ -1,12 +1,12 @@
 //! The names of one function, and its first faults.
 ghost use Rattle.std.specs.Prelude.{◌≡◌, IfOk};
 ghost use Rattle.clif_names.specs.Faults.{FunctionFault};
-ghost use Rattle.clif_names.specs.FunctionNames.{AreNamesOf};
+ghost use Rattle.clif_names.specs.FunctionNames.{AreNamesOf, end_of, value_number};
 ghost use Rattle.clif_names.specs.LeastSpots.{AreLeast};
 ghost use Rattle.clif_names.specs.Taking.{place_or_count};
 ghost use Rattle.clif_names.specs.Using.{uses_of};
 
-use crate::aliases::{endless, links};
+use crate::aliases::{endless, links, values_before};
 use crate::least::LeastSpots;
 use crate::links::{End, ends};
 use crate::tables::Tables;
@@ -22,6 +22,8 @@ pub struct FunctionNames {
     pub ends: Vec<End>,
     /// The least spot of an alias line whose chain never ends.
     pub endless: Option<usize>,
+    /// How many values are defined before each word's first definition, and at last by all of them.
+    pub values_before: Vec<usize>,
 }
 
 impl FunctionNames {
@@ -33,12 +35,14 @@ impl FunctionNames {
         let links = links(alloc, &tables.values.words, tables.firsts.as_slice())?;
         let ends = ends(alloc, &links)?;
         let endless = endless(tables.firsts.as_slice(), &ends);
+        let values_before = values_before(alloc, tables.firsts.as_slice())?;
         let mut uses = begun(tables);
         uses.use_function(&ends, func);
         Ok(FunctionNames {
             uses,
             ends,
             endless,
+            values_before,
         })
     }
 
@@ -72,6 +76,34 @@ impl FunctionNames {
         ensures { result ≡ place_or_count self.now.uses.blocks.words word }
     {
         self.uses.blocks.place_or_count(word)
+    }
+
+    /// How the chain of a value's word ends.
+    fn end(&self, word: u64) -> End
+        ensures { result ≡ end_of self.now.uses.values.words self.now.ends.items word }
+    {
+        match self.uses.values.words.place(word) {
+            None => End::Nowhere,
+            Some(place) => match self.ends.get(place) {
+                Some(end) => *end,
+                None => End::Nowhere,
+            },
+        }
+    }
+
+    /// The number of the value that a word stands for, after alias lines, or the number of values where it stands for
+    /// none. Values are numbered in order of definition.
+    pub fn value(&self, word: u64) -> usize
+        ensures { result ≡ value_number self.now word }
+    {
+        let place = match self.end(word) {
+            End::At(place) => place,
+            End::Nowhere | End::Endless => self.uses.values.words.len(),
+        };
+        match self.values_before.get(place) {
+            Some(count) => *count,
+            None => 0,
+        }
     }
 
     /// The least spots of the function's faults.

@@ -1,6 +1,7 @@
 //! Laws of the definitions: functions without a body, each of which has its law as its contract.
 ghost use Rattle.clif_names.specs.Faults.{OneFirstFault, FirstWhereAny};
 ghost use Rattle.clif_names.specs.Examples.{WorkedFaults, WorkedFreedom, WorkedSizes};
+ghost use Rattle.clif_names.specs.FunctionNames.{ValuesNumbered};
 ghost use Rattle.clif_names.specs.Listed.{AllListed, ListedFirst, ListedNone, ChainsEnd};
 
 /// A raw module has at most one first fault.
@@ -26,4 +27,9 @@ pub fn worked_texts()
     ensures faults { WorkedFaults }
     ensures freedom { WorkedFreedom }
     ensures sizes { WorkedSizes }
+{}
+
+/// In a function without a fault the names give each word of a value its number.
+pub fn values_numbered()
+    ensures { ValuesNumbered }
 {}

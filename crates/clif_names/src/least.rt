@@ -1,12 +1,11 @@
 //! The least spots of faults.
 ghost use Rattle.std.specs.Prelude.{◌≡◌};
-ghost use Rattle.clif_names.specs.Faults as faults;
 ghost use Rattle.clif_names.specs.LeastSpots as spec;
 
 use crate::sizes::function_size;
 use crate::spots::earlier_of;
 use crate::uses::Uses;
-use clif_read::{RawFuncName, RawFunction};
+use clif_read::RawFunction;
 
 /// The greatest size of a function.
 const GREATEST_SIZE: usize = 262_144;
@@ -111,21 +110,11 @@ fn outside(uses: &Uses) -> Option<usize>
     )
 }
 
-/// The spot of a function's name.
-pub(crate) fn name_spot(name: &RawFuncName) -> usize
-    ensures { result ≡ faults.name_spot name.now }
-{
-    match name {
-        RawFuncName::Text { spot, .. } => *spot,
-        RawFuncName::User { space, .. } => space.spot,
-    }
-}
-
 fn too_large(func: &RawFunction) -> Option<usize>
     ensures { result ≡ spec.too_large_of func.now }
 {
     if function_size(func) > GREATEST_SIZE {
-        Some(name_spot(&func.name))
+        Some(func.name.spot())
     } else {
         None
     }

@@ -15,6 +15,8 @@ mod repeated;
 mod sizes;
 mod spots;
 mod tables;
+#[cfg(test)]
+mod tests;
 mod uses;
 mod words;
 

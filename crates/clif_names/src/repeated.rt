@@ -6,7 +6,6 @@ ghost use Rattle.clif_names.specs.NameSets.{AddsName, Has, IsEmptySet, inserted,
 ghost use Rattle.indexmap.specs.IndexSet.{keys};
 ghost use Rattle.std.specs.List.{list_any};
 
-use crate::least::name_spot;
 use crate::spots::earlier_spot;
 use clif_insts::RawNumber;
 use clif_read::{RawFuncName, RawFunction};
@@ -71,7 +70,7 @@ pub(crate) fn repeated_name(
     let mut least = None;
     for func in functions {
         if !names.insert(&func.name)? {
-            least = earlier_spot(least, name_spot(&func.name));
+            least = earlier_spot(least, func.name.spot());
         }
     }
     Ok(least)

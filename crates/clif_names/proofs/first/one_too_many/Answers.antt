@@ -14,7 +14,7 @@ loop-place-preserved c =
     elim c.if-place-ge-MOST_FUNCTIONS.branch [
       | then-place-ge-MOST_FUNCTIONS w ↦
           (let le : 65536 ≤ i = omega arith in
-          rw (w.least-is, w.earlier_spot-least.ensures, w.name_spot.ensures) (many_next fs i f f c.loop-place-test.true c.index-functions-place.is c.loop-place.least le c.loop-place.invariant))
+          rw (w.least-is, w.earlier_spot-least.ensures, w.spot.ensures) (many_next fs i f f c.loop-place-test.true c.index-functions-place.is c.loop-place.least le c.loop-place.invariant))
       | else-place-ge-MOST_FUNCTIONS w ↦
           (let lt : i < 65536 = omega arith in
           rw w.least-is (few_next fs i f f c.loop-place-test.true c.index-functions-place.is c.loop-place.least lt c.loop-place.invariant))

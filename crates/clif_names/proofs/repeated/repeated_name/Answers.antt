@@ -16,7 +16,7 @@ loop-func-preserved c =
       least = elim c.if-not-branch.branch [
         | then-not-branch w ↦
             (let has = when_old _ _ _ told w.if-not-branch.true in
-            rw (w.least-is, w.earlier_spot-least.ensures, w.name_spot.ensures)
+            rw (w.least-is, w.earlier_spot-least.ensures, w.spot.ensures)
             (repeated_more fs i f f c.loop-func-test.true c.func-item.is old c.loop-func.least c.loop-func.invariant.names has c.loop-func.invariant.least))
         | else-not-branch w ↦
             (let none = when_new _ _ _ told w.if-not-branch.false in

@@ -22,4 +22,7 @@ returns c =
       ends = rw (← links) c.in_ok-ends.ensures;
       uses = c.use_function.ensures ∙ rw (c.deref-3.ensures.value, c.begun-uses.ensures, c.in_ok-tables.ensures) refl;
       endless = c.endless-endless.ensures ∙ rw (c.as_slice-2.ensures, c.deref-2.ensures.value, c.in_ok-tables.ensures) refl;
+      counts =
+          let same : c.as_slice-3.result.now ≡ (defined c.args.func.now).firsts = c.as_slice-3.ensures ∙ ap (λ (t : Tables). t.firsts) c.in_ok-tables.ensures in
+          rw (← same) c.in_ok-values_before.ensures;
     }

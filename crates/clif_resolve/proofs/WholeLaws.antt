@@ -9,7 +9,7 @@ use Rattle.ir_core.specs.declared.signatures.Sig.{Sig}
 use Rattle.ir_core.specs.Lists.{In, Different, Below, Each}
 use Rattle.ir_core.specs.Module.{Line, Block, Function}
 use Rattle.ir_core.specs.Lookup.{definitions as defined_values, line_definitions, block_numbers}
-use Rattle.ir_text.specs.Numbering.{place}
+use Rattle.clif_names.specs.Words.{place_among}
 use Rattle.ir_core.specs.Size.{total, sig_size, block_size, line_size, size_of}
 use Rattle.ir_core.specs.Sound.{Counts, counts_of, LineInRange, BlockInRange, instruction_count, IsSmall, IsSound, IsWhole}
 use Rattle.ir_core.specs.Whole.{Whole}
@@ -95,17 +95,17 @@ module _ {A : Type 0} where
 
 -- ---- the places of different words are their numbers in order
 
-place_seam : (pre : List ℕ) (x : ℕ) (xs : List ℕ) → (In x pre → ⊥) → place (pre ++ x ∷ xs) x ≡ length pre
+place_seam : (pre : List ℕ) (x : ℕ) (xs : List ℕ) → (In x pre → ⊥) → place_among (pre ++ x ∷ xs) x ≡ length pre
 place_seam [] x xs out = rw (eq-eqb x x refl) refl
 place_seam (y ∷ ys) x xs out = rw (ne_eqb y x (λ e. out (inl (sym e)))) (ap suc (place_seam ys x xs (λ i. out (inr i))))
 
-places : (pre xs : List ℕ) → Different (pre ++ xs) → map (place (pre ++ xs)) xs ≡ numbers_from (length pre) xs
+places : (pre xs : List ℕ) → Different (pre ++ xs) → map (place_among (pre ++ xs)) xs ≡ numbers_from (length pre) xs
 unfolding numbers_from
 places pre [] d = refl
 places pre (x ∷ xs) d =
-    ap (λ y. y ∷ map (place (pre ++ x ∷ xs)) xs) (place_seam pre x xs (λ i. different_apart pre (x ∷ xs) x d i (inl refl)))
+    ap (λ y. y ∷ map (place_among (pre ++ x ∷ xs)) xs) (place_seam pre x xs (λ i. different_apart pre (x ∷ xs) x d i (inl refl)))
     ∙ ap (λ ys. length pre ∷ ys)
-    (ap (λ zs. map (place zs) xs) (sym (append_assoc pre (x ∷ []) xs))
+    (ap (λ zs. map (place_among zs) xs) (sym (append_assoc pre (x ∷ []) xs))
     ∙ places (pre ++ x ∷ []) xs (subst Different (sym (append_assoc pre (x ∷ []) xs)) d)
     ∙ ap (λ k. map (λ z. z.0) (enumerate_from k xs)) (length-append pre (x ∷ [])))
 
@@ -202,7 +202,7 @@ module _ (raw : RawFunction) (f : Function) (mf : FunctionMeans raw f)
       ∙ map_through own
       ∙ places [] (words own) (own_differ (value_defs raw) none)
     where
-      map_through : (rs : List RawName) → map (λ (r : RawName). place_in own r.number) rs ≡ map (place (words own)) (words rs)
+      map_through : (rs : List RawName) → map (λ (r : RawName). place_in own r.number) rs ≡ map (place_among (words own)) (words rs)
       map_through [] = refl
       map_through (r ∷ rs) = ap (λ xs. place_in own r.number ∷ xs) (map_through rs)
 

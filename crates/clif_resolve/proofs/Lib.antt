@@ -1,8 +1,0 @@
-pub mod Examples
-pub mod OneMeaning
-pub mod SizeLaws
-pub mod RangeLaws
-pub mod BoundLaws
-pub mod WholeLaws
-pub mod ModuleLaws
-pub mod Existence

@@ -205,8 +205,18 @@ def main():
     print("// Written by bench/eval_vectors.py, which says what a line means: %d cases." % cases)
     print("pub const VECTORS: &str = \"\\")
     for l in text:
-        print(l + "\\n\\")
+        for part in broken(l + "\\n\\"):
+            print(part)
     print("\";")
+
+
+def broken(l):
+    """The line in parts of at most 120 columns, each but the last ended by a backslash that goes on with the string."""
+    while len(l) > 120:
+        k = l.rfind(" ", 0, 118)
+        yield l[:k] + " \\"
+        l = "    " + l[k + 1:]
+    yield l
 
 
 def orders():

@@ -13,7 +13,7 @@ use Rattle.board_core.specs.declared.state.Phase.TheVariants.{Vacant, Filling, F
 use Rattle.board_core.specs.declared.state.BoardEvent.{BoardEvent}
 use Rattle.board_core.specs.declared.state.BoardEvent.TheVariants.{Draw, BeginFill, EndFill, BeginRead, EndRead}
 use Rattle.board_core.specs.declared.state.BoardState.{BoardState}
-use Rattle.board_core.specs.Machine.{start, is_owned_by, is_vacant, is_filled_by, is_read_by, has_body, is_allowed, moved, after, run, phase_at, owner_at}
+use Rattle.board_core.specs.Machine.{start, is_owned_by, is_vacant, is_filled_by, is_read_by, has_body, is_allowed, changed_by, after, run, phase_at, owner_at}
 use Rattle.board_core.specs.Sound.{IsSound, Fill, drawn_by, filled_by, draws, fills, FilledAs, DrawnOnce, IsTold}
 
 -- what an event that is allowed finds
@@ -101,7 +101,7 @@ module _ (n : ℕ) (b : BoardState) (ds : ℕ → List ℕ) (fs : ℕ → List F
   same_draws : (ds' : ℕ → List ℕ) (b' : BoardState) (fs' : ℕ → List Fill) → ((t : ℕ) → ds' t ≡ ds t) → Inv n b' ds fs' → Inv n b' ds' fs'
   same_draws ds' b' fs' e h = same_histories ds fs' e (λ t. refl) h
 
-  draw_moves : (w : ℕ) → Inv n (moved b (Draw w)) (λ t. ds t ++ cond (eqb b.next t) (w ∷ []) []) (λ t. fs t ++ [])
+  draw_moves : (w : ℕ) → Inv n (changed_by b (Draw w)) (λ t. ds t ++ cond (eqb b.next t) (w ∷ []) []) (λ t. fs t ++ [])
   draw_moves w = let x : ℕ = b.next in let len = i.sound.owners in
       let else_ : (k : ℕ) → k ≢ x → get_or (set b.owners x (Some w)) k None ≡ owner_at b k = λ k ne. get_or-set_other b.owners x k (Some w) None ne in
       let now : x < n → get_or (set b.owners x (Some w)) x None ≡ Some w = λ l. get_or-set_same b.owners x (Some w) None (omega arith) in
@@ -139,8 +139,8 @@ module _ (n : ℕ) (b : BoardState) (ds : ℕ → List ℕ) (fs : ℕ → List F
   none_is : (t : ℕ) (p : Phase) → phase_at b t ≡ p → p ≢ Vacant → owner_at b t ≢ None
   none_is t p is not_vacant none = not_vacant (sym is ∙ i.sound.vacant t none)
 
-  allowed_step : (e : BoardEvent) → is_allowed b e ≡ true → Inv n (moved b e) (λ t. ds t ++ drawn_by t b e) (λ t. fs t ++ filled_by t b e)
-  allowed_step (Draw w) h = subst (λ c. Inv n (moved b (Draw w)) (λ t. ds t ++ cond c (cond (eqb b.next t) (w ∷ []) []) []) (λ t. fs t ++ [])) (sym h) (draw_moves w)
+  allowed_step : (e : BoardEvent) → is_allowed b e ≡ true → Inv n (changed_by b e) (λ t. ds t ++ drawn_by t b e) (λ t. fs t ++ filled_by t b e)
+  allowed_step (Draw w) h = subst (λ c. Inv n (changed_by b (Draw w)) (λ t. ds t ++ cond c (cond (eqb b.next t) (w ∷ []) []) []) (λ t. fs t ++ [])) (sym h) (draw_moves w)
   allowed_step (BeginFill w t) h =
       let both = both_true (is_owned_by w (slice_get b.owners t)) (is_vacant (slice_get b.phases t)) h in
       let o = owner_found w (slice_get b.owners t) both.0 in
@@ -190,8 +190,8 @@ module _ (n : ℕ) (b : BoardState) (ds : ℕ → List ℕ) (fs : ℕ → List F
   silent (EndRead w k) h t = (refl, refl)
 
   any_step : (e : BoardEvent) (a : Bool) → is_allowed b e ≡ a → Inv n (after b e) (λ t. ds t ++ drawn_by t b e) (λ t. fs t ++ filled_by t b e)
-  any_step e true h = subst (λ (b' : BoardState). Inv n b' (λ t. ds t ++ drawn_by t b e) (λ t. fs t ++ filled_by t b e)) (sym (ap (λ c. cond c (moved b e) b) h)) (allowed_step e h)
-  any_step e false h = subst (λ (b' : BoardState). Inv n b' (λ t. ds t ++ drawn_by t b e) (λ t. fs t ++ filled_by t b e)) (sym (ap (λ c. cond c (moved b e) b) h))
+  any_step e true h = subst (λ (b' : BoardState). Inv n b' (λ t. ds t ++ drawn_by t b e) (λ t. fs t ++ filled_by t b e)) (sym (ap (λ c. cond c (changed_by b e) b) h)) (allowed_step e h)
+  any_step e false h = subst (λ (b' : BoardState). Inv n b' (λ t. ds t ++ drawn_by t b e) (λ t. fs t ++ filled_by t b e)) (sym (ap (λ c. cond c (changed_by b e) b) h))
       (same_histories ds fs (λ t. ap (λ (x : List ℕ). ds t ++ x) (silent e h t).0 ∙ append-nil (ds t)) (λ t. ap (λ (x : List Fill). fs t ++ x) (silent e h t).1 ∙ append-nil (fs t)) i)
 
 run_keeps : (n : ℕ) (es : List BoardEvent) (b : BoardState) (ds : ℕ → List ℕ) (fs : ℕ → List Fill) → Inv n b ds fs → Inv n (run b es) (λ t. ds t ++ draws t b es) (λ t. fs t ++ fills t b es)

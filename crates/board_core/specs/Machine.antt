@@ -1,7 +1,8 @@
--- The board machine. Workers draw tickets 0, 1, 2 and so on, each for the function of that number. The owner of a ticket
--- fills its cell once, with a body or with a refusal. A full cell with a body is read by one worker at a time. This file
--- says which events are allowed in a state, and the state after each.
-use Rattle.std.specs.Prelude.{ℕ, ◌+◌, ◌==◌, nat_lt, Bool, true, false, ◌&&◌, if◌then◌else◌, List, [], ◌∷◌, Option, Some, None, slice_get, slice_set, slice_index_or, replicate}
+-- The board machine. Workers draw tickets 0, 1, 2 and so on, each for the function of that number. The owner of a
+-- ticket fills its cell once, with a body or with a refusal. A full cell with a body is read by one worker at a time.
+-- This file says which events are allowed in a state, and the state after each.
+use Rattle.std.specs.Prelude.{ℕ, ◌+◌, ◌==◌, nat_lt, Bool, true, false, ◌&&◌, if◌then◌else◌, List, [], ◌∷◌, Option, Some}
+use Rattle.std.specs.Prelude.{None, slice_get, slice_set, slice_index_or, replicate}
 use Rattle.board_core.specs.declared.state.Mark.TheVariants.{Body, Refused}
 use Rattle.board_core.specs.declared.state.Phase.{Phase}
 use Rattle.board_core.specs.declared.state.Phase.TheVariants.{Vacant, Filling, Full, Reading}
@@ -51,22 +52,28 @@ has_body (Some (Reading reader)) = false
 -- a draw is allowed while the next ticket is below the greatest number of 64 bits
 abbrev pub is_allowed : BoardState → BoardEvent → Bool
 is_allowed board (Draw worker) = nat_lt board.next 18446744073709551615
-is_allowed board (BeginFill worker ticket) = is_owned_by worker (slice_get board.owners ticket) && is_vacant (slice_get board.phases ticket)
+is_allowed board (BeginFill worker ticket) =
+    is_owned_by worker (slice_get board.owners ticket) && is_vacant (slice_get board.phases ticket)
 is_allowed board (EndFill worker ticket mark) = is_filled_by worker (slice_get board.phases ticket)
 is_allowed board (BeginRead worker ticket) = has_body (slice_get board.phases ticket)
 is_allowed board (EndRead worker ticket) = is_read_by worker (slice_get board.phases ticket)
 
 -- the state after an event that is allowed; a drawn ticket gets an owner where it has a function
-abbrev pub moved : BoardState → BoardEvent → BoardState
-moved board (Draw worker) = record { next = board.next + 1; owners = slice_set board.owners board.next (Some worker); phases = board.phases }
-moved board (BeginFill worker ticket) = record { next = board.next; owners = board.owners; phases = slice_set board.phases ticket (Filling worker) }
-moved board (EndFill worker ticket mark) = record { next = board.next; owners = board.owners; phases = slice_set board.phases ticket (Full mark) }
-moved board (BeginRead worker ticket) = record { next = board.next; owners = board.owners; phases = slice_set board.phases ticket (Reading worker) }
-moved board (EndRead worker ticket) = record { next = board.next; owners = board.owners; phases = slice_set board.phases ticket (Full Body) }
+abbrev pub changed_by : BoardState → BoardEvent → BoardState
+changed_by board (Draw worker) =
+    record { next = board.next + 1; owners = slice_set board.owners board.next (Some worker); phases = board.phases }
+changed_by board (BeginFill worker ticket) =
+    record { next = board.next; owners = board.owners; phases = slice_set board.phases ticket (Filling worker) }
+changed_by board (EndFill worker ticket mark) =
+    record { next = board.next; owners = board.owners; phases = slice_set board.phases ticket (Full mark) }
+changed_by board (BeginRead worker ticket) =
+    record { next = board.next; owners = board.owners; phases = slice_set board.phases ticket (Reading worker) }
+changed_by board (EndRead worker ticket) =
+    record { next = board.next; owners = board.owners; phases = slice_set board.phases ticket (Full Body) }
 
 -- the state after an event: an event that is not allowed changes nothing
 abbrev pub after : BoardState → BoardEvent → BoardState
-after board event = if is_allowed board event then moved board event else board
+after board event = if is_allowed board event then changed_by board event else board
 
 -- the state after each event of a list, in turn
 abbrev pub run : BoardState → List BoardEvent → BoardState

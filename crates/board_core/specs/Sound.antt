@@ -15,7 +15,8 @@ use Rattle.board_core.specs.Machine.{start, is_allowed, after, run, phase_at, ow
 pub record IsSound (functions : ℕ) (board : BoardState) : Type 0 where
   pub owners : length board.owners ≡ functions
   pub phases : length board.phases ≡ functions
-  pub owned : (ticket : ℕ) → ticket < board.next → ticket < functions → (worker : ℕ) × (owner_at board ticket ≡ Some worker)
+  pub owned : (ticket : ℕ) → ticket < board.next → ticket < functions
+      → (worker : ℕ) × (owner_at board ticket ≡ Some worker)
   pub unowned : (ticket : ℕ) → board.next ≤ ticket → owner_at board ticket ≡ None
   pub beyond : (ticket : ℕ) → functions ≤ ticket → owner_at board ticket ≡ None
   pub vacant : (ticket : ℕ) → owner_at board ticket ≡ None → phase_at board ticket ≡ Vacant
@@ -28,7 +29,8 @@ pub record Fill : Type 0 where
 
 -- the worker that draws the ticket by the event, where that is allowed
 abbrev pub drawn_by : ℕ → BoardState → BoardEvent → List ℕ
-drawn_by ticket board (Draw worker) = if is_allowed board (Draw worker) then (if board.next == ticket then worker ∷ [] else []) else []
+drawn_by ticket board (Draw worker) =
+    if is_allowed board (Draw worker) then (if board.next == ticket then worker ∷ [] else []) else []
 drawn_by ticket board (BeginFill worker filled) = []
 drawn_by ticket board (EndFill worker filled mark) = []
 drawn_by ticket board (BeginRead worker read) = []
@@ -39,7 +41,8 @@ abbrev pub filled_by : ℕ → BoardState → BoardEvent → List Fill
 filled_by ticket board (Draw worker) = []
 filled_by ticket board (BeginFill worker filled) = []
 filled_by ticket board (EndFill worker filled mark) =
-    if is_allowed board (EndFill worker filled mark) then (if filled == ticket then record { worker = worker; mark = mark } ∷ [] else []) else []
+    if is_allowed board (EndFill worker filled mark)
+    then (if filled == ticket then record { worker = worker; mark = mark } ∷ [] else []) else []
 filled_by ticket board (BeginRead worker read) = []
 filled_by ticket board (EndRead worker read) = []
 
@@ -57,8 +60,10 @@ fills ticket board (event ∷ events) = filled_by ticket board event ++ fills ti
 abbrev pub FilledAs : Option ℕ → List Fill → Phase → Type 0
 FilledAs owner ends Vacant = ends ≡ []
 FilledAs owner ends (Filling filler) = ends ≡ []
-FilledAs owner ends (Full mark) = (worker : ℕ) × (owner ≡ Some worker) × (ends ≡ record { worker = worker; mark = mark } ∷ [])
-FilledAs owner ends (Reading reader) = (worker : ℕ) × (owner ≡ Some worker) × (ends ≡ record { worker = worker; mark = Body } ∷ [])
+FilledAs owner ends (Full mark) =
+    (worker : ℕ) × (owner ≡ Some worker) × (ends ≡ record { worker = worker; mark = mark } ∷ [])
+FilledAs owner ends (Reading reader) =
+    (worker : ℕ) × (owner ≡ Some worker) × (ends ≡ record { worker = worker; mark = Body } ∷ [])
 
 -- one worker drew the ticket, which owns it where it has a function
 pub record DrawnOnce (functions ticket : ℕ) (workers : List ℕ) (owner : Option ℕ) : Type 0 where
@@ -70,7 +75,9 @@ pub record DrawnOnce (functions ticket : ℕ) (workers : List ℕ) (owner : Opti
 pub record IsTold (functions : ℕ) (events : List BoardEvent) : Type 0 where
   pub sound : IsSound functions (run (start functions) events)
   pub drawn : (ticket : ℕ) → ticket < (run (start functions) events).next
-      → DrawnOnce functions ticket (draws ticket (start functions) events) (owner_at (run (start functions) events) ticket)
+      → DrawnOnce functions ticket (draws ticket (start functions) events)
+      (owner_at (run (start functions) events) ticket)
   pub undrawn : (ticket : ℕ) → (run (start functions) events).next ≤ ticket → draws ticket (start functions) events ≡ []
   pub filled : (ticket : ℕ)
-      → FilledAs (owner_at (run (start functions) events) ticket) (fills ticket (start functions) events) (phase_at (run (start functions) events) ticket)
+      → FilledAs (owner_at (run (start functions) events) ticket) (fills ticket (start functions) events)
+      (phase_at (run (start functions) events) ticket)

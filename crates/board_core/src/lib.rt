@@ -2,11 +2,10 @@
 //! worker each.
 #![tactic(auto)]
 
-mod law;
+pub mod laws;
 mod row;
 mod state;
 
-pub use law::board_facts;
 pub use row::Row;
 pub use state::{BoardEvent, BoardState, Mark, Phase, step};
 

@@ -72,9 +72,9 @@ impl BoardState {
 
 /// Lets the event happen where it is allowed. `false` exactly where it is not; the state is then as before.
 ///
-/// A draw is allowed while `next` is below the greatest `u64`. A ticket without a function has no other event. A fill is
-/// begun by the ticket's owner in a vacant cell and ended by the worker that began it; a read is begun in a cell that is
-/// full with a body, and ended by the worker that began it.
+/// A draw is allowed while `next` is below the greatest `u64`. A ticket without a function has no other event. A fill
+/// is begun by the ticket's owner in a vacant cell and ended by the worker that began it; a read is begun in a cell
+/// that is full with a body, and ended by the worker that began it.
 pub fn step(state: &mut BoardState, event: BoardEvent) -> bool
     ensures answer { result ≡ is_allowed state.old event }
     ensures state { state.new ≡ after state.old event }

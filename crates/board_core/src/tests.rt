@@ -11,13 +11,14 @@ fn worked_run()
     ensures { answers (start 2) (Draw 0 ∷ Draw 1 ∷ BeginFill 1 0 ∷ BeginFill 0 0 ∷ EndFill 1 0 Body ∷ BeginRead 1 0
         ∷ EndFill 0 0 Body ∷ BeginRead 1 0 ∷ BeginRead 0 0 ∷ EndRead 0 0 ∷ EndRead 1 0 ∷ Draw 0 ∷ BeginFill 0 2
         ∷ BeginFill 1 1 ∷ EndFill 1 1 Refused ∷ BeginRead 0 1 ∷ [])
-        ≡ true ∷ true ∷ false ∷ true ∷ false ∷ false ∷ true ∷ true ∷ false ∷ false ∷ true ∷ true ∷ false ∷ true ∷ true ∷ false ∷ [] }
+        ≡ true ∷ true ∷ false ∷ true ∷ false ∷ false ∷ true ∷ true ∷ false ∷ false ∷ true ∷ true ∷ false ∷ true ∷ true
+        ∷ false ∷ [] }
 {}
 
 #[test]
 fn events_have_their_answers(rt: HostRuntime) -> Result<(), AllocError> {
     worked_run();
-    board_facts();
+    laws::board_facts();
     let mut board = BoardState::new(rt.alloc(), 2)?;
     for (event, answer) in [
         (BoardEvent::Draw(0), true),

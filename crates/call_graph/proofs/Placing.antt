@@ -6,14 +6,15 @@ use Rattle.ir_core.specs.declared.names.FuncName.{FuncName}
 use Rattle.ir_core.specs.Module.{Module}
 use Rattle.ir_core.specs.Lookup.{same_name, find_function}
 use Rattle.ir_core.specs.Lists.{In}
-use Rattle.ir_core.specs.Whole.{DifferentNames}
+use Rattle.ir_core.specs.WellFormed.{DifferentNames}
 use Rattle.ir_core.proofs.Equal.{name_equal, equal_name, both_true}
+use Rattle.ir_core.proofs.Members.{in_left, in_right, in_cases}
 use Rattle.call_graph.specs.Reach.{calls_of, reaches, one_piece, apart}
 use Rattle.call_graph.specs.Order.{names_of, CalleesBefore, BottomUp, stands, every_name, those, piece, callees_placed, ready, next_of, placed_in}
 use Rattle.call_graph.specs.OrderLaws.{OrderIsBottomUp}
 use Rattle.call_graph.proofs.Walks.{AllDifferent, or_cases, or_left, or_right}
 use Rattle.call_graph.proofs.Standing.{stands_of, in_of}
-use Rattle.call_graph.proofs.Ranks.{reaches_on, call_reaches, under, under_of, rank, rank_falls, count, count_less, both_of, of_both}
+use Rattle.call_graph.proofs.Ranks.{reaches_on, call_reaches, under, under_of, rank, rank_falls, count, count_less, names_length, both_of, of_both}
 
 -- ---- tests of lists of names
 
@@ -30,7 +31,7 @@ false_for_one test (k ∷ ns) h = go (test k) refl (false_for_one test ns) h
     go true q ih h = let r = ih h in (r.0, inr r.1, r.2)
     go false q ih h = (k, inl refl, q)
 
-in_those : (test : FuncName → Bool) (ns : List FuncName) (n : FuncName) → In n (those test ns) → In n ns × (test n ≡ true)
+pub in_those : (test : FuncName → Bool) (ns : List FuncName) (n : FuncName) → In n (those test ns) → In n ns × (test n ≡ true)
 in_those test [] n i = elim i [ ]
 in_those test (k ∷ ns) n i = go (test k) refl (in_those test ns n) i
   where
@@ -39,7 +40,7 @@ in_those test (k ∷ ns) n i = go (test k) refl (in_those test ns n) i
     go true q ih (inr i) = let r = ih i in (inr r.0, r.1)
     go false q ih i = let r = ih i in (inr r.0, r.1)
 
-those_in : (test : FuncName → Bool) (ns : List FuncName) (n : FuncName) → In n ns → test n ≡ true → In n (those test ns)
+pub those_in : (test : FuncName → Bool) (ns : List FuncName) (n : FuncName) → In n ns → test n ≡ true → In n (those test ns)
 those_in test [] n i h = elim i [ ]
 those_in test (k ∷ ns) n i h = go (test k) refl (λ j. those_in test ns n j h) i
   where
@@ -79,7 +80,7 @@ none_counted test (k ∷ ns) h n i = go (test k) refl h (none_counted test ns) i
     go false q h ih (inl e) = ap test e ∙ q
     go false q h ih (inr i) = ih h n i
 
-at_most : (test : FuncName → Bool) (ns : List FuncName) → count test ns ≤ length ns
+pub at_most : (test : FuncName → Bool) (ns : List FuncName) → count test ns ≤ length ns
 at_most test [] = omega arith
 at_most test (n ∷ ns) = go (test n) (at_most test ns)
   where
@@ -87,38 +88,20 @@ at_most test (n ∷ ns) = go (test n) (at_most test ns)
     go true l = omega (arith, l)
     go false l = omega (arith, l)
 
-names_length : (m : Module) → length (names_of m) ≡ length m
-names_length [] = refl
-names_length (f ∷ m) = ap suc (names_length m)
-
-in_left : (n : FuncName) (xs ys : List FuncName) → In n xs → In n (xs ++ ys)
-in_left n [] ys h = elim h [ ]
-in_left n (x ∷ xs) ys (inl q) = inl q
-in_left n (x ∷ xs) ys (inr q) = inr (in_left n xs ys q)
-
-in_right : (n : FuncName) (xs ys : List FuncName) → In n ys → In n (xs ++ ys)
-in_right n [] ys h = h
-in_right n (x ∷ xs) ys h = inr (in_right n xs ys h)
-
-in_either : (n : FuncName) (xs ys : List FuncName) → In n (xs ++ ys) → In n xs ⊎ In n ys
-in_either n [] ys h = inr h
-in_either n (x ∷ xs) ys (inl q) = inl (inl q)
-in_either n (x ∷ xs) ys (inr q) = elim (in_either n xs ys q) [ inl r ↦ inl (inr r) | inr r ↦ inr r ]
-
 -- ---- pieces
 
 module _ (m : Module) where
-  mutual_of : (x y : FuncName) → one_piece m x y ≡ true → (x ≡ y) ⊎ ((reaches m x y ≡ true) × (reaches m y x ≡ true))
+  pub mutual_of : (x y : FuncName) → one_piece m x y ≡ true → (x ≡ y) ⊎ ((reaches m x y ≡ true) × (reaches m y x ≡ true))
   mutual_of x y h = elim (or_cases (same_name x y) (reaches m x y && reaches m y x) h) [ inl q ↦ inl (name_equal x y q) | inr q ↦ inr (both_true (reaches m x y) (reaches m y x) q) ]
 
-  of_mutual : (x y : FuncName) → (x ≡ y) ⊎ ((reaches m x y ≡ true) × (reaches m y x ≡ true)) → one_piece m x y ≡ true
+  pub of_mutual : (x y : FuncName) → (x ≡ y) ⊎ ((reaches m x y ≡ true) × (reaches m y x ≡ true)) → one_piece m x y ≡ true
   of_mutual x y (inl q) = or_left (same_name x y) (reaches m x y && reaches m y x) (equal_name x y q)
   of_mutual x y (inr q) = or_right (same_name x y) (reaches m x y && reaches m y x) (ap₂ (λ a b. a && b) q.0 q.1)
 
-  piece_back : (x y : FuncName) → one_piece m x y ≡ true → one_piece m y x ≡ true
+  pub piece_back : (x y : FuncName) → one_piece m x y ≡ true → one_piece m y x ≡ true
   piece_back x y h = of_mutual y x (elim (mutual_of x y h) [ inl q ↦ inl (sym q) | inr q ↦ inr (q.1, q.0) ])
 
-  piece_on : (x y z : FuncName) → one_piece m x y ≡ true → one_piece m y z ≡ true → one_piece m x z ≡ true
+  pub piece_on : (x y z : FuncName) → one_piece m x y ≡ true → one_piece m y z ≡ true → one_piece m x z ≡ true
   piece_on x y z h k = by (mutual_of x y h) (mutual_of y z k)
     where
       by : (x ≡ y) ⊎ ((reaches m x y ≡ true) × (reaches m y x ≡ true)) → (y ≡ z) ⊎ ((reaches m y z ≡ true) × (reaches m z y ≡ true)) → one_piece m x z ≡ true
@@ -154,7 +137,7 @@ module _ (m : Module) where
     callees_before : CalleesBefore m [] placed
 
   -- the callees of a piece that is ready
-  callees_there : (placed : List FuncName) (x : FuncName) → ready m placed x ≡ true → (z : FuncName) → In z (piece m x) → (y : FuncName) → In y (calls_of m z) → apart m z y ≡ true → In y (names_of m) → In y placed
+  pub callees_there : (placed : List FuncName) (x : FuncName) → ready m placed x ≡ true → (z : FuncName) → In z (piece m x) → (y : FuncName) → In y (calls_of m z) → apart m z y ≡ true → In y (names_of m) → In y placed
   callees_there placed x r z i y c a n = by (one_piece m z y) (stands y placed) (stands y (names_of m)) a (stands_of y (names_of m) n) (true_for_each (λ w. one_piece m z w || stands w placed || not (stands w (names_of m))) (calls_of m z) (true_for_each (callees_placed m placed) (piece m x) r z i) y c) (in_of y placed)
     where
       by : (p s t : Bool) → not p ≡ true → t ≡ true → (p || s || not t) ≡ true → (s ≡ true → In y placed) → In y placed
@@ -166,9 +149,9 @@ module _ (m : Module) where
   more_placed : (placed : List FuncName) (x : FuncName) → AllDifferent (names_of m) → Placed placed → (In x placed → ⊥) → In x (names_of m) → ready m placed x ≡ true → Placed (placed ++ piece m x)
   more_placed placed x d h off i r =
       record {
-        functions = λ z j. elim (in_either z placed (piece m x) j) [ inl k ↦ h.functions z k | inr k ↦ (in_those (one_piece m x) (names_of m) z k).0 ];
+        functions = λ z j. elim (in_cases z placed (piece m x) j) [ inl k ↦ h.functions z k | inr k ↦ (in_those (one_piece m x) (names_of m) z k).0 ];
         pieces = λ z y j q n.
-            elim (in_either z placed (piece m x) j) [
+            elim (in_cases z placed (piece m x) j) [
               | inl k ↦ in_left y placed (piece m x) (h.pieces z y k q n)
               | inr k ↦ in_right y placed (piece m x) (those_in (one_piece m x) (names_of m) y n (piece_on x z y (in_those (one_piece m x) (names_of m) z k).1 q))
             ];
@@ -229,10 +212,10 @@ module _ (m : Module) where
 
   -- ---- turns
 
-  abbrev unplaced : List FuncName → FuncName → Bool
+  abbrev pub unplaced : List FuncName → FuncName → Bool
   unplaced placed k = not (stands k placed)
 
-  fewer : (placed : List FuncName) (x : FuncName) → In x (names_of m) → stands x placed ≡ false → count (unplaced (placed ++ piece m x)) (names_of m) < count (unplaced placed) (names_of m)
+  pub fewer : (placed : List FuncName) (x : FuncName) → In x (names_of m) → stands x placed ≡ false → count (unplaced (placed ++ piece m x)) (names_of m) < count (unplaced placed) (names_of m)
   fewer placed x i n =
       count_less (unplaced (placed ++ piece m x)) (unplaced placed) (λ k q. keep k (stands k placed) refl q) (names_of m) x i (ap not (stands_of x (placed ++ piece m x) (in_right x placed (piece m x) (those_in (one_piece m x) (names_of m) x i (of_mutual x x (inl refl)))))) (ap not n)
     where

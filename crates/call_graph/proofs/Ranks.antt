@@ -64,7 +64,7 @@ count_all : (ns : List FuncName) → count (λ k. true) ns ≡ length ns
 count_all [] = refl
 count_all (n ∷ ns) = ap suc (count_all ns)
 
-names_length : (m : Module) → length (names_of m) ≡ length m
+pub names_length : (m : Module) → length (names_of m) ≡ length m
 names_length [] = refl
 names_length (f ∷ m) = ap suc (names_length m)
 

@@ -12,4 +12,5 @@ pub data Leads (m : Module) : FuncName → FuncName → Type 0 where
 
 -- however long the list is
 abbrev pub ReachIsByLists : Type 0
-ReachIsByLists = (m : Module) (x y : FuncName) → (reaches m x y ≡ true → Leads m x y) × (Leads m x y → reaches m x y ≡ true)
+ReachIsByLists =
+    (m : Module) (x y : FuncName) → (reaches m x y ≡ true → Leads m x y) × (Leads m x y → reaches m x y ≡ true)

@@ -1,4 +1,15 @@
+pub mod Calls
 pub mod Laws
+pub mod Marks
+pub mod NumberLaws
+pub mod Numbers
 pub mod Order
 pub mod OrderLaws
+pub mod Orders
 pub mod Reach
+pub mod Search
+pub mod Stacks
+pub mod Tables
+pub mod Trails
+pub mod Turns
+pub mod Waiting

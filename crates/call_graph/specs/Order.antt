@@ -1,7 +1,8 @@
--- An order of the functions of a module from callees to callers: each function stands behind those in other pieces that it
--- calls. The order in use places pieces in turn. Of the pieces not yet placed whose callees in other pieces are all placed,
--- the one with the least function comes next, its functions in module order.
-use Rattle.std.specs.Prelude.{◌≡◌, ⊤, ℕ, zero, suc, List, [], ◌∷◌, ◌++◌, length, map, Option, Some, None, Bool, true, not, ◌&&◌, ◌||◌, if◌then◌else◌}
+-- An order of the functions of a module from callees to callers: each function stands behind those in other pieces that
+-- it calls. The order in use places pieces in turn. Of the pieces not yet placed whose callees in other pieces are all
+-- placed, the one with the least function comes next, its functions in module order.
+use Rattle.std.specs.Prelude.{◌≡◌, ⊤, ℕ, zero, suc, List, [], ◌∷◌, ◌++◌, length, map, Option, Some, None, Bool, true}
+use Rattle.std.specs.Prelude.{not, ◌&&◌, ◌||◌, if◌then◌else◌}
 use Rattle.ir_core.specs.declared.names.FuncName.{FuncName}
 use Rattle.ir_core.specs.Module.{Module}
 use Rattle.ir_core.specs.Lookup.{same_name}
@@ -15,7 +16,9 @@ names_of m = map (λ f. f.name) m
 abbrev pub CalleesBefore : Module → List FuncName → List FuncName → Type 0
 CalleesBefore m before [] = ⊤
 CalleesBefore m before (x ∷ xs) =
-    (In x before → ⊥) × ((y : FuncName) → In y (calls_of m x) → apart m x y ≡ true → In y (names_of m) → In y before) × CalleesBefore m (x ∷ before) xs
+    (In x before → ⊥) ×
+    ((y : FuncName) → In y (calls_of m x) → apart m x y ≡ true → In y (names_of m) → In y before) ×
+    CalleesBefore m (x ∷ before) xs
 
 pub record BottomUp (m : Module) (order : List FuncName) : Type 0 where
   pub functions : (x : FuncName) → In x order → In x (names_of m)
@@ -42,7 +45,8 @@ piece m x = those (one_piece m x) (names_of m)
 
 -- what x calls is in its piece, placed, or no function of the module
 abbrev pub callees_placed : Module → List FuncName → FuncName → Bool
-callees_placed m placed x = every_name (λ y. one_piece m x y || stands y placed || not (stands y (names_of m))) (calls_of m x)
+callees_placed m placed x =
+    every_name (λ y. one_piece m x y || stands y placed || not (stands y (names_of m))) (calls_of m x)
 
 abbrev pub ready : Module → List FuncName → FuncName → Bool
 ready m placed x = every_name (callees_placed m placed) (piece m x)
@@ -54,7 +58,8 @@ next_of m placed (x ∷ xs) = if not (stands x placed) && ready m placed x then 
 
 abbrev pub placed_in : ℕ → Module → List FuncName → List FuncName
 placed_in zero m placed = placed
-placed_in (suc n) m placed = elim (next_of m placed (names_of m)) [ None ↦ placed | Some x ↦ placed_in n m (placed ++ piece m x) ]
+placed_in (suc n) m placed =
+    elim (next_of m placed (names_of m)) [ None ↦ placed | Some x ↦ placed_in n m (placed ++ piece m x) ]
 
 -- a module has no more pieces than functions
 abbrev pub bottom_up : Module → List FuncName

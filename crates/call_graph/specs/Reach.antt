@@ -1,11 +1,13 @@
--- Which functions of a module reach which. A function calls another one where it names it in a direct call of any kind. It
--- reaches another one where a list of functions leads there, each of which calls the next. Two functions are in one piece
--- where they are equal or each reaches the other.
-use Rattle.std.specs.Prelude.{ℕ, zero, suc, List, [], ◌∷◌, ◌++◌, length, Option, Some, None, Bool, false, not, ◌&&◌, ◌||◌, slice_get}
+-- Which functions of a module reach which. A function calls another one where it names it in a direct call of any kind.
+-- It reaches another one where a list of functions leads there, each of which calls the next. Two functions are in one
+-- piece where they are equal or each reaches the other. A piece is what is elsewhere called a strongly connected
+-- component.
+use Rattle.std.specs.Prelude.{ℕ, zero, suc, List, [], ◌∷◌, ◌++◌, length, Option, Some, None, Bool, false, not, ◌&&◌}
+use Rattle.std.specs.Prelude.{◌||◌, slice_get}
 use Rattle.ir_core.specs.declared.names.FuncName.{FuncName}
 use Rattle.ir_core.specs.Module.{Line, Block, Function, Module}
 use Rattle.ir_core.specs.Lookup.{and_then, same_name, find_function}
-use Rattle.ir_core.specs.Site.{callee_of}
+use Rattle.ir_core.specs.Uses.{callee_of}
 
 -- the name that a line calls directly
 abbrev pub called_name : Function → Line → Option FuncName

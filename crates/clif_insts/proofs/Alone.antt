@@ -2,8 +2,8 @@
 use Rattle.std.proofs.Common.{◌≡◌, Bool, true, false, cond, ◌==◌, List, [], ◌∷◌, ◌++◌, None, Ok, Err, refl, sym, ap, ◌∙◌, inl, inr}
 use Rattle.std.specs.Prelude.{◌⊎◌}
 use Rattle.std.proofs.lemmas.Bool.{eqb-true}
-use Rattle.grammar.specs.Rules.{Lexeme, Rule, Many, Value, Kind, Syntax, Out, heads, exts, read, ◌>>=◌}
-use Rattle.grammar.proofs.Laws.{sound, complete}
+use Rattle.grammar.specs.Rules.{Lexeme, Rule, Many, Tree, Kind, Syntax, Out, heads, exts, read, ◌>>=◌}
+use Rattle.grammar.proofs.Exactness.{sound, complete}
 use Rattle.clif_words.specs.declared.class.Class.{Class}
 use Rattle.clif_words.specs.declared.class.Class.TheVariants as classes
 use Rattle.clif_insts.specs.declared.raw.RawName.{RawName}
@@ -13,7 +13,7 @@ use Rattle.clif_insts.specs.declared.raw.RawOperands.TheVariants as operands
 use Rattle.clif_words.specs.Classes.{code}
 use Rattle.clif_words.specs.Terminals.{◌then◌, ◌or◌, arrow, comma, equals, value}
 use Rattle.clif_insts.specs.Grammar.{return_alone}
-use Rattle.clif_insts.specs.Reading.{next_is, name, name_at}
+use Rattle.clif_insts.specs.Reading.{next_is, name, opcode, opcode_at, name_at}
 use Rattle.clif_insts.specs.Arguments.{more_values_at, values_at}
 use Rattle.clif_insts.specs.Values.{◌otherwise◌, seen}
 use Rattle.clif_insts.specs.InstValues.{raw}
@@ -28,7 +28,7 @@ use Rattle.clif_insts.proofs.Takes.{takes_name, misses_name}
 abbrev Tail : Rule
 Tail = arrow or (Many (comma then value) then equals)
 
-abbrev tail_value : Value Tail → RawName
+abbrev tail_value : Tree Tail → RawName
 tail_value = name otherwise (λ w. name w.1)
 
 abbrev tail_at : RawName → List Lexeme → Out RawName
@@ -51,10 +51,10 @@ alone_is =
 starts_ok : (ts : List Lexeme) (y : RawName × List Lexeme) → alone_at ts ≡ Ok y → Starts return_alone ts
 starts_ok ts y h = go (read return_alone ts) refl
   where
-    go : (o : Out (Value return_alone)) → read return_alone ts ≡ o → Starts return_alone ts
+    go : (o : Out (Tree return_alone)) → read return_alone ts ≡ o → Starts return_alone ts
     go (Ok x) e = let s = sound return_alone ts x e in (s.0, x.1, s.1, (x.0, s.2))
     go (Err x) e =
-        let g : alone_at ts ≡ Err x = alone_is.same ts ∙ ap (seen (λ (v : Value return_alone). tail_value v.1.1)) e in
+        let g : alone_at ts ≡ Err x = alone_is.same ts ∙ ap (seen (λ (v : Tree return_alone). tail_value v.1.1)) e in
         absurd cc
 
 no_exts : (rest : List Lexeme) → heads (exts return_alone) rest ≡ false
@@ -65,7 +65,7 @@ starts_err : (ts : List Lexeme) (e : Kind × List Lexeme) → alone_at ts ≡ Er
 starts_err ts e h (us, rest, cut, (v, d)) =
     let c : read return_alone (us ++ rest) ≡ Ok (v, rest) = complete return_alone refl us v rest d (no_exts rest) in
     let c2 : read return_alone ts ≡ Ok (v, rest) = ap (read return_alone) cut ∙ c in
-    let g : alone_at ts ≡ Ok (tail_value v.1.1, rest) = alone_is.same ts ∙ ap (seen (λ (w : Value return_alone). tail_value w.1.1)) c2 in
+    let g : alone_at ts ≡ Ok (tail_value v.1.1, rest) = alone_is.same ts ∙ ap (seen (λ (w : Tree return_alone). tail_value w.1.1)) c2 in
     absurd cc
 
 -- ---- the values that are a `return`'s own
@@ -129,7 +129,7 @@ pub record Alone (ts : List Lexeme) : Type 0 where
   pub all : ts ≡ first ∷ rest
   pub is_return : first.class ≡ code classes.Return
   pub starts : Starts return_alone ts
-  pub read : one_at ts ≡ Ok (raw (name first) None (operands.Return []), rest)
+  pub read : one_at ts ≡ Ok (raw (opcode first) None (operands.Return []), rest)
 
 pub record Whole (ts : List Lexeme) : Type 0 where
   pub starts_not : Starts return_alone ts → ⊥
@@ -143,7 +143,7 @@ no_return ts h = record {
 }
 
 with_return : (x : Lexeme) (xs : List Lexeme) → next_is classes.Return (x ∷ xs) ≡ true → Decided xs → Alone (x ∷ xs) ⊎ Whole (x ∷ xs)
-unfolding one_at return_line_at return_values_at
+unfolding one_at return_line_at return_values_at opcode_at
 with_return x xs h d =
     let takes : name_at classes.Return (x ∷ xs) ≡ Ok (name x, xs) = takes_name classes.Return (x ∷ xs) h (name x) xs (λ y ys e. ap name (let f : x ≡ y = cc in f)) refl in
     elim d [

@@ -2,9 +2,9 @@
 use Rattle.std.proofs.Common.{◌≡◌, ℕ, zero, suc, ◌≤◌, ◌<◌, Bool, true, false, not, ◌&&◌, ◌||◌, ◌==◌, cond, List, [], ◌∷◌, ◌++◌, length, Some, None, Ok, Err, refl, sym, ap, subst, ◌∙◌, arith, inl, inr, append_assoc, length-append}
 use Rattle.std.proofs.lemmas.Bool.{eqb-true, eq-eqb}
 use Rattle.std.proofs.lemmas.List.Folds.{list_any-append}
-use Rattle.grammar.specs.Rules.{Lexeme, Kind, Rule, Empty, Tok, Seq, Alt, Opt, Many, Refuse, Chain, Value, Each, Derives, heads, member, nullable, firsts, exts, disjoint, good, Out, ◌>>=◌, repeat, read}
+use Rattle.grammar.specs.Rules.{Lexeme, Kind, Rule, Empty, Tok, Seq, Alt, Opt, Many, Refuse, Chain, Tree, Each, Derives, heads, member, nullable, firsts, exts, disjoint, good, Out, ◌>>=◌, repeat, read}
 use Rattle.grammar.proofs.Sets.{both, not_true, one_way, heads_split, heads_append, heads_some, disjoint_heads}
-use Rattle.grammar.proofs.Laws.{front, front_each, complete, some_front}
+use Rattle.grammar.proofs.Exactness.{front, front_each, complete, some_front}
 use Rattle.grammar.proofs.Past.{Left, shrinks}
 
 -- no word is refused where the rule begins
@@ -67,7 +67,7 @@ rest_left a zero ts = omega arith
 rest_left a (suc m) ts = go (rest_left a m) (heads (firsts a) ts)
   where
     go : ((us : List Lexeme) → Left (length us) (repeat (read a) (firsts a) m us))
-        → (b : Bool) → Left (length ts) (cond {A = Out (List (Value a))} b (read a ts >>= λ x. repeat (read a) (firsts a) m x.1 >>= λ y. Ok (x.0 ∷ y.0, y.1)) (Ok ([], ts)))
+        → (b : Bool) → Left (length ts) (cond {A = Out (List (Tree a))} b (read a ts >>= λ x. repeat (read a) (firsts a) m x.1 >>= λ y. Ok (x.0 ∷ y.0, y.1)) (Ok ([], ts)))
     go ih true =
         left_then (length ts) (read a ts) (λ x. repeat (read a) (firsts a) m x.1 >>= λ y. Ok (x.0 ∷ y.0, y.1)) (shrinks a ts)
         (λ x h. left_then (length ts) (repeat (read a) (firsts a) m x.1) (λ y. Ok (x.0 ∷ y.0, y.1)) (left_more (length x.1) (length ts) (repeat (read a) (firsts a) m x.1) h (ih x.1)) (λ y k. k))
@@ -86,7 +86,7 @@ or_false true = refl
 or_false false = refl
 
 -- a rule that may be left out reads nothing where none of its first tokens is next
-skips : (r : Rule) → good r ≡ true → nullable r ≡ true → (ts : List Lexeme) → heads (firsts r) ts ≡ false → (w : Value r) × (read r ts ≡ Ok (w, ts))
+skips : (r : Rule) → good r ≡ true → nullable r ≡ true → (ts : List Lexeme) → heads (firsts r) ts ≡ false → (w : Tree r) × (read r ts ≡ Ok (w, ts))
 skips Empty g n ts h = (tt, refl)
 skips (Tok c) g n ts h = absurd cc
 skips (Seq a b) g n ts h =
@@ -162,7 +162,7 @@ moves (Refuse cs k) g e ts h = absurd cc
 moves (Chain c a b) g e ts h = absurd cc
 
 abbrev pub OverTexts : Rule → Type 0
-OverTexts r = (us : List Lexeme) (v : Value r) (tail : List Lexeme) → Derives r us v → Over (length tail) (read r (us ++ tail))
+OverTexts r = (us : List Lexeme) (v : Tree r) (tail : List Lexeme) → Derives r us v → Over (length tail) (read r (us ++ tail))
 
 -- a repetition, from here on
 over_rest : (a : Rule) → good a ≡ true → early a ≡ true → (n : ℕ) (ts : List Lexeme) → Over (length ts) (repeat (read a) (firsts a) n ts)
@@ -180,7 +180,7 @@ over_more m n (Ok x) le h = omega arith
 over_more m n (Err e) le h = omega arith
 
 over_each : (a : Rule) → good a ≡ true → early a ≡ true → OverTexts a → nullable a ≡ false → disjoint (exts a) (firsts a) ≡ true
-    → (n : ℕ) (us : List Lexeme) (vs : List (Value a)) (tail : List Lexeme) → length us ≤ n → Each (Derives a) us vs → Over (length tail) (repeat (read a) (firsts a) n (us ++ tail))
+    → (n : ℕ) (us : List Lexeme) (vs : List (Tree a)) (tail : List Lexeme) → length us ≤ n → Each (Derives a) us vs → Over (length tail) (repeat (read a) (firsts a) n (us ++ tail))
 over_each a g e one some dis n us [] tail le d = rw d (over_rest a g e n tail)
 over_each a g e one some dis zero us (v ∷ vs) tail le d =
     let p = some_front a d.0 some (front a d.0 v d.3.0) in
@@ -277,7 +277,7 @@ over (Refuse cs k) g f us v tail d = absurd d
 over (Chain c a b) g f us vs tail d = absurd cc
 
 -- where reading stops with a fault, what was read before is no text
-pub no_text : (r : Rule) → good r ≡ true → firm r ≡ true → (ts us rest : List Lexeme) (k : Kind) → ts ≡ us ++ rest → read r ts ≡ Err (k, rest) → (v : Value r) → Derives r us v → ⊥
+pub no_text : (r : Rule) → good r ≡ true → firm r ≡ true → (ts us rest : List Lexeme) (k : Kind) → ts ≡ us ++ rest → read r ts ≡ Err (k, rest) → (v : Tree r) → Derives r us v → ⊥
 no_text r g f ts us rest k e h v d =
     let o : Over (length rest) (read r (us ++ rest)) = over r g f us v rest d in
     let same : read r (us ++ rest) ≡ Err (k, rest) = sym (ap (read r) e) ∙ h in

@@ -2,7 +2,7 @@
 use Rattle.std.proofs.Common.{◌≡◌, ℕ, Bool, true, false, cond, ◌==◌, ◌||◌, List, [], ◌∷◌, ◌++◌, length, map, Some, None, Ok, Err, inl, inr, refl, sym, ap, ◌∙◌}
 use Rattle.std.proofs.lemmas.List.{append-nil}
 use Rattle.std.proofs.lemmas.Bool.{eqb-true}
-use Rattle.grammar.specs.Rules.{Lexeme, Rule, Opt, Many, Value, Unsupported, Out, heads, firsts, ◌>>=◌}
+use Rattle.grammar.specs.Rules.{Lexeme, Rule, Opt, Many, Tree, Unsupported, Out, heads, firsts, ◌>>=◌}
 use Rattle.clif_words.specs.declared.class.Class.{Class}
 use Rattle.clif_words.specs.declared.class.Class.TheVariants as classes
 use Rattle.clif_insts.specs.declared.raw.RawFlag.{RawFlag}
@@ -31,7 +31,7 @@ ordered_flag_is order = alt_is plain_flag_is (map_is (name_is order) (λ x. orde
 abbrev Ordered : Class → Rule
 Ordered order = one order then Many (plain_flag or one order)
 
-abbrev ordered_value : (order : Class) → Value (Ordered order) → List RawFlag
+abbrev ordered_value : (order : Class) → Tree (Ordered order) → List RawFlag
 ordered_value order v = order_flag order ∷ map (plain_flag_value otherwise (λ x. order_flag order)) v.1
 
 abbrev more : Class → List Lexeme → Out (List RawFlag)
@@ -92,7 +92,7 @@ same_order fs (x ∷ xs) =
 order_is : (fs : List RawFlag) → Is (Opt Order) (λ v. fs ++ perhaps [] (from_big otherwise from_little) v) (then_order fs)
 order_is fs = record { same = λ ts. same_order fs ts ∙ (ruled fs).same ts }
   where
-    values : (fs : List RawFlag) (v : Value (Opt Order)) → perhaps (fs ++ []) (either (λ w. fs ++ ordered_value classes.Big w) (λ w. fs ++ ordered_value classes.Little w)) v ≡ fs ++ perhaps [] (from_big otherwise from_little) v
+    values : (fs : List RawFlag) (v : Tree (Opt Order)) → perhaps (fs ++ []) (either (λ w. fs ++ ordered_value classes.Big w) (λ w. fs ++ ordered_value classes.Little w)) v ≡ fs ++ perhaps [] (from_big otherwise from_little) v
     values fs None = refl
     values fs (Some (inl w)) = refl
     values fs (Some (inr w)) = refl

@@ -4,7 +4,7 @@ use Rattle.std.specs.Prelude.{◌⊎◌}
 use Rattle.std.proofs.lemmas.Bool.{eqb-true, eq-eqb}
 use Rattle.std.proofs.lemmas.List.{append-nil}
 use Rattle.std.proofs.lemmas.List.Folds.{list_any-append}
-use Rattle.grammar.specs.Rules.{Lexeme, Kind, Rule, Many, Unsupported, Value, Cut, Derives, Begins, Refuses, member}
+use Rattle.grammar.specs.Rules.{Lexeme, Kind, Rule, Many, Unsupported, Tree, Cut, Derives, Begins, Refuses, member}
 use Rattle.grammar.proofs.Sets.{both, one_way}
 use Rattle.grammar.proofs.Past.{derives_begins}
 use Rattle.clif_words.specs.declared.class.Class.{Class}
@@ -225,13 +225,13 @@ abbrev little_flags : Rule
 little_flags = little then Many (plain_flag or little)
 
 abbrev Sorted : Type 0
-Sorted = Option (Value big_flags ⊎ Value little_flags)
+Sorted = Option (Tree big_flags ⊎ Tree little_flags)
 
 joined : (us ws : List Lexeme) (x : Lexeme) (xs ts : List Lexeme) (before behind : List RawFlag) (one : RawFlag) → ts ≡ us ++ ws → ws ≡ x ∷ xs
     → before ≡ map flag_value us → one ≡ flag_value x → behind ≡ map flag_value xs → before ++ (one ∷ behind) ≡ map flag_value ts
 joined us ws x xs ts before behind one e f b o a = rw (e, f, b, o, a) (sym (map_append flag_value us (x ∷ xs)))
 
-flags_down : (ts : List Lexeme) (vs : List (Value plain_flag)) (o : Sorted) → Derives flags ts (vs, o) → Shape ts × (flags_value (vs, o) ≡ map flag_value ts)
+flags_down : (ts : List Lexeme) (vs : List (Tree plain_flag)) (o : Sorted) → Derives flags ts (vs, o) → Shape ts × (flags_value (vs, o) ≡ map flag_value ts)
 flags_down ts vs None d =
     let k = many_means plain_flag plain_flag_value plain flag_value plain_single d.0 vs d.3.0 in
     let whole : ts ≡ d.0 = d.2 ∙ ap (λ (l : List Lexeme). d.0 ++ l) d.3.1 ∙ append-nil d.0 in
@@ -266,7 +266,7 @@ flags_up ts (inr (us, ws, e, (h, inr (x, xs, f, c, all)))) =
 
 -- ---- beginnings and refused words
 
-plain_shape : (us : List Lexeme) (vs : List (Value plain_flag)) → Derives (Many plain_flag) us vs → all_in plain us ≡ true
+plain_shape : (us : List Lexeme) (vs : List (Tree plain_flag)) → Derives (Many plain_flag) us vs → all_in plain us ≡ true
 plain_shape us vs d = (many_means plain_flag plain_flag_value plain flag_value plain_single us vs d).0
 
 nothing_behind : (ts us ws : List Lexeme) → ts ≡ us ++ ws → ws ≡ [] → all_in plain us ≡ true → Shape ts

@@ -15,14 +15,14 @@ use Rattle.clif_insts.specs.Flags.{flags_at}
 use Rattle.clif_insts.specs.Values.{suffix_value, opt_suffix_value, number_value, offset_value, condition_value, flags_value, branch_value}
 use Rattle.clif_insts.specs.InstValues.{raw, iconst_value, binary_value, unary_value, icmp_value, select_value, convert_value, binary_imm_value, icmp_imm_value, load_value, load_wide_value, store_value, stack_load_value, stack_store_value, func_addr_value, nullary_value, jump_value, brif_value}
 use Rattle.clif_insts.specs.Forms.{iconst_at, binary_at, unary_at, icmp_at, select_at, convert_at, binary_imm_at, icmp_imm_at, load_at, load_wide_at, store_at, stack_load_at, stack_store_at, func_addr_at, nullary_at, jump_at, brif_at}
-use Rattle.clif_insts.proofs.Seen.{Is, then_is, map_is, name_is}
+use Rattle.clif_insts.proofs.Seen.{Is, then_is, map_is, name_is, opcode_is}
 use Rattle.clif_insts.proofs.PartLaws.{suffix_is, opt_suffix_is, suffix_i64_is, condition_is, number_is, offset_is, branch_is}
 use Rattle.clif_insts.proofs.FlagLaws.{flags_is}
 
 pub iconst_is : Is (iconst then suffix then number) iconst_value iconst_at
 unfolding iconst_at
 iconst_is =
-    then_is (name_is classes.Iconst) (suffix then number) (λ opcode v. raw opcode (Some (suffix_value v.0)) (operands.Number (number_value v.1)))
+    then_is (opcode_is classes.Iconst) (suffix then number) (λ opcode v. raw opcode (Some (suffix_value v.0)) (operands.Number (number_value v.1)))
     (λ opcode ts. suffix_at ts >>= λ the_suffix. number_at the_suffix.1 >>= λ the_number. Ok (raw opcode (Some the_suffix.0) (operands.Number the_number.0), the_number.1))
     (λ opcode. then_is (suffix_is) number (λ the_suffix v. raw opcode (Some the_suffix) (operands.Number (number_value v)))
     (λ the_suffix ts. number_at ts >>= λ the_number. Ok (raw opcode (Some the_suffix) (operands.Number the_number.0), the_number.1))
@@ -31,7 +31,7 @@ iconst_is =
 pub binary_is : Is (binary then Opt suffix then value then comma then value) binary_value binary_at
 unfolding binary_at
 binary_is =
-    then_is (name_is classes.Binary) (Opt suffix then value then comma then value) (λ opcode v. raw opcode (opt_suffix_value v.0) (operands.Binary (name v.1.0) (name v.1.1.1)))
+    then_is (opcode_is classes.Binary) (Opt suffix then value then comma then value) (λ opcode v. raw opcode (opt_suffix_value v.0) (operands.Binary (name v.1.0) (name v.1.1.1)))
     (λ opcode ts. opt_suffix_at ts >>= λ the_suffix. name_at classes.Value the_suffix.1 >>= λ x. name_at classes.Comma x.1 >>= λ s2. name_at classes.Value s2.1 >>= λ y. Ok (raw opcode the_suffix.0 (operands.Binary x.0 y.0), y.1))
     (λ opcode. then_is (opt_suffix_is) (value then comma then value) (λ the_suffix v. raw opcode the_suffix (operands.Binary (name v.0) (name v.1.1)))
     (λ the_suffix ts. name_at classes.Value ts >>= λ x. name_at classes.Comma x.1 >>= λ s2. name_at classes.Value s2.1 >>= λ y. Ok (raw opcode the_suffix (operands.Binary x.0 y.0), y.1))
@@ -44,7 +44,7 @@ binary_is =
 pub unary_is : Is (unary then Opt suffix then value) unary_value unary_at
 unfolding unary_at
 unary_is =
-    then_is (name_is classes.Unary) (Opt suffix then value) (λ opcode v. raw opcode (opt_suffix_value v.0) (operands.Unary (name v.1)))
+    then_is (opcode_is classes.Unary) (Opt suffix then value) (λ opcode v. raw opcode (opt_suffix_value v.0) (operands.Unary (name v.1)))
     (λ opcode ts. opt_suffix_at ts >>= λ the_suffix. name_at classes.Value the_suffix.1 >>= λ x. Ok (raw opcode the_suffix.0 (operands.Unary x.0), x.1))
     (λ opcode. then_is (opt_suffix_is) value (λ the_suffix v. raw opcode the_suffix (operands.Unary (name v)))
     (λ the_suffix ts. name_at classes.Value ts >>= λ x. Ok (raw opcode the_suffix (operands.Unary x.0), x.1))
@@ -53,7 +53,7 @@ unary_is =
 pub icmp_is : Is (icmp then Opt suffix then condition then value then comma then value) icmp_value icmp_at
 unfolding icmp_at
 icmp_is =
-    then_is (name_is classes.Icmp) (Opt suffix then condition then value then comma then value) (λ opcode v. raw opcode (opt_suffix_value v.0) (operands.Compare (condition_value v.1.0) (name v.1.1.0) (name v.1.1.1.1)))
+    then_is (opcode_is classes.Icmp) (Opt suffix then condition then value then comma then value) (λ opcode v. raw opcode (opt_suffix_value v.0) (operands.Compare (condition_value v.1.0) (name v.1.1.0) (name v.1.1.1.1)))
     (λ opcode ts. opt_suffix_at ts >>= λ the_suffix. condition_at the_suffix.1 >>= λ the_condition. name_at classes.Value the_condition.1 >>= λ x. name_at classes.Comma x.1 >>= λ s3. name_at classes.Value s3.1 >>= λ y. Ok (raw opcode the_suffix.0 (operands.Compare the_condition.0 x.0 y.0), y.1))
     (λ opcode. then_is (opt_suffix_is) (condition then value then comma then value) (λ the_suffix v. raw opcode the_suffix (operands.Compare (condition_value v.0) (name v.1.0) (name v.1.1.1)))
     (λ the_suffix ts. condition_at ts >>= λ the_condition. name_at classes.Value the_condition.1 >>= λ x. name_at classes.Comma x.1 >>= λ s3. name_at classes.Value s3.1 >>= λ y. Ok (raw opcode the_suffix (operands.Compare the_condition.0 x.0 y.0), y.1))
@@ -68,7 +68,7 @@ icmp_is =
 pub select_is : Is (select then Opt suffix then value then comma then value then comma then value) select_value select_at
 unfolding select_at
 select_is =
-    then_is (name_is classes.Select) (Opt suffix then value then comma then value then comma then value) (λ opcode v. raw opcode (opt_suffix_value v.0) (operands.Ternary (name v.1.0) (name v.1.1.1.0) (name v.1.1.1.1.1)))
+    then_is (opcode_is classes.Select) (Opt suffix then value then comma then value then comma then value) (λ opcode v. raw opcode (opt_suffix_value v.0) (operands.Ternary (name v.1.0) (name v.1.1.1.0) (name v.1.1.1.1.1)))
     (λ opcode ts. opt_suffix_at ts >>= λ the_suffix. name_at classes.Value the_suffix.1 >>= λ x. name_at classes.Comma x.1 >>= λ s2. name_at classes.Value s2.1 >>= λ y. name_at classes.Comma y.1 >>= λ s4. name_at classes.Value s4.1 >>= λ z. Ok (raw opcode the_suffix.0 (operands.Ternary x.0 y.0 z.0), z.1))
     (λ opcode. then_is (opt_suffix_is) (value then comma then value then comma then value) (λ the_suffix v. raw opcode the_suffix (operands.Ternary (name v.0) (name v.1.1.0) (name v.1.1.1.1)))
     (λ the_suffix ts. name_at classes.Value ts >>= λ x. name_at classes.Comma x.1 >>= λ s2. name_at classes.Value s2.1 >>= λ y. name_at classes.Comma y.1 >>= λ s4. name_at classes.Value s4.1 >>= λ z. Ok (raw opcode the_suffix (operands.Ternary x.0 y.0 z.0), z.1))
@@ -85,7 +85,7 @@ select_is =
 pub convert_is : Is (convert then suffix then value) convert_value convert_at
 unfolding convert_at
 convert_is =
-    then_is (name_is classes.Convert) (suffix then value) (λ opcode v. raw opcode (Some (suffix_value v.0)) (operands.Unary (name v.1)))
+    then_is (opcode_is classes.Convert) (suffix then value) (λ opcode v. raw opcode (Some (suffix_value v.0)) (operands.Unary (name v.1)))
     (λ opcode ts. suffix_at ts >>= λ the_suffix. name_at classes.Value the_suffix.1 >>= λ x. Ok (raw opcode (Some the_suffix.0) (operands.Unary x.0), x.1))
     (λ opcode. then_is (suffix_is) value (λ the_suffix v. raw opcode (Some the_suffix) (operands.Unary (name v)))
     (λ the_suffix ts. name_at classes.Value ts >>= λ x. Ok (raw opcode (Some the_suffix) (operands.Unary x.0), x.1))
@@ -94,7 +94,7 @@ convert_is =
 pub binary_imm_is : Is (binary_imm then Opt suffix then value then comma then number) binary_imm_value binary_imm_at
 unfolding binary_imm_at
 binary_imm_is =
-    then_is (name_is classes.BinaryImm) (Opt suffix then value then comma then number) (λ opcode v. raw opcode (opt_suffix_value v.0) (operands.BinaryImm (name v.1.0) (number_value v.1.1.1)))
+    then_is (opcode_is classes.BinaryImm) (Opt suffix then value then comma then number) (λ opcode v. raw opcode (opt_suffix_value v.0) (operands.BinaryImm (name v.1.0) (number_value v.1.1.1)))
     (λ opcode ts. opt_suffix_at ts >>= λ the_suffix. name_at classes.Value the_suffix.1 >>= λ x. name_at classes.Comma x.1 >>= λ s2. number_at s2.1 >>= λ the_number. Ok (raw opcode the_suffix.0 (operands.BinaryImm x.0 the_number.0), the_number.1))
     (λ opcode. then_is (opt_suffix_is) (value then comma then number) (λ the_suffix v. raw opcode the_suffix (operands.BinaryImm (name v.0) (number_value v.1.1)))
     (λ the_suffix ts. name_at classes.Value ts >>= λ x. name_at classes.Comma x.1 >>= λ s2. number_at s2.1 >>= λ the_number. Ok (raw opcode the_suffix (operands.BinaryImm x.0 the_number.0), the_number.1))
@@ -107,7 +107,7 @@ binary_imm_is =
 pub icmp_imm_is : Is (icmp_imm then Opt suffix then condition then value then comma then number) icmp_imm_value icmp_imm_at
 unfolding icmp_imm_at
 icmp_imm_is =
-    then_is (name_is classes.IcmpImm) (Opt suffix then condition then value then comma then number) (λ opcode v. raw opcode (opt_suffix_value v.0) (operands.CompareImm (condition_value v.1.0) (name v.1.1.0) (number_value v.1.1.1.1)))
+    then_is (opcode_is classes.IcmpImm) (Opt suffix then condition then value then comma then number) (λ opcode v. raw opcode (opt_suffix_value v.0) (operands.CompareImm (condition_value v.1.0) (name v.1.1.0) (number_value v.1.1.1.1)))
     (λ opcode ts. opt_suffix_at ts >>= λ the_suffix. condition_at the_suffix.1 >>= λ the_condition. name_at classes.Value the_condition.1 >>= λ x. name_at classes.Comma x.1 >>= λ s3. number_at s3.1 >>= λ the_number. Ok (raw opcode the_suffix.0 (operands.CompareImm the_condition.0 x.0 the_number.0), the_number.1))
     (λ opcode. then_is (opt_suffix_is) (condition then value then comma then number) (λ the_suffix v. raw opcode the_suffix (operands.CompareImm (condition_value v.0) (name v.1.0) (number_value v.1.1.1)))
     (λ the_suffix ts. condition_at ts >>= λ the_condition. name_at classes.Value the_condition.1 >>= λ x. name_at classes.Comma x.1 >>= λ s3. number_at s3.1 >>= λ the_number. Ok (raw opcode the_suffix (operands.CompareImm the_condition.0 x.0 the_number.0), the_number.1))
@@ -122,7 +122,7 @@ icmp_imm_is =
 pub load_is : Is (load then suffix then flags then value then Opt signed) load_value load_at
 unfolding load_at
 load_is =
-    then_is (name_is classes.Load) (suffix then flags then value then Opt signed) (λ opcode v. raw opcode (Some (suffix_value v.0)) (operands.Load (flags_value v.1.0) (name v.1.1.0) (offset_value v.1.1.1)))
+    then_is (opcode_is classes.Load) (suffix then flags then value then Opt signed) (λ opcode v. raw opcode (Some (suffix_value v.0)) (operands.Load (flags_value v.1.0) (name v.1.1.0) (offset_value v.1.1.1)))
     (λ opcode ts. suffix_at ts >>= λ the_suffix. flags_at the_suffix.1 >>= λ the_flags. name_at classes.Value the_flags.1 >>= λ address. offset_at address.1 >>= λ offset. Ok (raw opcode (Some the_suffix.0) (operands.Load the_flags.0 address.0 offset.0), offset.1))
     (λ opcode. then_is (suffix_is) (flags then value then Opt signed) (λ the_suffix v. raw opcode (Some the_suffix) (operands.Load (flags_value v.0) (name v.1.0) (offset_value v.1.1)))
     (λ the_suffix ts. flags_at ts >>= λ the_flags. name_at classes.Value the_flags.1 >>= λ address. offset_at address.1 >>= λ offset. Ok (raw opcode (Some the_suffix) (operands.Load the_flags.0 address.0 offset.0), offset.1))
@@ -135,7 +135,7 @@ load_is =
 pub load_wide_is : Is (load_wide then Opt suffix then flags then value then Opt signed) load_wide_value load_wide_at
 unfolding load_wide_at
 load_wide_is =
-    then_is (name_is classes.LoadWide) (Opt suffix then flags then value then Opt signed) (λ opcode v. raw opcode (opt_suffix_value v.0) (operands.Load (flags_value v.1.0) (name v.1.1.0) (offset_value v.1.1.1)))
+    then_is (opcode_is classes.LoadWide) (Opt suffix then flags then value then Opt signed) (λ opcode v. raw opcode (opt_suffix_value v.0) (operands.Load (flags_value v.1.0) (name v.1.1.0) (offset_value v.1.1.1)))
     (λ opcode ts. opt_suffix_at ts >>= λ the_suffix. flags_at the_suffix.1 >>= λ the_flags. name_at classes.Value the_flags.1 >>= λ address. offset_at address.1 >>= λ offset. Ok (raw opcode the_suffix.0 (operands.Load the_flags.0 address.0 offset.0), offset.1))
     (λ opcode. then_is (opt_suffix_is) (flags then value then Opt signed) (λ the_suffix v. raw opcode the_suffix (operands.Load (flags_value v.0) (name v.1.0) (offset_value v.1.1)))
     (λ the_suffix ts. flags_at ts >>= λ the_flags. name_at classes.Value the_flags.1 >>= λ address. offset_at address.1 >>= λ offset. Ok (raw opcode the_suffix (operands.Load the_flags.0 address.0 offset.0), offset.1))
@@ -148,7 +148,7 @@ load_wide_is =
 pub store_is : Is (store then Opt suffix then flags then value then comma then value then Opt signed) store_value store_at
 unfolding store_at
 store_is =
-    then_is (name_is classes.Store) (Opt suffix then flags then value then comma then value then Opt signed) (λ opcode v. raw opcode (opt_suffix_value v.0) (operands.Store (flags_value v.1.0) (name v.1.1.0) (name v.1.1.1.1.0) (offset_value v.1.1.1.1.1)))
+    then_is (opcode_is classes.Store) (Opt suffix then flags then value then comma then value then Opt signed) (λ opcode v. raw opcode (opt_suffix_value v.0) (operands.Store (flags_value v.1.0) (name v.1.1.0) (name v.1.1.1.1.0) (offset_value v.1.1.1.1.1)))
     (λ opcode ts. opt_suffix_at ts >>= λ the_suffix. flags_at the_suffix.1 >>= λ the_flags. name_at classes.Value the_flags.1 >>= λ the_value. name_at classes.Comma the_value.1 >>= λ s3. name_at classes.Value s3.1 >>= λ address. offset_at address.1 >>= λ offset. Ok (raw opcode the_suffix.0 (operands.Store the_flags.0 the_value.0 address.0 offset.0), offset.1))
     (λ opcode. then_is (opt_suffix_is) (flags then value then comma then value then Opt signed) (λ the_suffix v. raw opcode the_suffix (operands.Store (flags_value v.0) (name v.1.0) (name v.1.1.1.0) (offset_value v.1.1.1.1)))
     (λ the_suffix ts. flags_at ts >>= λ the_flags. name_at classes.Value the_flags.1 >>= λ the_value. name_at classes.Comma the_value.1 >>= λ s3. name_at classes.Value s3.1 >>= λ address. offset_at address.1 >>= λ offset. Ok (raw opcode the_suffix (operands.Store the_flags.0 the_value.0 address.0 offset.0), offset.1))
@@ -165,7 +165,7 @@ store_is =
 pub stack_load_is : Is (stack_load then suffix then slot then Opt signed) stack_load_value stack_load_at
 unfolding stack_load_at
 stack_load_is =
-    then_is (name_is classes.StackLoad) (suffix then slot then Opt signed) (λ opcode v. raw opcode (Some (suffix_value v.0)) (operands.StackLoad (name v.1.0) (offset_value v.1.1)))
+    then_is (opcode_is classes.StackLoad) (suffix then slot then Opt signed) (λ opcode v. raw opcode (Some (suffix_value v.0)) (operands.StackLoad (name v.1.0) (offset_value v.1.1)))
     (λ opcode ts. suffix_at ts >>= λ the_suffix. name_at classes.Slot the_suffix.1 >>= λ the_slot. offset_at the_slot.1 >>= λ offset. Ok (raw opcode (Some the_suffix.0) (operands.StackLoad the_slot.0 offset.0), offset.1))
     (λ opcode. then_is (suffix_is) (slot then Opt signed) (λ the_suffix v. raw opcode (Some the_suffix) (operands.StackLoad (name v.0) (offset_value v.1)))
     (λ the_suffix ts. name_at classes.Slot ts >>= λ the_slot. offset_at the_slot.1 >>= λ offset. Ok (raw opcode (Some the_suffix) (operands.StackLoad the_slot.0 offset.0), offset.1))
@@ -176,7 +176,7 @@ stack_load_is =
 pub stack_store_is : Is (stack_store then Opt suffix then value then comma then slot then Opt signed) stack_store_value stack_store_at
 unfolding stack_store_at
 stack_store_is =
-    then_is (name_is classes.StackStore) (Opt suffix then value then comma then slot then Opt signed) (λ opcode v. raw opcode (opt_suffix_value v.0) (operands.StackStore (name v.1.0) (name v.1.1.1.0) (offset_value v.1.1.1.1)))
+    then_is (opcode_is classes.StackStore) (Opt suffix then value then comma then slot then Opt signed) (λ opcode v. raw opcode (opt_suffix_value v.0) (operands.StackStore (name v.1.0) (name v.1.1.1.0) (offset_value v.1.1.1.1)))
     (λ opcode ts. opt_suffix_at ts >>= λ the_suffix. name_at classes.Value the_suffix.1 >>= λ the_value. name_at classes.Comma the_value.1 >>= λ s2. name_at classes.Slot s2.1 >>= λ the_slot. offset_at the_slot.1 >>= λ offset. Ok (raw opcode the_suffix.0 (operands.StackStore the_value.0 the_slot.0 offset.0), offset.1))
     (λ opcode. then_is (opt_suffix_is) (value then comma then slot then Opt signed) (λ the_suffix v. raw opcode the_suffix (operands.StackStore (name v.0) (name v.1.1.0) (offset_value v.1.1.1)))
     (λ the_suffix ts. name_at classes.Value ts >>= λ the_value. name_at classes.Comma the_value.1 >>= λ s2. name_at classes.Slot s2.1 >>= λ the_slot. offset_at the_slot.1 >>= λ offset. Ok (raw opcode the_suffix (operands.StackStore the_value.0 the_slot.0 offset.0), offset.1))
@@ -191,7 +191,7 @@ stack_store_is =
 pub func_addr_is : Is (func_addr then suffix_i64 then callee) func_addr_value func_addr_at
 unfolding func_addr_at
 func_addr_is =
-    then_is (name_is classes.FuncAddr) (suffix_i64 then callee) (λ opcode v. raw opcode None (operands.FuncAddr (name v.1)))
+    then_is (opcode_is classes.FuncAddr) (suffix_i64 then callee) (λ opcode v. raw opcode None (operands.FuncAddr (name v.1)))
     (λ opcode ts. suffix_i64_at ts >>= λ s0. name_at classes.Callee s0.1 >>= λ the_callee. Ok (raw opcode None (operands.FuncAddr the_callee.0), the_callee.1))
     (λ opcode. then_is (suffix_i64_is) callee (λ s0 v. raw opcode None (operands.FuncAddr (name v)))
     (λ s0 ts. name_at classes.Callee ts >>= λ the_callee. Ok (raw opcode None (operands.FuncAddr the_callee.0), the_callee.1))
@@ -200,19 +200,19 @@ func_addr_is =
 pub nullary_is : Is nullary nullary_value nullary_at
 unfolding nullary_at
 nullary_is =
-    map_is (name_is classes.Nullary) (λ opcode. raw opcode None operands.Nullary)
+    map_is (opcode_is classes.Nullary) (λ opcode. raw opcode None operands.Nullary)
 
 pub jump_is : Is (jump then target) jump_value jump_at
 unfolding jump_at
 jump_is =
-    then_is (name_is classes.Jump) target (λ opcode v. raw opcode None (operands.Jump (branch_value v)))
+    then_is (opcode_is classes.Jump) target (λ opcode v. raw opcode None (operands.Jump (branch_value v)))
     (λ opcode ts. target_at places.Branch ts >>= λ the_target. Ok (raw opcode None (operands.Jump the_target.0), the_target.1))
     (λ opcode. map_is (branch_is) (λ the_target. raw opcode None (operands.Jump the_target)))
 
 pub brif_is : Is (brif then Opt suffix then value then comma then target then comma then target) brif_value brif_at
 unfolding brif_at
 brif_is =
-    then_is (name_is classes.Brif) (Opt suffix then value then comma then target then comma then target) (λ opcode v. raw opcode (opt_suffix_value v.0) (operands.Brif (name v.1.0) (branch_value v.1.1.1.0) (branch_value v.1.1.1.1.1)))
+    then_is (opcode_is classes.Brif) (Opt suffix then value then comma then target then comma then target) (λ opcode v. raw opcode (opt_suffix_value v.0) (operands.Brif (name v.1.0) (branch_value v.1.1.1.0) (branch_value v.1.1.1.1.1)))
     (λ opcode ts. opt_suffix_at ts >>= λ the_suffix. name_at classes.Value the_suffix.1 >>= λ cond. name_at classes.Comma cond.1 >>= λ s2. target_at places.Branch s2.1 >>= λ then_target. name_at classes.Comma then_target.1 >>= λ s4. target_at places.Branch s4.1 >>= λ else_target. Ok (raw opcode the_suffix.0 (operands.Brif cond.0 then_target.0 else_target.0), else_target.1))
     (λ opcode. then_is (opt_suffix_is) (value then comma then target then comma then target) (λ the_suffix v. raw opcode the_suffix (operands.Brif (name v.0) (branch_value v.1.1.0) (branch_value v.1.1.1.1)))
     (λ the_suffix ts. name_at classes.Value ts >>= λ cond. name_at classes.Comma cond.1 >>= λ s2. target_at places.Branch s2.1 >>= λ then_target. name_at classes.Comma then_target.1 >>= λ s4. target_at places.Branch s4.1 >>= λ else_target. Ok (raw opcode the_suffix (operands.Brif cond.0 then_target.0 else_target.0), else_target.1))

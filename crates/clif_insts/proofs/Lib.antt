@@ -18,3 +18,7 @@ pub mod Choice
 pub mod Counted
 pub mod Ends
 pub mod Shown
+pub mod Marked
+pub mod InstMarks
+pub mod Formed
+pub mod Known

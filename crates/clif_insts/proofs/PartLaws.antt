@@ -1,6 +1,6 @@
 -- Each part of an instruction is read as its rule of the grammar says.
 use Rattle.std.proofs.Common.{cond, List, [], ◌∷◌, ◌++◌, length, map, Option, Some, None, Ok}
-use Rattle.grammar.specs.Rules.{Lexeme, Rule, Opt, Many, Value, Unsupported, Out, heads, firsts, ◌>>=◌}
+use Rattle.grammar.specs.Rules.{Lexeme, Rule, Opt, Many, Tree, Unsupported, Out, heads, firsts, ◌>>=◌}
 use Rattle.ir_core.specs.declared.signatures.Ty.TheVariants as ty_words
 use Rattle.clif_words.specs.declared.class.Class.{Class}
 use Rattle.clif_words.specs.declared.class.Class.TheVariants as classes
@@ -26,14 +26,14 @@ use Rattle.clif_insts.specs.Values.{◌otherwise◌, perhaps, never, commas_valu
 use Rattle.clif_insts.proofs.Seen.{Is, then_is, map_is, opt_is, alt_is, many_is, refuse_is, name_is, amount_is}
 
 -- a { "," a }
-pub commas_is : {A : Type 0} {a : Rule} {f : Value a → A} {p : List Lexeme → Out A} → Is a f p
+pub commas_is : {A : Type 0} {a : Rule} {f : Tree a → A} {p : List Lexeme → Out A} → Is a f p
     → Is (commas a) (commas_value a f) (λ ts. p ts >>= λ x. with_front (x.0 ∷ []) (each (λ us. name_at classes.Comma us >>= λ c. p c.1) (code classes.Comma ∷ []) (length x.1) x.1))
 commas_is {A} {a} {f} {p} e =
     then_is e (Many (comma then a)) (λ x vs. x ∷ map (λ v. f v.1) vs) (λ x ts. with_front (x ∷ []) (each (λ us. name_at classes.Comma us >>= λ c. p c.1) (code classes.Comma ∷ []) (length ts) ts))
     (λ x. map_is (many_is (then_is (name_is classes.Comma) a (λ c v. f v) (λ c. p) (λ c. e))) (λ xs. (x ∷ []) ++ xs))
 
 -- a list between two tokens, which may be empty
-pub within_is : {A : Type 0} {r : Rule} {f : Value r → List A} {p : List Lexeme → Out (List A)} (left right : Class) → Is r f p
+pub within_is : {A : Type 0} {r : Rule} {f : Tree r → List A} {p : List Lexeme → Out (List A)} (left right : Class) → Is r f p
     → Is (one left then Opt r then one right) (λ v. perhaps [] f v.1.0)
     (λ ts. name_at left ts >>= λ l. cond (heads (firsts r) l.1) (p l.1) (Ok ([], l.1)) >>= λ vs. name_at right vs.1 >>= λ e. Ok (vs.0, e.1))
 within_is {A} {r} {f} {p} left right e =
@@ -55,13 +55,13 @@ pub opt_suffix_is : Is (Opt suffix) opt_suffix_value opt_suffix_at
 unfolding opt_suffix_at
 opt_suffix_is = opt_is (map_is suffix_is Some) None
 
-abbrev i64_word : Value (ty_i64 or refused_type) → RawName
+abbrev i64_word : Tree (ty_i64 or refused_type) → RawName
 i64_word = name otherwise never
 
-abbrev pub i64_value : Value suffix_i64 → RawName
+abbrev pub i64_value : Tree suffix_i64 → RawName
 i64_value v = i64_word v.1
 
-abbrev pub opt_i64_value : Value (Opt suffix_i64) → Option RawName
+abbrev pub opt_i64_value : Tree (Opt suffix_i64) → Option RawName
 opt_i64_value = perhaps None (λ v. Some (i64_value v))
 
 i64_is : Is (ty_i64 or refused_type) i64_word i64_at
@@ -120,20 +120,20 @@ handler_arg_is : Is (value or exn) (value_arg otherwise (λ x. raw_args.Exn (nam
 unfolding arg_at
 handler_arg_is = alt_is (map_is (name_is classes.Value) raw_args.Value) (map_is (name_is classes.Exn) raw_args.Exn)
 
-some_args_is : {arg : Rule} {f : Value arg → RawArg} (place : Place) → Is arg f (arg_at place) → Is (commas arg) (commas_value arg f) (some_args_at place)
+some_args_is : {arg : Rule} {f : Tree arg → RawArg} (place : Place) → Is arg f (arg_at place) → Is (commas arg) (commas_value arg f) (some_args_at place)
 unfolding some_args_at more_args_at comma_arg_at
 some_args_is place e = commas_is e
 
 abbrev Arguments : Rule → Rule
 Arguments arg = left_paren then Opt (commas arg) then right_paren
 
-abbrev arguments_value : (arg : Rule) → (Value arg → RawArg) → Value (Arguments arg) → List RawArg
+abbrev arguments_value : (arg : Rule) → (Tree arg → RawArg) → Tree (Arguments arg) → List RawArg
 arguments_value arg f v = perhaps [] (commas_value arg f) v.1.0
 
 abbrev raw_target : RawName → List RawArg → RawTarget
 raw_target b vs = record { block = b; args = vs }
 
-target_is : (arg : Rule) (f : Value arg → RawArg) (place : Place) → Is (Arguments arg) (arguments_value arg f) (target_args_at place) → Is (call_to arg) (target_value arg f) (target_at place)
+target_is : (arg : Rule) (f : Tree arg → RawArg) (place : Place) → Is (Arguments arg) (arguments_value arg f) (target_args_at place) → Is (call_to arg) (target_value arg f) (target_at place)
 unfolding target_at opt_target_args_at
 target_is arg f place e =
     then_is (name_is classes.Block) (Opt (Arguments arg)) (λ b v. raw_target b (perhaps [] (arguments_value arg f) v))

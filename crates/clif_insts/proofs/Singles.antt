@@ -5,7 +5,7 @@ use Rattle.std.specs.List.{list_all}
 use Rattle.std.proofs.lemmas.Bool.{eqb-true, eq-eqb}
 use Rattle.std.proofs.lemmas.List.{append-nil}
 use Rattle.std.proofs.lemmas.List.Folds.{list_any-append, list_all-append}
-use Rattle.grammar.specs.Rules.{Lexeme, Kind, Rule, Tok, Alt, Many, Refuse, Value, Each, Derives, Begins, Refuses, member}
+use Rattle.grammar.specs.Rules.{Lexeme, Kind, Rule, Tok, Alt, Many, Refuse, Tree, Each, Derives, Begins, Refuses, member}
 use Rattle.grammar.proofs.Sets.{both}
 use Rattle.clif_insts.specs.Values.{either}
 use Rattle.clif_insts.specs.FlagLetter.{Means}
@@ -18,8 +18,8 @@ abbrev pub One : List ℕ → List Lexeme → Type 0
 One cs us = (x : Lexeme) × (us ≡ x ∷ []) × (member x.class cs ≡ true)
 
 -- the texts of the rule are the tokens of the classes, and mean what m says
-pub record Single {A : Type 0} (r : Rule) (f : Value r → A) (cs : List ℕ) (m : Lexeme → A) : Type 0 where
-  pub only : (us : List Lexeme) (v : Value r) → Derives r us v → (x : Lexeme) × (us ≡ x ∷ []) × (member x.class cs ≡ true) × (f v ≡ m x)
+pub record Single {A : Type 0} (r : Rule) (f : Tree r → A) (cs : List ℕ) (m : Lexeme → A) : Type 0 where
+  pub only : (us : List Lexeme) (v : Tree r) → Derives r us v → (x : Lexeme) × (us ≡ x ∷ []) × (member x.class cs ≡ true) × (f v ≡ m x)
   pub made : (x : Lexeme) → member x.class cs ≡ true → Means r f (x ∷ []) (m x)
   pub begun : (us : List Lexeme) → Begins r us → (us ≡ []) ⊎ One cs us
   pub begins : (us : List Lexeme) → One cs us → Begins r us
@@ -70,7 +70,7 @@ single_refuse cs j f m = record {
   refused = λ us x k h. h.0;
 }
 
-pub single_or : {A : Type 0} (a b : Rule) (f : Value a → A) (g : Value b → A) (cs ds : List ℕ) (m : Lexeme → A) → Single a f cs m → Single b g ds m → Single (Alt a b) (either f g) (cs ++ ds) m
+pub single_or : {A : Type 0} (a b : Rule) (f : Tree a → A) (g : Tree b → A) (cs ds : List ℕ) (m : Lexeme → A) → Single a f cs m → Single b g ds m → Single (Alt a b) (either f g) (cs ++ ds) m
 single_or {A} a b f g cs ds m s t = record {
   only = only;
   made = λ x h. (elim (in_either x.class cs ds h) [
@@ -85,7 +85,7 @@ single_or {A} a b f g cs ds m s t = record {
   refused = λ us x k. elim [ inl h ↦ s.refused us x k h | inr h ↦ t.refused us x k h ];
 }
   where
-    only : (us : List Lexeme) (v : Value a ⊎ Value b) → Derives (Alt a b) us v → (x : Lexeme) × (us ≡ x ∷ []) × (member x.class (cs ++ ds) ≡ true) × (either f g v ≡ m x)
+    only : (us : List Lexeme) (v : Tree a ⊎ Tree b) → Derives (Alt a b) us v → (x : Lexeme) × (us ≡ x ∷ []) × (member x.class (cs ++ ds) ≡ true) × (either f g v ≡ m x)
     only us (inl v) d = let k = s.only us v d in (k.0, k.1, in_left k.0.class cs ds k.2, k.3)
     only us (inr v) d = let k = t.only us v d in (k.0, k.1, in_right k.0.class cs ds k.2, k.3)
 
@@ -103,7 +103,7 @@ pub all_append : (cs : List ℕ) (us ws : List Lexeme) → all_in cs us ≡ true
 all_append cs us ws h k = list_all-append (λ (x : Lexeme). member x.class cs) us ws ∙ and_true (all_in cs us) (all_in cs ws) h k
 
 -- the texts of { } are the tokens of the classes, in any number
-pub many_means : {A : Type 0} (r : Rule) (f : Value r → A) (cs : List ℕ) (m : Lexeme → A) → Single r f cs m → (ts : List Lexeme) (vs : List (Value r)) → Each (Derives r) ts vs
+pub many_means : {A : Type 0} (r : Rule) (f : Tree r → A) (cs : List ℕ) (m : Lexeme → A) → Single r f cs m → (ts : List Lexeme) (vs : List (Tree r)) → Each (Derives r) ts vs
     → (all_in cs ts ≡ true) × (map f vs ≡ map m ts)
 many_means r f cs m s ts [] d = subst (λ (l : List Lexeme). (all_in cs l ≡ true) × ([] ≡ map m l)) (sym d) (refl, refl)
 many_means {A} r f cs m s ts (v ∷ vs) d =
@@ -113,7 +113,7 @@ many_means {A} r f cs m s ts (v ∷ vs) d =
     subst (λ (l : List Lexeme). (all_in cs l ≡ true) × (map f (v ∷ vs) ≡ map m l)) (sym whole)
     (all_cons cs k.0 d.1 k.2 rest.0, ap (λ (a : A). a ∷ map f vs) k.3 ∙ ap (λ (l : List A). m k.0 ∷ l) rest.1)
 
-pub many_made : {A : Type 0} (r : Rule) (f : Value r → A) (cs : List ℕ) (m : Lexeme → A) → Single r f cs m → (ts : List Lexeme) → all_in cs ts ≡ true → Means (Many r) (map f) ts (map m ts)
+pub many_made : {A : Type 0} (r : Rule) (f : Tree r → A) (cs : List ℕ) (m : Lexeme → A) → Single r f cs m → (ts : List Lexeme) → all_in cs ts ≡ true → Means (Many r) (map f) ts (map m ts)
 many_made r f cs m s [] h = ([], refl, refl)
 many_made {A} r f cs m s (x ∷ xs) h =
     let two = both (member x.class cs) (all_in cs xs) h in
@@ -122,7 +122,7 @@ many_made {A} r f cs m s (x ∷ xs) h =
     (k.0 ∷ rest.0, (x ∷ [], xs, refl, (k.1, rest.1)), ap (λ (a : A). a ∷ map f rest.0) k.2 ∙ ap (λ (l : List A). m x ∷ l) rest.2)
 
 -- and their beginnings are texts
-pub many_begun : {A : Type 0} (r : Rule) (f : Value r → A) (cs : List ℕ) (m : Lexeme → A) → Single r f cs m → (ts : List Lexeme) → Begins (Many r) ts → all_in cs ts ≡ true
+pub many_begun : {A : Type 0} (r : Rule) (f : Tree r → A) (cs : List ℕ) (m : Lexeme → A) → Single r f cs m → (ts : List Lexeme) → Begins (Many r) ts → all_in cs ts ≡ true
 many_begun r f cs m s ts h =
     let first = many_means r f cs m s h.0 h.3.0.0 h.3.0.1 in
     subst (λ (l : List Lexeme). all_in cs l ≡ true) (sym h.2)
@@ -134,16 +134,16 @@ many_begun r f cs m s ts h =
       ]
     ])
 
-pub many_begins : {A : Type 0} (r : Rule) (f : Value r → A) (cs : List ℕ) (m : Lexeme → A) → Single r f cs m → (ts : List Lexeme) → all_in cs ts ≡ true → Begins (Many r) ts
+pub many_begins : {A : Type 0} (r : Rule) (f : Tree r → A) (cs : List ℕ) (m : Lexeme → A) → Single r f cs m → (ts : List Lexeme) → all_in cs ts ≡ true → Begins (Many r) ts
 many_begins r f cs m s ts h = let k = many_made r f cs m s ts h in (ts, [], sym (append-nil ts), ((k.0, k.1), inl refl))
 
 -- a word is refused behind texts of { } alone
-pub many_refused : {A : Type 0} (r : Rule) (f : Value r → A) (cs : List ℕ) (m : Lexeme → A) → Single r f cs m → (ts : List Lexeme) (x : Lexeme) (k : Kind) → Refuses (Many r) ts x k → (all_in cs ts ≡ true) × Refuses r [] x k
+pub many_refused : {A : Type 0} (r : Rule) (f : Tree r → A) (cs : List ℕ) (m : Lexeme → A) → Single r f cs m → (ts : List Lexeme) (x : Lexeme) (k : Kind) → Refuses (Many r) ts x k → (all_in cs ts ≡ true) × Refuses r [] x k
 many_refused r f cs m s ts x k h =
     let first = many_means r f cs m s h.0 h.3.0.0 h.3.0.1 in
     let none = s.refused h.1 x k h.3.1 in
     let whole : ts ≡ h.0 = h.2 ∙ ap (λ (l : List Lexeme). h.0 ++ l) none ∙ append-nil h.0 in
     (subst (λ (l : List Lexeme). all_in cs l ≡ true) (sym whole) first.0, subst (λ (l : List Lexeme). Refuses r l x k) none h.3.1)
 
-pub many_refuses : {A : Type 0} (r : Rule) (f : Value r → A) (cs : List ℕ) (m : Lexeme → A) → Single r f cs m → (ts : List Lexeme) (x : Lexeme) (k : Kind) → all_in cs ts ≡ true → Refuses r [] x k → Refuses (Many r) ts x k
+pub many_refuses : {A : Type 0} (r : Rule) (f : Tree r → A) (cs : List ℕ) (m : Lexeme → A) → Single r f cs m → (ts : List Lexeme) (x : Lexeme) (k : Kind) → all_in cs ts ≡ true → Refuses r [] x k → Refuses (Many r) ts x k
 many_refuses r f cs m s ts x k h j = let d = many_made r f cs m s ts h in (ts, [], sym (append-nil ts), ((d.0, d.1), j))

@@ -10,7 +10,8 @@ use Rattle.clif_insts.specs.Reading.{next_is, name_at}
 
 abbrev pub condition_of : ℕ → Cc
 condition_of n =
-    if n == 0 then cc.Eq else if n == 1 then cc.Ne else if n == 2 then cc.Slt else if n == 3 then cc.Sge else if n == 4 then cc.Sgt else
+    if n == 0 then cc.Eq else if n == 1 then cc.Ne else if n == 2 then cc.Slt else if n == 3 then cc.Sge else if n == 4
+    then cc.Sgt else
     if n == 5 then cc.Sle else if n == 6 then cc.Ult else if n == 7 then cc.Uge else if n == 8 then cc.Ugt else cc.Ule
 
 unfoldable pub condition_at : List Lexeme → Out Cc
@@ -19,7 +20,9 @@ condition_at ts = do
   Ok (condition_of x.0.number, x.1)
 
 abbrev pub trap_of : ℕ → RawTrap
-trap_of n = if n == 0 then traps.StkOvf else if n == 1 then traps.IntOvf else if n == 2 then traps.HeapOob else if n == 3 then traps.IntDivz else traps.BadToint
+trap_of n =
+    if n == 0 then traps.StkOvf else if n == 1 then traps.IntOvf else if n == 2 then traps.HeapOob else if n == 3
+    then traps.IntDivz else traps.BadToint
 
 unfoldable pub trap_at : List Lexeme → Out RawTrap
 trap_at ts =

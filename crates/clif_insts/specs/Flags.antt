@@ -10,7 +10,9 @@ use Rattle.clif_words.specs.Terminals.{codes_of}
 use Rattle.clif_insts.specs.Reading.{next_is, name_at, each, with_front, refuse}
 
 abbrev pub flag_of : ℕ → RawFlag
-flag_of n = if n == 0 then flags.Notrap else if n == 1 then flags.Aligned else if n == 2 then flags.Readonly else if n == 3 then flags.CanMove else if n == 4 then flags.Heap else flags.Table
+flag_of n =
+    if n == 0 then flags.Notrap else if n == 1 then flags.Aligned else if n == 2 then flags.Readonly else if n == 3
+    then flags.CanMove else if n == 4 then flags.Heap else flags.Table
 
 abbrev pub begins_plain_flag : List Class
 begins_plain_flag = classes.Flag ∷ classes.Vmctx ∷ classes.TrapCode ∷ classes.UserTrap ∷ []
@@ -37,7 +39,8 @@ ordered_flag_at order ts =
     else (name_at order ts >>= λ x. Ok (order_flag order, x.1))
 
 unfoldable pub ordered_flags_at : Class → List RawFlag → List Lexeme → Out (List RawFlag)
-ordered_flags_at order front ts = with_front front (each (ordered_flag_at order) (codes_of begins_plain_flag ++ code order ∷ []) (length ts) ts)
+ordered_flags_at order front ts =
+    with_front front (each (ordered_flag_at order) (codes_of begins_plain_flag ++ code order ∷ []) (length ts) ts)
 
 unfoldable pub flags_at : List Lexeme → Out (List RawFlag)
 flags_at ts = plain_flags_at ts >>= λ fs.

@@ -9,7 +9,7 @@ use Rattle.clif_insts.specs.declared.raw.RawName.{RawName}
 use Rattle.clif_insts.specs.declared.raw.RawInst.{RawInst}
 use Rattle.clif_insts.specs.declared.raw.RawOperands.TheVariants as operands
 use Rattle.clif_insts.specs.Grammar.{excepted, words_but}
-use Rattle.clif_insts.specs.Reading.{next_is, name_at, refuse_codes}
+use Rattle.clif_insts.specs.Reading.{next_is, name_at, opcode_at, refuse_codes}
 use Rattle.clif_insts.specs.Types.{suffix_at, opt_suffix_at, suffix_i64_at, opt_suffix_i64_at}
 use Rattle.clif_insts.specs.Codes.{condition_at, trap_at}
 use Rattle.clif_insts.specs.Arguments.{more_values_at, values_at, args_at}
@@ -20,14 +20,14 @@ use Rattle.clif_insts.specs.Flags.{flags_at}
 
 unfoldable pub iconst_at : List Lexeme → Out RawInst
 iconst_at ts = do
-  opcode ← name_at classes.Iconst ts
+  opcode ← opcode_at classes.Iconst ts
   suffix ← suffix_at opcode.1
   number ← number_at suffix.1
   Ok (record { opcode = opcode.0; suffix = Some suffix.0; operands = operands.Number number.0 }, number.1)
 
 unfoldable pub binary_at : List Lexeme → Out RawInst
 binary_at ts = do
-  opcode ← name_at classes.Binary ts
+  opcode ← opcode_at classes.Binary ts
   suffix ← opt_suffix_at opcode.1
   x ← name_at classes.Value suffix.1
   s2 ← name_at classes.Comma x.1
@@ -36,14 +36,14 @@ binary_at ts = do
 
 unfoldable pub unary_at : List Lexeme → Out RawInst
 unary_at ts = do
-  opcode ← name_at classes.Unary ts
+  opcode ← opcode_at classes.Unary ts
   suffix ← opt_suffix_at opcode.1
   x ← name_at classes.Value suffix.1
   Ok (record { opcode = opcode.0; suffix = suffix.0; operands = operands.Unary x.0 }, x.1)
 
 unfoldable pub icmp_at : List Lexeme → Out RawInst
 icmp_at ts = do
-  opcode ← name_at classes.Icmp ts
+  opcode ← opcode_at classes.Icmp ts
   suffix ← opt_suffix_at opcode.1
   condition ← condition_at suffix.1
   x ← name_at classes.Value condition.1
@@ -53,7 +53,7 @@ icmp_at ts = do
 
 unfoldable pub select_at : List Lexeme → Out RawInst
 select_at ts = do
-  opcode ← name_at classes.Select ts
+  opcode ← opcode_at classes.Select ts
   suffix ← opt_suffix_at opcode.1
   x ← name_at classes.Value suffix.1
   s2 ← name_at classes.Comma x.1
@@ -64,14 +64,14 @@ select_at ts = do
 
 unfoldable pub convert_at : List Lexeme → Out RawInst
 convert_at ts = do
-  opcode ← name_at classes.Convert ts
+  opcode ← opcode_at classes.Convert ts
   suffix ← suffix_at opcode.1
   x ← name_at classes.Value suffix.1
   Ok (record { opcode = opcode.0; suffix = Some suffix.0; operands = operands.Unary x.0 }, x.1)
 
 unfoldable pub binary_imm_at : List Lexeme → Out RawInst
 binary_imm_at ts = do
-  opcode ← name_at classes.BinaryImm ts
+  opcode ← opcode_at classes.BinaryImm ts
   suffix ← opt_suffix_at opcode.1
   x ← name_at classes.Value suffix.1
   s2 ← name_at classes.Comma x.1
@@ -80,26 +80,32 @@ binary_imm_at ts = do
 
 unfoldable pub icmp_imm_at : List Lexeme → Out RawInst
 icmp_imm_at ts = do
-  opcode ← name_at classes.IcmpImm ts
+  opcode ← opcode_at classes.IcmpImm ts
   suffix ← opt_suffix_at opcode.1
   condition ← condition_at suffix.1
   x ← name_at classes.Value condition.1
   s3 ← name_at classes.Comma x.1
   number ← number_at s3.1
-  Ok (record { opcode = opcode.0; suffix = suffix.0; operands = operands.CompareImm condition.0 x.0 number.0 }, number.1)
+  Ok (
+    record { opcode = opcode.0; suffix = suffix.0; operands = operands.CompareImm condition.0 x.0 number.0 },
+    number.1,
+  )
 
 unfoldable pub load_at : List Lexeme → Out RawInst
 load_at ts = do
-  opcode ← name_at classes.Load ts
+  opcode ← opcode_at classes.Load ts
   suffix ← suffix_at opcode.1
   flags ← flags_at suffix.1
   address ← name_at classes.Value flags.1
   offset ← offset_at address.1
-  Ok (record { opcode = opcode.0; suffix = Some suffix.0; operands = operands.Load flags.0 address.0 offset.0 }, offset.1)
+  Ok (
+    record { opcode = opcode.0; suffix = Some suffix.0; operands = operands.Load flags.0 address.0 offset.0 },
+    offset.1,
+  )
 
 unfoldable pub load_wide_at : List Lexeme → Out RawInst
 load_wide_at ts = do
-  opcode ← name_at classes.LoadWide ts
+  opcode ← opcode_at classes.LoadWide ts
   suffix ← opt_suffix_at opcode.1
   flags ← flags_at suffix.1
   address ← name_at classes.Value flags.1
@@ -108,18 +114,21 @@ load_wide_at ts = do
 
 unfoldable pub store_at : List Lexeme → Out RawInst
 store_at ts = do
-  opcode ← name_at classes.Store ts
+  opcode ← opcode_at classes.Store ts
   suffix ← opt_suffix_at opcode.1
   flags ← flags_at suffix.1
   value ← name_at classes.Value flags.1
   s3 ← name_at classes.Comma value.1
   address ← name_at classes.Value s3.1
   offset ← offset_at address.1
-  Ok (record { opcode = opcode.0; suffix = suffix.0; operands = operands.Store flags.0 value.0 address.0 offset.0 }, offset.1)
+  Ok (
+    record { opcode = opcode.0; suffix = suffix.0; operands = operands.Store flags.0 value.0 address.0 offset.0 },
+    offset.1,
+  )
 
 unfoldable pub stack_load_at : List Lexeme → Out RawInst
 stack_load_at ts = do
-  opcode ← name_at classes.StackLoad ts
+  opcode ← opcode_at classes.StackLoad ts
   suffix ← suffix_at opcode.1
   slot ← name_at classes.Slot suffix.1
   offset ← offset_at slot.1
@@ -127,7 +136,7 @@ stack_load_at ts = do
 
 unfoldable pub stack_store_at : List Lexeme → Out RawInst
 stack_store_at ts = do
-  opcode ← name_at classes.StackStore ts
+  opcode ← opcode_at classes.StackStore ts
   suffix ← opt_suffix_at opcode.1
   value ← name_at classes.Value suffix.1
   s2 ← name_at classes.Comma value.1
@@ -137,36 +146,39 @@ stack_store_at ts = do
 
 unfoldable pub func_addr_at : List Lexeme → Out RawInst
 func_addr_at ts = do
-  opcode ← name_at classes.FuncAddr ts
+  opcode ← opcode_at classes.FuncAddr ts
   s0 ← suffix_i64_at opcode.1
   callee ← name_at classes.Callee s0.1
   Ok (record { opcode = opcode.0; suffix = None; operands = operands.FuncAddr callee.0 }, callee.1)
 
 unfoldable pub nullary_at : List Lexeme → Out RawInst
 nullary_at ts = do
-  opcode ← name_at classes.Nullary ts
+  opcode ← opcode_at classes.Nullary ts
   Ok (record { opcode = opcode.0; suffix = None; operands = operands.Nullary }, opcode.1)
 
 unfoldable pub jump_at : List Lexeme → Out RawInst
 jump_at ts = do
-  opcode ← name_at classes.Jump ts
+  opcode ← opcode_at classes.Jump ts
   target ← target_at places.Branch opcode.1
   Ok (record { opcode = opcode.0; suffix = None; operands = operands.Jump target.0 }, target.1)
 
 unfoldable pub brif_at : List Lexeme → Out RawInst
 brif_at ts = do
-  opcode ← name_at classes.Brif ts
+  opcode ← opcode_at classes.Brif ts
   suffix ← opt_suffix_at opcode.1
   cond ← name_at classes.Value suffix.1
   s2 ← name_at classes.Comma cond.1
   then_target ← target_at places.Branch s2.1
   s4 ← name_at classes.Comma then_target.1
   else_target ← target_at places.Branch s4.1
-  Ok (record { opcode = opcode.0; suffix = suffix.0; operands = operands.Brif cond.0 then_target.0 else_target.0 }, else_target.1)
+  Ok (
+    record { opcode = opcode.0; suffix = suffix.0; operands = operands.Brif cond.0 then_target.0 else_target.0 },
+    else_target.1,
+  )
 
 unfoldable pub br_table_at : List Lexeme → Out RawInst
 br_table_at ts = do
-  opcode ← name_at classes.BrTable ts
+  opcode ← opcode_at classes.BrTable ts
   index ← name_at classes.Value opcode.1
   s1 ← name_at classes.Comma index.1
   default ← target_at places.Branch s1.1
@@ -176,18 +188,18 @@ br_table_at ts = do
 
 unfoldable pub return_inst_at : List Lexeme → Out RawInst
 return_inst_at ts = do
-  opcode ← name_at classes.Return ts
+  opcode ← opcode_at classes.Return ts
   Ok (record { opcode = opcode.0; suffix = None; operands = operands.Return [] }, opcode.1)
 
 unfoldable pub trap_inst_at : List Lexeme → Out RawInst
 trap_inst_at ts = do
-  opcode ← name_at classes.Trap ts
+  opcode ← opcode_at classes.Trap ts
   code ← trap_at opcode.1
   Ok (record { opcode = opcode.0; suffix = None; operands = operands.Trap code.0 }, code.1)
 
 unfoldable pub trap_if_at : List Lexeme → Out RawInst
 trap_if_at ts = do
-  opcode ← name_at classes.TrapIf ts
+  opcode ← opcode_at classes.TrapIf ts
   suffix ← opt_suffix_at opcode.1
   x ← name_at classes.Value suffix.1
   s2 ← name_at classes.Comma x.1
@@ -196,14 +208,14 @@ trap_if_at ts = do
 
 unfoldable pub call_at : List Lexeme → Out RawInst
 call_at ts = do
-  opcode ← name_at classes.Call ts
+  opcode ← opcode_at classes.Call ts
   callee ← name_at classes.Callee opcode.1
   args ← args_at callee.1
   Ok (record { opcode = opcode.0; suffix = None; operands = operands.Call callee.0 args.0 }, args.1)
 
 unfoldable pub try_call_at : List Lexeme → Out RawInst
 try_call_at ts = do
-  opcode ← name_at classes.TryCall ts
+  opcode ← opcode_at classes.TryCall ts
   callee ← name_at classes.Callee opcode.1
   args ← args_at callee.1
   s2 ← name_at classes.Comma args.1
@@ -212,11 +224,14 @@ try_call_at ts = do
   normal ← target_at places.Normal s4.1
   s6 ← name_at classes.Comma normal.1
   table ← table_at s6.1
-  Ok (record { opcode = opcode.0; suffix = None; operands = operands.TryCall callee.0 args.0 sig.0 normal.0 table.0 }, table.1)
+  Ok (
+    record { opcode = opcode.0; suffix = None; operands = operands.TryCall callee.0 args.0 sig.0 normal.0 table.0 },
+    table.1,
+  )
 
 unfoldable pub call_indirect_at : List Lexeme → Out RawInst
 call_indirect_at ts = do
-  opcode ← name_at classes.CallIndirect ts
+  opcode ← opcode_at classes.CallIndirect ts
   s0 ← opt_suffix_i64_at opcode.1
   sig ← name_at classes.Sig s0.1
   s2 ← name_at classes.Comma sig.1
@@ -226,7 +241,7 @@ call_indirect_at ts = do
 
 unfoldable pub try_call_indirect_at : List Lexeme → Out RawInst
 try_call_indirect_at ts = do
-  opcode ← name_at classes.TryCallIndirect ts
+  opcode ← opcode_at classes.TryCallIndirect ts
   s0 ← opt_suffix_i64_at opcode.1
   address ← name_at classes.Value s0.1
   args ← args_at address.1
@@ -236,7 +251,11 @@ try_call_indirect_at ts = do
   normal ← target_at places.Normal s5.1
   s7 ← name_at classes.Comma normal.1
   table ← table_at s7.1
-  Ok (record { opcode = opcode.0; suffix = None; operands = operands.TryCallIndirect address.0 args.0 sig.0 normal.0 table.0 }, table.1)
+  Ok (
+    record
+        { opcode = opcode.0; suffix = None; operands = operands.TryCallIndirect address.0 args.0 sig.0 normal.0 table.0 },
+    table.1,
+  )
 
 -- an instruction behind what stands before it, where a `return` is read in this way
 abbrev pub inst_by : Opening → (List Lexeme → Out RawInst) → List Lexeme → Out RawInst
@@ -280,7 +299,7 @@ opt_values_at ts = if next_is classes.Value ts then values_at ts else Ok ([], ts
 -- `return v, ..`
 unfoldable pub return_values_at : List Lexeme → Out RawInst
 return_values_at ts = do
-  opcode ← name_at classes.Return ts
+  opcode ← opcode_at classes.Return ts
   values ← opt_values_at opcode.1
   Ok (record { opcode = opcode.0; suffix = None; operands = operands.Return values.0 }, values.1)
 
@@ -298,7 +317,7 @@ own_values_at ts =
 
 unfoldable pub return_line_at : List Lexeme → Out RawInst
 return_line_at ts = do
-  opcode ← name_at classes.Return ts
+  opcode ← opcode_at classes.Return ts
   values ← own_values_at opcode.1
   Ok (record { opcode = opcode.0; suffix = None; operands = operands.Return values.0 }, values.1)
 

@@ -1,5 +1,6 @@
--- The grammar of instructions, as EBNF is written: `commas a` is `a { "," a }`, `Opt a` is `[ a ]`, `Many a` is `{ a }`.
--- The words that a place refuses in its own way are rules too: an unknown opcode, and opcodes, types, flags and table entries of CLIF that are left out.
+-- The grammar of instructions, as EBNF is written: `commas a` is `a { "," a }`, `Opt a` is `[ a ]`, `Many a` is `{ a
+-- }`. The words that a place refuses in its own way are rules too: an unknown opcode, and opcodes, types, flags and
+-- table entries of CLIF that are left out.
 use Rattle.std.specs.Prelude.{◌≡◌, ℕ, true, not, List, [], ◌∷◌, refl}
 use Rattle.std.specs.List.{filter}
 use Rattle.grammar.specs.Rules.{Rule, Opt, Many, Refuse, UnknownOpcode, Unsupported, member, good}
@@ -7,7 +8,13 @@ use Rattle.clif_words.specs.declared.class.Class.{Class}
 use Rattle.clif_words.specs.declared.class.Class.TheVariants as classes
 use Rattle.clif_insts.specs.declared.opening.Opening.{Opening}
 use Rattle.clif_insts.specs.declared.opening.Opening.TheVariants.{AfterResults, AfterTags, LineStart}
-use Rattle.clif_words.specs.Terminals.{◌then◌, ◌or◌, codes_of, refused, words, unsigned, signed, left_paren, right_paren, left_bracket, right_bracket, comma, colon, dot, arrow, equals, ty, ty_i64, vmctx, flag, little, big, trap_code, user_trap, condition, value, block, slot, sig, callee, tag, ret, exn, default_word, iconst, binary, unary, icmp, select, convert, binary_imm, icmp_imm, load, load_wide, store, stack_load, stack_store, func_addr, nullary, jump, brif, br_table, return_word, trap, trap_if, call, try_call, call_indirect, try_call_indirect}
+use Rattle.clif_words.specs.Terminals.{◌then◌, ◌or◌, codes_of, refused, words, unsigned, signed, left_paren}
+use Rattle.clif_words.specs.Terminals.{right_paren, left_bracket, right_bracket, comma, colon, dot, arrow, equals, ty}
+use Rattle.clif_words.specs.Terminals.{ty_i64, vmctx, flag, little, big, trap_code, user_trap, condition, value, block}
+use Rattle.clif_words.specs.Terminals.{slot, sig, callee, tag, ret, exn, default_word, iconst, binary, unary, icmp}
+use Rattle.clif_words.specs.Terminals.{select, convert, binary_imm, icmp_imm, load, load_wide, store, stack_load}
+use Rattle.clif_words.specs.Terminals.{stack_store, func_addr, nullary, jump, brif, br_table, return_word, trap}
+use Rattle.clif_words.specs.Terminals.{trap_if, call, try_call, call_indirect, try_call_indirect}
 
 abbrev pub commas : Rule → Rule
 commas a = a then Many (comma then a)
@@ -81,7 +88,8 @@ table = left_bracket then Opt (commas entry) then right_bracket
 abbrev pub args : Rule
 args = left_paren then Opt (commas value) then right_paren
 
--- The classes of the words that may begin something else where an instruction may begin: results behind tags and a location, and at the line's beginning results or the head of a block.
+-- The classes of the words that may begin something else where an instruction may begin: results behind tags and a
+-- location, and at the line's beginning results or the head of a block.
 abbrev pub excepted : Opening → List Class
 excepted AfterResults = []
 excepted AfterTags = classes.Value ∷ []
@@ -91,7 +99,8 @@ excepted LineStart = classes.Value ∷ classes.Block ∷ []
 abbrev pub words_but : List Class → List ℕ
 words_but excepted = filter (λ c. not (member c (codes_of excepted))) (codes_of words)
 
--- An instruction, with this rule for a `return`. In its place opcodes that are left out are Unsupported, and other words UnknownOpcode, but for those that may begin something else there.
+-- An instruction, with this rule for a `return`. In its place opcodes that are left out are Unsupported, and other
+-- words UnknownOpcode, but for those that may begin something else there.
 abbrev pub instruction : Rule → List Class → Rule
 instruction returned excepted =
     (iconst then suffix then number)
@@ -118,7 +127,8 @@ instruction returned excepted =
     or (call then callee then args)
     or (try_call then callee then args then comma then sig then comma then normal_target then comma then table)
     or (call_indirect then Opt suffix_i64 then sig then comma then value then args)
-    or (try_call_indirect then Opt suffix_i64 then value then args then comma then sig then comma then normal_target then comma then table)
+    or (try_call_indirect then Opt suffix_i64 then value then args then comma then sig then comma then normal_target
+    then comma then table)
     or refused (classes.RefusedOpcode ∷ []) Unsupported
     or Refuse (words_but excepted) UnknownOpcode
 
@@ -134,12 +144,14 @@ return_values = return_word then Opt (commas value)
 abbrev pub whole_inst : Rule
 whole_inst = instruction return_values []
 
--- A `return` whose next words begin the next line: value words joined by commas and followed by `=`, or a single one followed by `->`.
+-- A `return` whose next words begin the next line: value words joined by commas and followed by `=`, or a single one
+-- followed by `->`.
 abbrev pub return_alone : Rule
 return_alone = return_word then value then (arrow or (Many (comma then value) then equals))
 
 -- the next token always says which way to go
-pub inst_is_good : (good (inst (excepted AfterResults)) ≡ true) × (good (inst (excepted AfterTags)) ≡ true) × (good (inst (excepted LineStart)) ≡ true)
+pub inst_is_good : (good (inst (excepted AfterResults)) ≡ true) × (good (inst (excepted AfterTags)) ≡ true)
+    × (good (inst (excepted LineStart)) ≡ true)
 inst_is_good = (refl, refl, refl)
 
 pub whole_inst_is_good : (good whole_inst ≡ true) × (good return_alone ≡ true)

@@ -1,7 +1,8 @@
--- One instruction, read from a place of the list of tokens on: which one it is and where it stops, or where and why there is none.
+-- One instruction, read from a place of the list of tokens on: which one it is and where it stops, or where and why
+-- there is none.
 use Rattle.std.specs.Prelude.{◌≡◌, ℕ, ◌+◌, nat_lt, List, [], ◌∷◌, ◌++◌, ◌⊎◌, length, take, drop}
 use Rattle.std.specs.List.{prefix_len}
-use Rattle.grammar.specs.Rules.{Lexeme, Rule, Kind, Value, Cut, Derives, Begins, StopsAt}
+use Rattle.grammar.specs.Rules.{Lexeme, Rule, Kind, Tree, Cut, Derives, Begins, StopsAt}
 use Rattle.grammar.specs.Rules as rules
 use Rattle.clif_lex.specs.declared.spans.Token.{Token}
 use Rattle.clif_insts.specs.declared.raw.RawInst.{RawInst}
@@ -15,15 +16,18 @@ use Rattle.clif_insts.specs.Next.{spot_or}
 
 -- the tokens begin with a text of the rule
 abbrev pub Starts : Rule → List Lexeme → Type 0
-Starts r ts = Cut ts (λ us rest. (v : Value r) × Derives r us v)
+Starts r ts = Cut ts (λ us rest. (v : Tree r) × Derives r us v)
 
--- The tokens that an instruction may be made of. Where a `return` is followed by the results of the next line, or by its alias, it is the only one.
+-- The tokens that an instruction may be made of. Where a `return` is followed by the results of the next line, or by
+-- its alias, it is the only one.
 abbrev pub Own : List Lexeme → List Lexeme → Type 0
 Own ts own = (Starts return_alone ts × (own ≡ take 1 ts)) ⊎ ((Starts return_alone ts → ⊥) × (own ≡ ts))
 
 -- the tokens are this instruction, and are read in no other way
 abbrev pub IsInst : List Lexeme → RawInst → Type 0
-IsInst us x = (v : Value whole_inst) × Derives whole_inst us v × (x ≡ whole_value v) × ((w : Value whole_inst) → Derives whole_inst us w → w ≡ v)
+IsInst us x =
+    (v : Tree whole_inst) × Derives whole_inst us v × (x ≡ whole_value v)
+    × ((w : Tree whole_inst) → Derives whole_inst us w → w ≡ v)
 
 -- there is no next token, or with it the tokens begin no instruction
 abbrev pub NoMore : List Lexeme → List Lexeme → Type 0
@@ -34,7 +38,8 @@ NoMore us (x ∷ more) = Begins whole_inst (us ++ x ∷ []) → ⊥
 abbrev pub place_of : List Token → ℕ → ℕ → ℕ
 place_of tokens i spot = i + prefix_len (λ t. nat_lt t.start spot) (drop i tokens)
 
--- the place in the list of the first of these tokens, which are left of those from i on; of none it is the list's length
+-- the place in the list of the first of these tokens, which are left of those from i on; of none it is the list's
+-- length
 abbrev pub place_left : List ℕ → List Token → ℕ → List Lexeme → ℕ
 place_left text tokens i rest = place_of tokens i (spot_or (length text) rest)
 
@@ -44,11 +49,17 @@ place_behind place us ts = place (drop (length us) ts)
 
 -- the tokens up to k are this instruction, and no more of them begin one
 abbrev pub Found : List Lexeme → (List Lexeme → ℕ) → RawInst → ℕ → Type 0
-Found ts place x k = (own : List Lexeme) × Own ts own × Cut own (λ us rest. IsInst us x × NoMore us rest × (k ≡ place_behind place us ts))
+Found ts place x k =
+    (own : List Lexeme) × Own ts own
+    × Cut own (λ us rest. IsInst us x × NoMore us rest × (k ≡ place_behind place us ts))
 
--- The tokens up to k are no instruction. They begin one, and with the next they begin none, or there is no next. The kind is that of the words that the place refuses, and Syntax elsewhere.
+-- The tokens up to k are no instruction. They begin one, and with the next they begin none, or there is no next. The
+-- kind is that of the words that the place refuses, and Syntax elsewhere.
 abbrev pub Missing : List Lexeme → (List Lexeme → ℕ) → Kind → ℕ → Type 0
-Missing ts place kind k = (own : List Lexeme) × Own ts own × Cut own (λ us rest. Begins whole_inst us × ((v : Value whole_inst) → Derives whole_inst us v → ⊥) × StopsAt whole_inst us kind rest × (k ≡ place_behind place us ts))
+Missing ts place kind k =
+    (own : List Lexeme) × Own ts own
+    × Cut own (λ us rest. Begins whole_inst us × ((v : Tree whole_inst) → Derives whole_inst us v → ⊥)
+    × StopsAt whole_inst us kind rest × (k ≡ place_behind place us ts))
 
 abbrev pub Stopped : List Lexeme → (List Lexeme → ℕ) → SyntaxErr → Type 0
 Stopped ts place (errors.Syntax k) = Missing ts place rules.Syntax k

@@ -16,3 +16,5 @@ pub mod FlagLetter
 pub mod Next
 pub mod Listed
 pub mod Shown
+pub mod OfForm
+pub mod Marks

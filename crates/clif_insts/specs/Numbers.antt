@@ -9,4 +9,5 @@ unfoldable pub number_at : List Lexeme → Out RawNumber
 number_at ts = if next_is classes.Unsigned ts then amount_at classes.Unsigned ts else amount_at classes.Signed ts
 
 unfoldable pub offset_at : List Lexeme → Out (Option RawNumber)
-offset_at ts = if next_is classes.Signed ts then (amount_at classes.Signed ts >>= λ x. Ok (Some x.0, x.1)) else Ok (None, ts)
+offset_at ts =
+    if next_is classes.Signed ts then (amount_at classes.Signed ts >>= λ x. Ok (Some x.0, x.1)) else Ok (None, ts)

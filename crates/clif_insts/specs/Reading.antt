@@ -4,16 +4,19 @@ use Rattle.grammar.specs.Rules.{Lexeme, Kind, Syntax, UnknownOpcode, Unsupported
 use Rattle.clif_words.specs.declared.class.Class.{Class}
 use Rattle.clif_insts.specs.declared.raw.RawName.{RawName}
 use Rattle.clif_insts.specs.declared.raw.RawNumber.{RawNumber}
+use Rattle.clif_insts.specs.declared.raw.RawOpcode.{RawOpcode}
 use Rattle.clif_insts.specs.declared.stop.Stop.{Stop}
 use Rattle.clif_insts.specs.declared.stop.Stop.TheVariants as stops
 use Rattle.clif_words.specs.Classes.{code}
+use Rattle.clif_words.specs.Opcodes.{opcode_of}
 use Rattle.clif_words.specs.Terminals.{codes_of}
 
 -- whether the next token is of the class
 abbrev pub next_is : Class → List Lexeme → Bool
 next_is class ts = heads (code class ∷ []) ts
 
--- What a reader returned is what reading gives, and it stands behind what it read, or at the token that does not fit. Want of memory may come at any time.
+-- What a reader returned is what reading gives, and it stands behind what it read, or at the token that does not fit.
+-- Want of memory may come at any time.
 abbrev pub Stops : {Y : Type 0} → List Lexeme → Stop → Out Y → Type 0
 Stops now stops.NoMemory given = Unit {0}
 Stops now stops.Syntax given = given ≡ Err (Syntax, now)
@@ -36,9 +39,15 @@ each p cs (suc n) ts = if heads cs ts then (p ts >>= λ x. each p cs n x.1 >>= �
 abbrev pub with_front : {A : Type 0} → List A → Out (List A) → Out (List A)
 with_front front given = given >>= λ y. Ok (front ++ y.0, y.1)
 
--- the name that a word spells, and the number that a number spells
+-- the name that a word spells, the opcode that it is, and the number that a number spells
 abbrev pub name : Lexeme → RawName
 name x = record { number = x.number; spot = x.spot }
+
+abbrev pub opcode_by : RawName → RawOpcode
+opcode_by word = record { kind = opcode_of word.number; spot = word.spot }
+
+abbrev pub opcode : Lexeme → RawOpcode
+opcode x = opcode_by (name x)
 
 abbrev pub amount : Lexeme → RawNumber
 amount x = record { value = x.amount; spot = x.spot }
@@ -47,6 +56,11 @@ unfoldable pub name_at : Class → List Lexeme → Out RawName
 name_at class ts = do
   x ← token (code class) ts
   Ok (name x.0, x.1)
+
+unfoldable pub opcode_at : Class → List Lexeme → Out RawOpcode
+opcode_at class ts = do
+  word ← name_at class ts
+  Ok (opcode_by word.0, word.1)
 
 unfoldable pub amount_at : Class → List Lexeme → Out RawNumber
 amount_at class ts = do

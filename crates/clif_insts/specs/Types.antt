@@ -26,7 +26,8 @@ opt_suffix_at ts = if next_is classes.Dot ts then (suffix_at ts >>= λ t. Ok (So
 
 -- i64, and no other type
 unfoldable pub i64_at : List Lexeme → Out RawName
-i64_at ts = if next_is classes.TyI64 ts then name_at classes.TyI64 ts else refuse (classes.RefusedType ∷ []) Unsupported ts
+i64_at ts =
+    if next_is classes.TyI64 ts then name_at classes.TyI64 ts else refuse (classes.RefusedType ∷ []) Unsupported ts
 
 unfoldable pub suffix_i64_at : List Lexeme → Out RawName
 suffix_i64_at ts = do

@@ -1,7 +1,7 @@
 -- What the trees of the grammar mean, one definition a rule: the instruction that a text is.
 use Rattle.std.specs.Prelude.{List, [], ◌∷◌, ◌++◌, map, Option, Some, None, Ok, Err, ◌⊎◌}
 use Rattle.std.proofs.Common.{inl, inr}
-use Rattle.grammar.specs.Rules.{Lexeme, Rule, Opt, Many, Value, Out}
+use Rattle.grammar.specs.Rules.{Lexeme, Rule, Opt, Many, Tree, Out}
 use Rattle.clk_num.specs.declared.op.Cc.{Cc}
 use Rattle.ir_core.specs.declared.signatures.Ty.{Ty}
 use Rattle.ir_core.specs.declared.signatures.Ty.TheVariants as ty_words
@@ -16,7 +16,8 @@ use Rattle.clif_insts.specs.declared.raw.RawFlag.TheVariants as flag_words
 use Rattle.clif_insts.specs.declared.raw.RawTrap.{RawTrap}
 use Rattle.clif_insts.specs.declared.raw.RawTrap.TheVariants as traps
 use Rattle.clif_words.specs.Terminals.{◌then◌, ◌or◌, value, ret, exn, big, little, signed}
-use Rattle.clif_insts.specs.Grammar.{commas, number, any_type, suffix, any_trap, plain_flag, flags, call_to, target, normal_target, handler, entry_name, entry, table, args, target_list}
+use Rattle.clif_insts.specs.Grammar.{commas, number, any_type, suffix, any_trap, plain_flag, flags, call_to, target}
+use Rattle.clif_insts.specs.Grammar.{normal_target, handler, entry_name, entry, table, args, target_list}
 use Rattle.clif_insts.specs.Reading.{name, amount}
 use Rattle.clif_insts.specs.Types.{type_of}
 use Rattle.clif_insts.specs.Codes.{condition_of, trap_of}
@@ -44,46 +45,46 @@ abbrev pub seen : {A B : Type 0} → (A → B) → Out A → Out B
 seen f (Ok x) = Ok (f x.0, x.1)
 seen f (Err e) = Err e
 
-abbrev pub commas_value : {A : Type 0} (a : Rule) → (Value a → A) → Value (commas a) → List A
+abbrev pub commas_value : {A : Type 0} (a : Rule) → (Tree a → A) → Tree (commas a) → List A
 commas_value a f v = f v.0 ∷ map (λ x. f x.1) v.1
 
-abbrev pub any_type_value : Value any_type → Ty
+abbrev pub any_type_value : Tree any_type → Ty
 any_type_value = (λ x. type_of x.number) otherwise (λ x. ty_words.I64) otherwise never
 
-abbrev pub suffix_value : Value suffix → Ty
+abbrev pub suffix_value : Tree suffix → Ty
 suffix_value v = any_type_value v.1
 
-abbrev pub opt_suffix_value : Value (Opt suffix) → Option Ty
+abbrev pub opt_suffix_value : Tree (Opt suffix) → Option Ty
 opt_suffix_value = perhaps None (λ v. Some (suffix_value v))
 
-abbrev pub number_value : Value number → RawNumber
+abbrev pub number_value : Tree number → RawNumber
 number_value = amount otherwise amount
 
-abbrev pub offset_value : Value (Opt signed) → Option RawNumber
+abbrev pub offset_value : Tree (Opt signed) → Option RawNumber
 offset_value = perhaps None (λ x. Some (amount x))
 
 abbrev pub condition_value : Lexeme → Cc
 condition_value x = condition_of x.number
 
-abbrev pub trap_value : Value any_trap → RawTrap
+abbrev pub trap_value : Tree any_trap → RawTrap
 trap_value = (λ x. trap_of x.number) otherwise (λ x. traps.User (name x))
 
-abbrev pub args_value : Value args → List RawName
+abbrev pub args_value : Tree args → List RawName
 args_value v = perhaps [] (commas_value value name) v.1.0
 
 -- ---- flags
 
-abbrev pub plain_flag_value : Value plain_flag → RawFlag
+abbrev pub plain_flag_value : Tree plain_flag → RawFlag
 plain_flag_value = (λ x. flag_of x.number) otherwise (λ x. flag_words.Vmctx) otherwise never
 
 -- flags of which `big` or `little` is the first
-abbrev pub from_big : Value (big then Many (plain_flag or big)) → List RawFlag
+abbrev pub from_big : Tree (big then Many (plain_flag or big)) → List RawFlag
 from_big v = flag_words.Big ∷ map (plain_flag_value otherwise (λ x. flag_words.Big)) v.1
 
-abbrev pub from_little : Value (little then Many (plain_flag or little)) → List RawFlag
+abbrev pub from_little : Tree (little then Many (plain_flag or little)) → List RawFlag
 from_little v = flag_words.Little ∷ map (plain_flag_value otherwise (λ x. flag_words.Little)) v.1
 
-abbrev pub flags_value : Value flags → List RawFlag
+abbrev pub flags_value : Tree flags → List RawFlag
 flags_value v = map plain_flag_value v.0 ++ perhaps [] (from_big otherwise from_little) v.1
 
 -- ---- targets
@@ -91,26 +92,26 @@ flags_value v = map plain_flag_value v.0 ++ perhaps [] (from_big otherwise from_
 abbrev pub value_arg : Lexeme → RawArg
 value_arg x = raw_args.Value (name x)
 
-abbrev pub target_value : (arg : Rule) → (Value arg → RawArg) → Value (call_to arg) → RawTarget
+abbrev pub target_value : (arg : Rule) → (Tree arg → RawArg) → Tree (call_to arg) → RawTarget
 target_value arg f v = record { block = name v.0; args = perhaps [] (λ w. perhaps [] (commas_value arg f) w.1.0) v.1 }
 
-abbrev pub branch_value : Value target → RawTarget
+abbrev pub branch_value : Tree target → RawTarget
 branch_value = target_value value value_arg
 
-abbrev pub normal_value : Value normal_target → RawTarget
+abbrev pub normal_value : Tree normal_target → RawTarget
 normal_value = target_value (value or ret) (value_arg otherwise (λ x. raw_args.Ret (name x)))
 
-abbrev pub handler_value : Value handler → RawTarget
+abbrev pub handler_value : Tree handler → RawTarget
 handler_value = target_value (value or exn) (value_arg otherwise (λ x. raw_args.Exn (name x)))
 
-abbrev pub target_list_value : Value target_list → List RawTarget
+abbrev pub target_list_value : Tree target_list → List RawTarget
 target_list_value v = perhaps [] (commas_value target branch_value) v.1.0
 
-abbrev pub entry_name_value : Value entry_name → Option RawName
+abbrev pub entry_name_value : Tree entry_name → Option RawName
 entry_name_value = (λ x. Some (name x)) otherwise (λ x. None) otherwise never
 
-abbrev pub entry_value : Value entry → RawEntry
+abbrev pub entry_value : Tree entry → RawEntry
 entry_value v = record { tag = entry_name_value v.0; target = handler_value v.1.1 }
 
-abbrev pub table_value : Value table → List RawEntry
+abbrev pub table_value : Tree table → List RawEntry
 table_value v = perhaps [] (commas_value entry entry_value) v.1.0

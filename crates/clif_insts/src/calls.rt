@@ -21,7 +21,7 @@ pub(crate) fn call(alloc: Global, reader: &mut Reader<'_>) -> Result<RawInst, St
     ensures is { Gives same reader.new result (spec.call_at reader.old) }
     ensures shorter { IfOk result (λ _. length reader.new < length reader.old) }
 {
-    let opcode = reader.take(Class::Call)?;
+    let opcode = reader.take_opcode(Class::Call)?;
     let callee = reader.take(Class::Callee)?;
     let args = args(alloc, reader)?;
     Ok(RawInst {
@@ -40,7 +40,7 @@ pub(crate) fn try_call(alloc: Global, reader: &mut Reader<'_>) -> Result<RawInst
     ensures is { Gives same reader.new result (spec.try_call_at reader.old) }
     ensures shorter { IfOk result (λ _. length reader.new < length reader.old) }
 {
-    let opcode = reader.take(Class::TryCall)?;
+    let opcode = reader.take_opcode(Class::TryCall)?;
     let callee = reader.take(Class::Callee)?;
     let args = args(alloc, reader)?;
     reader.take(Class::Comma)?;
@@ -68,7 +68,7 @@ pub(crate) fn call_indirect(alloc: Global, reader: &mut Reader<'_>) -> Result<Ra
     ensures is { Gives same reader.new result (spec.call_indirect_at reader.old) }
     ensures shorter { IfOk result (λ _. length reader.new < length reader.old) }
 {
-    let opcode = reader.take(Class::CallIndirect)?;
+    let opcode = reader.take_opcode(Class::CallIndirect)?;
     opt_suffix_i64(reader)?;
     let sig = reader.take(Class::Sig)?;
     reader.take(Class::Comma)?;
@@ -91,7 +91,7 @@ pub(crate) fn try_call_indirect(alloc: Global, reader: &mut Reader<'_>) -> Resul
     ensures is { Gives same reader.new result (spec.try_call_indirect_at reader.old) }
     ensures shorter { IfOk result (λ _. length reader.new < length reader.old) }
 {
-    let opcode = reader.take(Class::TryCallIndirect)?;
+    let opcode = reader.take_opcode(Class::TryCallIndirect)?;
     opt_suffix_i64(reader)?;
     let address = reader.take(Class::Value)?;
     let args = args(alloc, reader)?;

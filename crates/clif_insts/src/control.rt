@@ -22,7 +22,7 @@ pub(crate) fn nullary(reader: &mut Reader<'_>) -> Result<RawInst, Stop>
     ensures no_memory { IfErr result (λ e. e ≢ NoMemory) }
     ensures shorter { IfOk result (λ _. length reader.new < length reader.old) }
 {
-    let opcode = reader.take(Class::Nullary)?;
+    let opcode = reader.take_opcode(Class::Nullary)?;
     Ok(RawInst {
         opcode,
         suffix: None,
@@ -36,7 +36,7 @@ pub(crate) fn jump(alloc: Global, reader: &mut Reader<'_>) -> Result<RawInst, St
     ensures is { Gives same reader.new result (spec.jump_at reader.old) }
     ensures shorter { IfOk result (λ _. length reader.new < length reader.old) }
 {
-    let opcode = reader.take(Class::Jump)?;
+    let opcode = reader.take_opcode(Class::Jump)?;
     let target = target(alloc, reader, Place::Branch)?;
     Ok(RawInst {
         opcode,
@@ -51,7 +51,7 @@ pub(crate) fn brif(alloc: Global, reader: &mut Reader<'_>) -> Result<RawInst, St
     ensures is { Gives same reader.new result (spec.brif_at reader.old) }
     ensures shorter { IfOk result (λ _. length reader.new < length reader.old) }
 {
-    let opcode = reader.take(Class::Brif)?;
+    let opcode = reader.take_opcode(Class::Brif)?;
     let suffix = opt_suffix(reader)?;
     let cond = reader.take(Class::Value)?;
     reader.take(Class::Comma)?;
@@ -75,7 +75,7 @@ pub(crate) fn br_table(alloc: Global, reader: &mut Reader<'_>) -> Result<RawInst
     ensures is { Gives same reader.new result (spec.br_table_at reader.old) }
     ensures shorter { IfOk result (λ _. length reader.new < length reader.old) }
 {
-    let opcode = reader.take(Class::BrTable)?;
+    let opcode = reader.take_opcode(Class::BrTable)?;
     let index = reader.take(Class::Value)?;
     reader.take(Class::Comma)?;
     let default = boxed_target(alloc, reader, Place::Branch)?;
@@ -98,7 +98,7 @@ pub(crate) fn return_inst(alloc: Global, reader: &mut Reader<'_>) -> Result<RawI
     ensures is { Gives same reader.new result (spec.return_inst_at reader.old) }
     ensures shorter { IfOk result (λ _. length reader.new < length reader.old) }
 {
-    let opcode = reader.take(Class::Return)?;
+    let opcode = reader.take_opcode(Class::Return)?;
     Ok(RawInst {
         opcode,
         suffix: None,
@@ -113,7 +113,7 @@ pub(crate) fn trap_inst(reader: &mut Reader<'_>) -> Result<RawInst, Stop>
     ensures no_memory { IfErr result (λ e. e ≢ NoMemory) }
     ensures shorter { IfOk result (λ _. length reader.new < length reader.old) }
 {
-    let opcode = reader.take(Class::Trap)?;
+    let opcode = reader.take_opcode(Class::Trap)?;
     let code = trap(reader)?;
     Ok(RawInst {
         opcode,
@@ -129,7 +129,7 @@ pub(crate) fn trap_if(reader: &mut Reader<'_>) -> Result<RawInst, Stop>
     ensures no_memory { IfErr result (λ e. e ≢ NoMemory) }
     ensures shorter { IfOk result (λ _. length reader.new < length reader.old) }
 {
-    let opcode = reader.take(Class::TrapIf)?;
+    let opcode = reader.take_opcode(Class::TrapIf)?;
     let suffix = opt_suffix(reader)?;
     let x = reader.take(Class::Value)?;
     reader.take(Class::Comma)?;

@@ -7,6 +7,8 @@ ghost use Rattle.clif_insts.specs.Reading.{Gives, same};
 ghost use Rattle.clif_insts.specs.Forms as forms;
 ghost use Rattle.clif_insts.specs.Insts.{Found, Stopped};
 ghost use Rattle.clif_insts.specs.Insts as insts;
+ghost use Rattle.clif_insts.specs.Marks.{MarksFormed, inst_marks};
+ghost use Rattle.clif_insts.specs.OfForm.{InstFormed};
 
 use crate::arguments::more_values;
 use crate::forms::any_inst;
@@ -73,7 +75,7 @@ fn own_values(alloc: Global, reader: &mut Reader<'_>) -> Result<Vec<RawName>, St
 fn return_line(alloc: Global, reader: &mut Reader<'_>) -> Result<RawInst, Stop>
     ensures { Gives same reader.new result (forms.return_line_at reader.old) }
 {
-    let opcode = reader.take(Class::Return)?;
+    let opcode = reader.take_opcode(Class::Return)?;
     let values = own_values(alloc, reader)?;
     Ok(RawInst {
         opcode,
@@ -112,7 +114,8 @@ fn place_of(tokens: &Tokens, i: usize, spot: usize) -> usize
 ///
 /// # Errors
 ///
-/// At the first token with which no instruction goes on, or at the end, by the kind of the words that the place refuses.
+/// At the first token with which no instruction goes on, or at the end, by the kind of the words that the place
+/// refuses.
 pub fn inst(
     alloc: Global,
     text: &[u8],
@@ -121,7 +124,10 @@ pub fn inst(
 ) -> Result<(RawInst, usize), SyntaxErr>
     requires whole { tokens_of text.now ≡ Ok tokens.now }
     requires within { i ≤ length tokens.now }
-    ensures found { IfOk result (λ x. Found (lexemes text.now (drop i tokens.now)) (insts.place_left text.now tokens.now i) x.0 x.1) }
+    ensures found { IfOk result
+        (λ x. Found (lexemes text.now (drop i tokens.now)) (insts.place_left text.now tokens.now i) x.0 x.1) }
+    ensures formed { IfOk result (λ x. InstFormed x.0) }
+    ensures marks { IfOk result (λ x. MarksFormed (length text.now) (inst_marks x.0)) }
     ensures stop { IfErr result (λ e. Stopped (lexemes text.now (drop i tokens.now)) (insts.place_left text.now tokens.now i) e) }
 {
     let mut reader = Reader::new(text, tokens, i);

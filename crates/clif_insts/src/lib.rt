@@ -8,7 +8,7 @@ mod control;
 mod flags;
 mod forms;
 mod insts;
-mod laws;
+pub mod laws;
 mod lists;
 mod memory;
 mod numbers;
@@ -30,8 +30,8 @@ pub use lists::{RawNames, one_item};
 pub use numbers::number;
 pub use opening::Opening;
 pub use raw::{
-    RawArg, RawEntry, RawFlag, RawInst, RawName, RawNumber, RawOperands, RawTarget, RawText,
-    RawTrap,
+    RawArg, RawEntry, RawFlag, RawInst, RawName, RawNumber, RawOpcode, RawOperands, RawTarget,
+    RawText, RawTrap,
 };
 pub use reader::Reader;
 pub use stop::Stop;

@@ -21,7 +21,7 @@ pub(crate) fn load(alloc: Global, reader: &mut Reader<'_>) -> Result<RawInst, St
     ensures is { Gives same reader.new result (spec.load_at reader.old) }
     ensures shorter { IfOk result (λ _. length reader.new < length reader.old) }
 {
-    let opcode = reader.take(Class::Load)?;
+    let opcode = reader.take_opcode(Class::Load)?;
     let suffix = suffix(reader)?;
     let flags = flags(alloc, reader)?;
     let address = reader.take(Class::Value)?;
@@ -43,7 +43,7 @@ pub(crate) fn load_wide(alloc: Global, reader: &mut Reader<'_>) -> Result<RawIns
     ensures is { Gives same reader.new result (spec.load_wide_at reader.old) }
     ensures shorter { IfOk result (λ _. length reader.new < length reader.old) }
 {
-    let opcode = reader.take(Class::LoadWide)?;
+    let opcode = reader.take_opcode(Class::LoadWide)?;
     let suffix = opt_suffix(reader)?;
     let flags = flags(alloc, reader)?;
     let address = reader.take(Class::Value)?;
@@ -65,7 +65,7 @@ pub(crate) fn store(alloc: Global, reader: &mut Reader<'_>) -> Result<RawInst, S
     ensures is { Gives same reader.new result (spec.store_at reader.old) }
     ensures shorter { IfOk result (λ _. length reader.new < length reader.old) }
 {
-    let opcode = reader.take(Class::Store)?;
+    let opcode = reader.take_opcode(Class::Store)?;
     let suffix = opt_suffix(reader)?;
     let flags = flags(alloc, reader)?;
     let value = reader.take(Class::Value)?;
@@ -90,7 +90,7 @@ pub(crate) fn stack_load(alloc: Global, reader: &mut Reader<'_>) -> Result<RawIn
     ensures is { Gives same reader.new result (spec.stack_load_at reader.old) }
     ensures shorter { IfOk result (λ _. length reader.new < length reader.old) }
 {
-    let opcode = reader.take(Class::StackLoad)?;
+    let opcode = reader.take_opcode(Class::StackLoad)?;
     let suffix = suffix(reader)?;
     let slot = reader.take(Class::Slot)?;
     let offset = offset(alloc, reader)?;
@@ -107,7 +107,7 @@ pub(crate) fn stack_store(alloc: Global, reader: &mut Reader<'_>) -> Result<RawI
     ensures is { Gives same reader.new result (spec.stack_store_at reader.old) }
     ensures shorter { IfOk result (λ _. length reader.new < length reader.old) }
 {
-    let opcode = reader.take(Class::StackStore)?;
+    let opcode = reader.take_opcode(Class::StackStore)?;
     let suffix = opt_suffix(reader)?;
     let value = reader.take(Class::Value)?;
     reader.take(Class::Comma)?;
@@ -131,7 +131,7 @@ pub(crate) fn func_addr(reader: &mut Reader<'_>) -> Result<RawInst, Stop>
     ensures no_memory { IfErr result (λ e. e ≢ NoMemory) }
     ensures shorter { IfOk result (λ _. length reader.new < length reader.old) }
 {
-    let opcode = reader.take(Class::FuncAddr)?;
+    let opcode = reader.take_opcode(Class::FuncAddr)?;
     suffix_i64(reader)?;
     let callee = reader.take(Class::Callee)?;
     Ok(RawInst {

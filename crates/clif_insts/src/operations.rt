@@ -20,7 +20,7 @@ pub(crate) fn iconst(reader: &mut Reader<'_>) -> Result<RawInst, Stop>
     ensures no_memory { IfErr result (λ e. e ≢ NoMemory) }
     ensures shorter { IfOk result (λ _. length reader.new < length reader.old) }
 {
-    let opcode = reader.take(Class::Iconst)?;
+    let opcode = reader.take_opcode(Class::Iconst)?;
     let suffix = suffix(reader)?;
     let number = number(reader)?;
     Ok(RawInst {
@@ -37,7 +37,7 @@ pub(crate) fn binary(reader: &mut Reader<'_>) -> Result<RawInst, Stop>
     ensures no_memory { IfErr result (λ e. e ≢ NoMemory) }
     ensures shorter { IfOk result (λ _. length reader.new < length reader.old) }
 {
-    let opcode = reader.take(Class::Binary)?;
+    let opcode = reader.take_opcode(Class::Binary)?;
     let suffix = opt_suffix(reader)?;
     let x = reader.take(Class::Value)?;
     reader.take(Class::Comma)?;
@@ -56,7 +56,7 @@ pub(crate) fn unary(reader: &mut Reader<'_>) -> Result<RawInst, Stop>
     ensures no_memory { IfErr result (λ e. e ≢ NoMemory) }
     ensures shorter { IfOk result (λ _. length reader.new < length reader.old) }
 {
-    let opcode = reader.take(Class::Unary)?;
+    let opcode = reader.take_opcode(Class::Unary)?;
     let suffix = opt_suffix(reader)?;
     let x = reader.take(Class::Value)?;
     Ok(RawInst {
@@ -73,7 +73,7 @@ pub(crate) fn icmp(reader: &mut Reader<'_>) -> Result<RawInst, Stop>
     ensures no_memory { IfErr result (λ e. e ≢ NoMemory) }
     ensures shorter { IfOk result (λ _. length reader.new < length reader.old) }
 {
-    let opcode = reader.take(Class::Icmp)?;
+    let opcode = reader.take_opcode(Class::Icmp)?;
     let suffix = opt_suffix(reader)?;
     let condition = condition(reader)?;
     let x = reader.take(Class::Value)?;
@@ -93,7 +93,7 @@ pub(crate) fn select(reader: &mut Reader<'_>) -> Result<RawInst, Stop>
     ensures no_memory { IfErr result (λ e. e ≢ NoMemory) }
     ensures shorter { IfOk result (λ _. length reader.new < length reader.old) }
 {
-    let opcode = reader.take(Class::Select)?;
+    let opcode = reader.take_opcode(Class::Select)?;
     let suffix = opt_suffix(reader)?;
     let x = reader.take(Class::Value)?;
     reader.take(Class::Comma)?;
@@ -114,7 +114,7 @@ pub(crate) fn convert(reader: &mut Reader<'_>) -> Result<RawInst, Stop>
     ensures no_memory { IfErr result (λ e. e ≢ NoMemory) }
     ensures shorter { IfOk result (λ _. length reader.new < length reader.old) }
 {
-    let opcode = reader.take(Class::Convert)?;
+    let opcode = reader.take_opcode(Class::Convert)?;
     let suffix = suffix(reader)?;
     let x = reader.take(Class::Value)?;
     Ok(RawInst {
@@ -131,7 +131,7 @@ pub(crate) fn binary_imm(reader: &mut Reader<'_>) -> Result<RawInst, Stop>
     ensures no_memory { IfErr result (λ e. e ≢ NoMemory) }
     ensures shorter { IfOk result (λ _. length reader.new < length reader.old) }
 {
-    let opcode = reader.take(Class::BinaryImm)?;
+    let opcode = reader.take_opcode(Class::BinaryImm)?;
     let suffix = opt_suffix(reader)?;
     let x = reader.take(Class::Value)?;
     reader.take(Class::Comma)?;
@@ -150,7 +150,7 @@ pub(crate) fn icmp_imm(reader: &mut Reader<'_>) -> Result<RawInst, Stop>
     ensures no_memory { IfErr result (λ e. e ≢ NoMemory) }
     ensures shorter { IfOk result (λ _. length reader.new < length reader.old) }
 {
-    let opcode = reader.take(Class::IcmpImm)?;
+    let opcode = reader.take_opcode(Class::IcmpImm)?;
     let suffix = opt_suffix(reader)?;
     let condition = condition(reader)?;
     let x = reader.take(Class::Value)?;

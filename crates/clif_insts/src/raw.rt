@@ -1,5 +1,6 @@
 //! Instructions as the grammar reads them, with names that are not looked up yet.
 
+use clif_words::Opcode;
 use clk_num::Cc;
 use ir_core::{Boxed, List, Ty};
 use std::mem::size_of;
@@ -10,6 +11,15 @@ pub struct RawName {
     /// The number in the word, or `u64::MAX` where it is above that.
     pub number: u64,
     /// The word's first byte.
+    pub spot: usize,
+}
+
+/// An opcode.
+#[derive(Clone, Copy, Debug, PartialEq, Eq)]
+pub struct RawOpcode {
+    /// Which one it is.
+    pub kind: Opcode,
+    /// The opcode's first byte.
     pub spot: usize,
 }
 
@@ -148,11 +158,11 @@ pub enum RawOperands {
     },
 }
 
-/// An instruction. `suffix` is none where there is no suffix, and for `func_addr` and the indirect calls, whose only suffix is `i64`.
+/// An instruction. `suffix` is none where there is no suffix, and for `func_addr` and the indirect calls, whose only
+/// suffix is `i64`. The grammar gives operands of the opcode's form alone.
 #[derive(Drop)]
 pub struct RawInst {
-    /// The opcode's row in the table of opcodes, and its first byte.
-    pub opcode: RawName,
+    pub opcode: RawOpcode,
     pub suffix: Option<Ty>,
     pub operands: RawOperands,
 }

@@ -1,6 +1,7 @@
 //! The tokens of a text, read one after the other.
 
-ghost use Rattle.std.specs.Prelude.{◌≡◌, ◌≢◌, ℕ, not, List, ◌∷◌, [], ◌<◌, ◌≤◌, length, take, drop, slice_get, slice_range, false, IfOk, IfErr, IfSome};
+ghost use Rattle.std.specs.Prelude.{◌≡◌, ◌≢◌, ℕ, not, List, ◌∷◌, [], ◌<◌, ◌≤◌, length, take, drop, slice_get};
+ghost use Rattle.std.specs.Prelude.{slice_range, false, IfOk, IfErr, IfSome};
 ghost use Rattle.grammar.specs.Rules.{Lexeme, heads, heads_any};
 ghost use Rattle.clif_lex.specs.Spelling.{AreIn};
 ghost use Rattle.clif_words.specs.Classes.{code};
@@ -16,10 +17,10 @@ ghost use Rattle.clif_insts.specs.Reading.{Gives, same};
 ghost use Rattle.clif_insts.specs.Shown.{IsOf, Shows};
 
 use crate::opening::Opening;
-use crate::raw::{RawName, RawNumber, RawText};
+use crate::raw::{RawName, RawNumber, RawOpcode, RawText};
 use crate::stop::Stop;
 use clif_lex::{TokenKind, Tokens};
-use clif_words::{Class, token_meaning};
+use clif_words::{Class, opcode_of, token_meaning};
 use ir_core::List;
 use std::alloc::Global;
 use std::marker::Model;
@@ -58,7 +59,8 @@ impl<'a> Model for Reader<'a> {
 
     ghost view = { λ r. lexemes r.text.now (drop r.next.at (take r.«end» r.tokens.now)) };
 
-    ghost invariant = { λ r. AreIn r.text.now r.tokens.now × (r.next.at ≤ r.«end») × (r.«end» ≤ length r.tokens.now) × Shows r.text.now (drop r.next.at (take r.«end» r.tokens.now)) r.next };
+    ghost invariant = { λ r. AreIn r.text.now r.tokens.now × (r.next.at ≤ r.«end») × (r.«end» ≤ length r.tokens.now)
+        × Shows r.text.now (drop r.next.at (take r.«end» r.tokens.now)) r.next };
 }
 
 /// Whether a token is a comment.
@@ -121,7 +123,8 @@ fn find(next: &mut Next, text: &[u8], tokens: &Tokens, from: usize, end: usize)
     requires ordered { from ≤ «end» }
     requires within { «end» ≤ length tokens.now }
     ensures within { next.new.at ≤ «end» }
-    ensures same { lexemes text.now (drop next.new.at (take «end» tokens.now)) ≡ lexemes text.now (drop from (take «end» tokens.now)) }
+    ensures same { lexemes text.now (drop next.new.at (take «end» tokens.now))
+        ≡ lexemes text.now (drop from (take «end» tokens.now)) }
     ensures shows { Shows text.now (drop next.new.at (take «end» tokens.now)) next.new }
 {
     let mut at = from;
@@ -322,6 +325,21 @@ impl<'a> Reader<'a> {
         } else {
             Err(Stop::Syntax)
         }
+    }
+
+    /// The opcode that a token of this class is.
+    #[tactic(auto, unfolding(crate::specs::Reading::opcode_at))]
+    #[inline]
+    pub fn take_opcode(&mut self, class: Class) -> Result<RawOpcode, Stop>
+        ensures is { Gives same self.new result (spec.opcode_at class self.old) }
+        ensures no_memory { IfErr result (λ e. e ≢ NoMemory) }
+        ensures shorter { IfOk result (λ _. length self.new < length self.old) }
+    {
+        let word = self.take(class)?;
+        Ok(RawOpcode {
+            kind: opcode_of(word.number),
+            spot: word.spot,
+        })
     }
 
     /// The number that a token of this class spells.

@@ -2,6 +2,7 @@
 
 use crate::{Opening, Reader, Stop, SyntaxErr, any_inst, inst};
 use clif_lex::tokens;
+use clif_words::{Opcode, opcode_at};
 use std::alloc::Global;
 
 /// Where the instruction that the text begins with stops, or why there is none.
@@ -104,7 +105,8 @@ fn refusal(alloc: Global, text: &str, opening: Opening) -> Option<Stop> {
     }
 }
 
-/// Whether nothing stands behind the instruction between two places of the list of the text's tokens, or why there is none.
+/// Whether nothing stands behind the instruction between two places of the list of the text's tokens, or why there is
+/// none.
 fn is_alone_between(alloc: Global, text: &str, from: usize, end: usize) -> Result<bool, Stop> {
     let bytes = text.as_bytes();
     let Ok(list) = tokens(alloc, bytes) else {
@@ -243,12 +245,12 @@ return_call_indirect sig0, v0(v1, v2)
 try_call_indirect.i64 v0(), sig0, block1, []
 ";
 
-/// The number of the opcode, where the whole text is one instruction.
-fn opcode_number(alloc: Global, text: &str) -> Option<u64> {
+/// The opcode, where the whole text is one instruction.
+fn opcode(alloc: Global, text: &str) -> Option<Opcode> {
     let bytes = text.as_bytes();
     match tokens(alloc, bytes) {
         Ok(list) => match inst(alloc, bytes, &list, 0) {
-            Ok((found, stop)) if stop == list.len() => Some(found.opcode.number),
+            Ok((found, stop)) if stop == list.len() => Some(found.opcode.kind),
             _ => None,
         },
         Err(_) => None,
@@ -259,7 +261,7 @@ fn opcode_number(alloc: Global, text: &str) -> Option<u64> {
 fn reads_every_opcode(rt: HostRuntime) {
     let mut number: u64 = 0;
     for line in EVERY_OPCODE.lines() {
-        assert_eq!(rt; opcode_number(rt.alloc(), line), Some(number), "at {line}");
+        assert_eq!(rt; opcode(rt.alloc(), line), opcode_at(number), "at {line}");
         number = number.saturating_add(1);
     }
     assert_eq!(rt; number, 79);

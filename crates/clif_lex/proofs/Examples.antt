@@ -8,7 +8,7 @@ use Rattle.clif_lex.specs.declared.faults.LexErr.TheVariants.{BadChar, BadNumber
 use Rattle.clif_lex.specs.Numbers.{spelled_number}
 use Rattle.clif_lex.specs.Lexing.{number_at, word_at, token_at, tokens_from, tokens_of}
 use Rattle.clif_lex.specs.Places.{line_at, column_at}
-use Rattle.clif_lex.specs.Pieces.{preamble_after, piece_tokens}
+use Rattle.clif_lex.specs.Stretches.{preamble_after, stretch_tokens}
 
 abbrev Reads : List ℕ → List Token → Type 0
 Reads text ts = tokens_of text ≡ Ok ts
@@ -177,29 +177,29 @@ negative_hexadecimal = refl
 minus_zero : spelled_number (codes "-0") ≡ pos 0
 minus_zero = refl
 
--- pieces
+-- stretches
 
 abbrev three_lines : List ℕ
 three_lines = codes "set a\nf 1\nset b\n"
 
-first_line : (piece_tokens three_lines true 0 6 ≡ Ok (at Header 0 5 ∷ [])) × (preamble_after true (at Header 0 5 ∷ []) ≡ true)
+first_line : (stretch_tokens three_lines true 0 6 ≡ Ok (at Header 0 5 ∷ [])) × (preamble_after true (at Header 0 5 ∷ []) ≡ true)
 unfolding number_at word_at token_at tokens_from
 first_line = (refl, refl)
 
-second_line : (piece_tokens three_lines true 6 10 ≡ Ok (at Word 6 7 ∷ at Number 8 9 ∷ [])) × (preamble_after true (at Word 6 7 ∷ at Number 8 9 ∷ []) ≡ false)
+second_line : (stretch_tokens three_lines true 6 10 ≡ Ok (at Word 6 7 ∷ at Number 8 9 ∷ [])) × (preamble_after true (at Word 6 7 ∷ at Number 8 9 ∷ []) ≡ false)
 unfolding number_at word_at token_at tokens_from
 second_line = (refl, refl)
 
-third_line : piece_tokens three_lines false 10 16 ≡ Ok (at Word 10 13 ∷ at Word 14 15 ∷ [])
+third_line : stretch_tokens three_lines false 10 16 ≡ Ok (at Word 10 13 ∷ at Word 14 15 ∷ [])
 unfolding number_at word_at token_at tokens_from
 third_line = refl
 
--- a piece that ends in the middle of a line ends its token
-cut_token : piece_tokens three_lines true 0 4 ≡ Ok (at Header 0 4 ∷ [])
+-- a stretch that ends in the middle of a line ends its token
+cut_token : stretch_tokens three_lines true 0 4 ≡ Ok (at Header 0 4 ∷ [])
 unfolding number_at word_at token_at tokens_from
 cut_token = refl
 
--- a fault behind a piece is none of it
-piece_fault : (piece_tokens (codes "a\n #\n") false 0 2 ≡ Ok (at Word 0 1 ∷ [])) × (piece_tokens (codes "a\n #\n") false 2 5 ≡ Err (BadChar 3))
+-- a fault behind a stretch is none of it
+stretch_fault : (stretch_tokens (codes "a\n #\n") false 0 2 ≡ Ok (at Word 0 1 ∷ [])) × (stretch_tokens (codes "a\n #\n") false 2 5 ≡ Err (BadChar 3))
 unfolding number_at word_at token_at tokens_from
-piece_fault = (refl, refl)
+stretch_fault = (refl, refl)

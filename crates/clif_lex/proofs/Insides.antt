@@ -1,11 +1,11 @@
--- What is known of the tokens of a piece, one by one.
+-- What is known of the tokens of a stretch, one by one.
 use Rattle.std.proofs.Common.{◌≡◌, ℕ, ◌+◌, ◌-◌, ◌≤◌, Bool, List, length, take, drop, slice_range, Ok, Err, refl, sym, ◌∙◌, ap, subst, arith}
 use Rattle.std.proofs.lemmas.List.{length-drop, length-take, drop-take}
 use Rattle.clif_lex.specs.declared.spans.Token.{Token}
 use Rattle.clif_lex.specs.declared.faults.LexErr.{LexErr}
 use Rattle.clif_lex.specs.declared.faults.LexErr.TheVariants.{BadChar, BadNumber, NoMemory}
 use Rattle.clif_lex.specs.Spelling.{IsAtEnd, IsReadFrom, IsFaultIn, IsTokenIn, AreIn}
-use Rattle.clif_lex.specs.Pieces.{piece_tokens}
+use Rattle.clif_lex.specs.Stretches.{stretch_tokens}
 use Rattle.clif_lex.proofs.Spelled.{take_of_take}
 use Rattle.clif_lex.proofs.Readings.{reads, tokens_inside, faults_inside}
 
@@ -25,8 +25,8 @@ inside_more till text t h inside =
       in_range = λ number. rw (sym (take_range t.start t.end till text (let some = inside.some in omega arith) within)) (inside.in_range number);
     }
 
-pub piece_inside : (text : List ℕ) (preamble : Bool) (from until : ℕ) (ts : List Token) → from ≤ until → until ≤ length text → piece_tokens text preamble from until ≡ Ok ts → AreIn text ts
-piece_inside text preamble from until ts ordered within lexed = record {
+pub stretch_inside : (text : List ℕ) (preamble : Bool) (from until : ℕ) (ts : List Token) → from ≤ until → until ≤ length text → stretch_tokens text preamble from until ≡ Ok ts → AreIn text ts
+stretch_inside text preamble from until ts ordered within lexed = record {
   each = λ i t found.
       let whole = take until text in
       let inside : from ≤ length whole = omega (arith, length-take until text) in
@@ -39,8 +39,8 @@ fault_more (BadChar spot) till text h below = omega (arith, below, length-take t
 fault_more (BadNumber spot) till text h below = omega (arith, below, length-take till text)
 fault_more NoMemory till text h below = tt
 
-pub piece_fault_inside : (text : List ℕ) (preamble : Bool) (from until : ℕ) (fault : LexErr) → from ≤ until → until ≤ length text → piece_tokens text preamble from until ≡ Err fault → IsFaultIn text fault
-piece_fault_inside text preamble from until fault ordered within lexed =
+pub stretch_fault_inside : (text : List ℕ) (preamble : Bool) (from until : ℕ) (fault : LexErr) → from ≤ until → until ≤ length text → stretch_tokens text preamble from until ≡ Err fault → IsFaultIn text fault
+stretch_fault_inside text preamble from until fault ordered within lexed =
     let whole = take until text in
     let d : IsReadFrom preamble from (drop from whole) (Err fault) = subst (IsReadFrom preamble from (drop from whole)) lexed (reads (length (drop from whole)) preamble from (drop from whole) (omega arith)) in
     fault_more fault until text within (faults_inside fault whole preamble from (drop from whole) d.0 (omega (arith, length-take until text, length-drop from whole)) d.1)

@@ -11,7 +11,7 @@ use Rattle.clif_lex.specs.Bytes.{is_blank, is_letter, is_sign, is_word_byte, is_
 use Rattle.clif_lex.specs.Numbers.{sign_len, unsigned, is_hex, digits_len, number_len, lacks_digits}
 use Rattle.clif_lex.specs.Lexing.{◌>>=◌, is_preamble, number_at, word_at, token_at, tokens_from}
 use Rattle.clif_lex.specs.Spelling.{Stands}
-use Rattle.clif_lex.specs.Pieces.{preamble_after}
+use Rattle.clif_lex.specs.Stretches.{preamble_after}
 use Rattle.clif_lex.proofs.Runs.{at_blank, at_token, at_fault}
 use Rattle.clif_lex.proofs.Longest.{stands}
 

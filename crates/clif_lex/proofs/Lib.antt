@@ -11,5 +11,5 @@ pub mod OneReading
 pub mod Insides
 pub mod LineStarts
 pub mod Joins
-pub mod Pieces
+pub mod Stretches
 pub mod Examples

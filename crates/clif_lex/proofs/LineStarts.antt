@@ -3,7 +3,7 @@ use Rattle.std.proofs.Common.{◌≡◌, ℕ, ◌+◌, ◌-◌, ◌≤◌, ◌<�
 use Rattle.std.proofs.lemmas.Bool.{and_parts, and_from, eq-eqb, eqb-true, both_ways, cases_Bool, leb-true, leb-false}
 use Rattle.std.specs.List.{starts_with}
 use Rattle.clif_lex.specs.Bytes.{line_feed}
-use Rattle.clif_lex.specs.Pieces.{IsLineWith}
+use Rattle.clif_lex.specs.Stretches.{IsLineWith}
 
 -- whether a line ends with the byte at a place, and the next one begins with a word
 abbrev pub line_follows : List ℕ → ℕ → List ℕ → Bool

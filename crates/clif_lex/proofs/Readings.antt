@@ -8,8 +8,9 @@ use Rattle.clif_lex.specs.declared.faults.LexErr.{LexErr}
 use Rattle.clif_lex.specs.declared.faults.LexErr.TheVariants.{BadChar, BadNumber, NoMemory}
 use Rattle.clif_lex.specs.Bytes.{is_blank, is_letter, first}
 use Rattle.clif_lex.specs.Numbers.{is_in_range}
+use Rattle.clif_lex.specs.Spans.{spelling}
 use Rattle.clif_lex.specs.Lexing.{◌>>=◌, is_preamble, token_at, tokens_from, tokens_of}
-use Rattle.clif_lex.specs.Spelling.{Stands, AfterBlanks, IsDivided, IsAtEnd, IsAtFault, IsReadFrom, IsReading, IsFaultIn, IsTokenIn}
+use Rattle.clif_lex.specs.Spelling.{Stands, AfterBlanks, IsDivided, IsAtEnd, IsAtFault, IsReadFrom, IsReading, IsFaultIn, IsTokenIn, StandFrom, spells}
 use Rattle.clif_lex.proofs.Runs.{at_blank, at_token, at_fault}
 use Rattle.clif_lex.proofs.Longest.{stands}
 
@@ -108,6 +109,40 @@ pub token_inside_text : (text : List ℕ) (ts : List Token) → tokens_of text �
 token_inside_text text ts e =
     let d : IsReading text (Ok ts) = subst (IsReading text) e (reading text) in
     tokens_inside text IsAtEnd true 0 text ts (omega arith) refl d
+
+-- they stand one behind the other
+
+token_spelled : (whole : List ℕ) (preamble : Bool) (at : ℕ) (t : Token) → Stands preamble at (drop at whole) (Ok t) → spells preamble t.kind (spelling whole t) ≡ true
+token_spelled whole preamble at t (start, some, longest, good) = rw start longest.spelled
+
+stand_from : (whole : List ℕ) (last : Bool → ℕ → List ℕ → Type 0) (preamble : Bool) (at : ℕ) (text : List ℕ) (ts : List Token) → at ≤ length whole → text ≡ drop at whole → IsDivided last preamble at text ts
+    → StandFrom whole at ts
+stand_from whole last preamble at text [] inside e d = tt
+stand_from whole last preamble at text (x ∷ xs) inside e (n, within, all, stand) =
+    let standing = subst (λ (r : List ℕ). Stands preamble (at + n) r (Ok x)) rest stand.0 in
+    let token = token_inside whole preamble (at + n) x start_inside standing in
+    let start : x.start ≡ at + n = stand.0.0 in (
+      omega arith,
+      token,
+      (preamble, token_spelled whole preamble (at + n) x standing),
+      stand_from whole last (preamble && is_preamble x.kind) x.end (drop (x.end - (at + n)) (drop n text)) xs token.within past stand.1,
+    )
+  where
+    start_inside : at + n ≤ length whole
+    start_inside = let k : length text ≡ length whole - at = ap length e ∙ length-drop at whole in omega arith
+
+    rest : drop n text ≡ drop (at + n) whole
+    rest = ap (drop n) e ∙ drop-drop n at whole
+
+    past : drop (x.end - (at + n)) (drop n text) ≡ drop x.end whole
+    past =
+        let some : at + n < x.end = stand.0.1 in
+        ap (drop (x.end - (at + n))) rest ∙ drop-drop (x.end - (at + n)) (at + n) whole ∙ ap (λ (k : ℕ). drop k whole) (omega arith)
+
+pub tokens_stand : (text : List ℕ) (ts : List Token) → tokens_of text ≡ Ok ts → StandFrom text 0 ts
+tokens_stand text ts e =
+    let d : IsReading text (Ok ts) = subst (IsReading text) e (reading text) in
+    stand_from text IsAtEnd true 0 text ts (omega arith) refl d
 
 -- where a fault stands
 

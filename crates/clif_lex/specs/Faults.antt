@@ -1,9 +1,13 @@
 -- How the faults of a text are named, and which fault of a text an answer of `tokens` is.
-use Rattle.std.specs.Prelude.{ℕ, List, codes}
+use Rattle.std.specs.Prelude.{ℕ, ◌≤◌, List, codes}
 use Rattle.clif_lex.specs.declared.faults.LexErr.{LexErr}
 use Rattle.clif_lex.specs.declared.faults.LexErr.TheVariants as lex
 use Rattle.clif_lex.specs.declared.faults.TextKind.{TextKind}
-use Rattle.clif_lex.specs.declared.faults.TextKind.TheVariants.{BadChar, BadNumber, Syntax, UnknownOpcode, Unsupported, Duplicate, Undefined, NumberRange, Untyped, TooLarge, NoTerminator, EntryTarget, CountMismatch, TypeMismatch, Convention, SignatureMismatch, SlotRange, TagPlace, NotAvailable}
+use Rattle.clif_lex.specs.declared.faults.TextKind.TheVariants.{BadChar, BadNumber, Syntax, UnknownOpcode, Unsupported}
+use Rattle.clif_lex.specs.declared.faults.TextKind.TheVariants.{Duplicate, Undefined, NumberRange, Untyped, TooLarge}
+use Rattle.clif_lex.specs.declared.faults.TextKind.TheVariants.{NoTerminator, EntryTarget, CountMismatch, TypeMismatch}
+use Rattle.clif_lex.specs.declared.faults.TextKind.TheVariants.{Convention, SignatureMismatch, SlotRange, TagPlace}
+use Rattle.clif_lex.specs.declared.faults.TextKind.TheVariants.{NotAvailable}
 use Rattle.clif_lex.specs.declared.faults.TextErr.{TextErr}
 use Rattle.clif_lex.specs.declared.faults.TextErr.TheVariants as text
 
@@ -34,3 +38,8 @@ abbrev pub text_err_of : LexErr → TextErr
 text_err_of (lex.BadChar spot) = text.Fault BadChar spot
 text_err_of (lex.BadNumber spot) = text.Fault BadNumber spot
 text_err_of lex.NoMemory = text.NoMemory
+
+-- a fault stands at a byte of a text of so many bytes, or at its end
+abbrev pub StandsWithin : ℕ → TextErr → Type 0
+StandsWithin len (text.Fault kind spot) = spot ≤ len
+StandsWithin len text.NoMemory = Unit {0}

@@ -1,14 +1,17 @@
 -- The tokens of a text: bytes are read from the left, and the longest token is taken.
-use Rattle.std.specs.Prelude.{◌≡◌, ℕ, ◌+◌, Bool, true, false, not, ◌&&◌, ◌||◌, ◌==◌, nat_lt, if◌then◌else◌, List, [], ◌∷◌, take, drop, codes, Result, Ok, Err}
+use Rattle.std.specs.Prelude.{◌≡◌, ℕ, ◌+◌, Bool, true, false, not, ◌&&◌, ◌||◌, ◌==◌, nat_lt, if◌then◌else◌, List, []}
+use Rattle.std.specs.Prelude.{◌∷◌, take, drop, codes, Result, Ok, Err}
 use Rattle.std.specs.List.{prefix_len}
 use Rattle.std.specs.Str.{bytes_eq}
 use Rattle.std.specs.Char.{is_ascii_digit, is_ascii_hexdigit}
 use Rattle.clif_lex.specs.declared.spans.TokenKind.{TokenKind}
-use Rattle.clif_lex.specs.declared.spans.TokenKind.TheVariants.{Header, Comment, Name, Word, Number, Srcloc, Arrow, Mark}
+use Rattle.clif_lex.specs.declared.spans.TokenKind.TheVariants.{Header, Comment, Name, Word, Number, Srcloc, Arrow}
+use Rattle.clif_lex.specs.declared.spans.TokenKind.TheVariants.{Mark}
 use Rattle.clif_lex.specs.declared.spans.Token.{Token}
 use Rattle.clif_lex.specs.declared.faults.LexErr.{LexErr}
 use Rattle.clif_lex.specs.declared.faults.LexErr.TheVariants.{BadChar, BadNumber, NoMemory}
-use Rattle.clif_lex.specs.Bytes.{percent, minus, semicolon, greater, at_sign, is_blank, is_no_line_feed, is_letter, is_word_byte, is_sign, is_mark, first, second}
+use Rattle.clif_lex.specs.Bytes.{percent, minus, semicolon, greater, at_sign, is_blank, is_no_line_feed, is_letter}
+use Rattle.clif_lex.specs.Bytes.{is_word_byte, is_sign, is_mark, first, second}
 use Rattle.clif_lex.specs.Numbers.{is_in_range, number_len, lacks_digits}
 
 infixl 10 ◌>>=◌
@@ -38,7 +41,8 @@ token kind at len = record { kind = kind; start = at; end = at + len }
 unfoldable pub number_at : ℕ → List ℕ → Result Token LexErr
 number_at at text =
     let len = number_len text in
-    if lacks_digits text || is_letter (first (drop len text)) || not (is_in_range (take len text)) then Err (BadNumber at)
+    if lacks_digits text || is_letter (first (drop len text))
+    || not (is_in_range (take len text)) then Err (BadNumber at)
     else Ok (token Number at len)
 
 -- The word that begins a text, or the Header where one may stand.
@@ -48,7 +52,8 @@ word_at preamble at text =
     if preamble && is_header_word (take len text) then token Header at (prefix_len is_no_line_feed text)
     else token Word at len
 
--- The token that begins a text, before which `at` bytes stand, and there only blanks, Headers and Comments where `preamble` holds.
+-- The token that begins a text, before which `at` bytes stand, and there only blanks, Headers and Comments where
+-- `preamble` holds.
 unfoldable pub token_at : Bool → ℕ → List ℕ → Result Token LexErr
 token_at preamble at text =
     let c = first text in
@@ -60,7 +65,8 @@ token_at preamble at text =
     else if c == semicolon then Ok (token Comment at (prefix_len is_no_line_feed text))
     else if c == minus && next == greater then Ok (token Arrow at 2)
     else if c == at_sign then
-    (if is_ascii_hexdigit next then Ok (token Srcloc at (1 + prefix_len is_ascii_hexdigit (drop 1 text))) else Err (BadNumber at))
+    (if is_ascii_hexdigit next
+    then Ok (token Srcloc at (1 + prefix_len is_ascii_hexdigit (drop 1 text))) else Err (BadNumber at))
     else Err (BadChar at)
 
 -- The tokens of the bytes from `at` on, where the token that was taken last ends at `past`.
@@ -69,7 +75,8 @@ unfoldable pub tokens_from : Bool → ℕ → ℕ → List ℕ → Result (List 
 tokens_from preamble past at [] = Ok []
 tokens_from preamble past at (c ∷ cs) =
     if nat_lt at past || is_blank c then tokens_from preamble past (at + 1) cs
-    else token_at preamble at (c ∷ cs) >>= λ t. tokens_from (preamble && is_preamble t.kind) t.end (at + 1) cs >>= λ ts. Ok (t ∷ ts)
+    else token_at preamble at (c ∷ cs) >>= λ t. tokens_from (preamble && is_preamble t.kind) t.end (at + 1) cs
+    >>= λ ts. Ok (t ∷ ts)
 
 -- the tokens of a text, or its first fault
 abbrev pub tokens_of : List ℕ → Result (List Token) LexErr

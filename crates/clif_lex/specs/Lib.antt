@@ -4,5 +4,5 @@ pub mod Spans
 pub mod Lexing
 pub mod Places
 pub mod Spelling
-pub mod Pieces
+pub mod Stretches
 pub mod Faults

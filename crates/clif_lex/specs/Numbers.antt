@@ -1,6 +1,8 @@
 -- What numbers mean: an optional sign, and then decimal digits, or `0x` and hexadecimal digits.
 -- An underscore may stand behind the first digit, and stands for nothing.
-use Rattle.std.specs.Prelude.{ℕ, ◌+◌, ◌*◌, ◌^◌, Bool, not, ◌&&◌, ◌==◌, nat_lt, nat_le, if◌then◌else◌, List, [], ◌∷◌, drop, ℤ, pos, neg_ℤ}
+use Rattle.std.specs.Prelude.{ℕ, ◌+◌, ◌-◌, ◌*◌, ◌^◌, Bool, not, ◌&&◌, ◌==◌, nat_lt, nat_le, if◌then◌else◌, List, []}
+use Rattle.std.specs.Prelude.{◌∷◌, drop, ℤ, pos, neg_ℤ}
+use Rattle.std.specs.Int.RustNames.{int_le}
 use Rattle.std.specs.List.{prefix_len}
 use Rattle.std.specs.Char.{is_ascii_hexdigit, digit_value}
 use Rattle.clif_lex.specs.Bytes.{minus, underscore, is_sign, is_decimal_byte, is_hex_byte, first, second}
@@ -8,7 +10,8 @@ use Rattle.clif_lex.specs.Bytes.{minus, underscore, is_sign, is_decimal_byte, is
 -- the number that digits write after those that wrote n
 abbrev pub amount_after : ℕ → ℕ → List ℕ → ℕ
 amount_after radix n [] = n
-amount_after radix n (c ∷ cs) = if c == underscore then amount_after radix n cs else amount_after radix (n * radix + digit_value c) cs
+amount_after radix n (c ∷ cs) =
+    if c == underscore then amount_after radix n cs else amount_after radix (n * radix + digit_value c) cs
 
 abbrev pub amount : ℕ → List ℕ → ℕ
 amount radix digits = amount_after radix 0 digits
@@ -38,6 +41,10 @@ abbrev pub is_in_range : List ℕ → Bool
 is_in_range text =
     let value = magnitude (unsigned text) in
     if first text == minus then nat_le value (2 ^ 63) else nat_lt value (2 ^ 64)
+
+-- whether it is one of the numbers that a Number of a text spells
+abbrev pub is_wide : ℤ → Bool
+is_wide z = int_le (neg_ℤ (pos (2 ^ 63))) z && int_le z (pos (2 ^ 64 - 1))
 
 -- how many bytes the digits at the front take, with their `0x`
 abbrev pub digits_len : List ℕ → ℕ

@@ -1,6 +1,7 @@
 //! The tokens of a text.
 
-ghost use Rattle.std.specs.Prelude.{◌≡◌, ◌∷◌, ◌&&◌, ◌+◌, ◌<◌, ◌≤◌, ◌^◌, Bool, true, false, drop, length, slice_get, IfSome, IfOk, IfErr};
+ghost use Rattle.std.specs.Prelude.{◌≡◌, ◌∷◌, ◌&&◌, ◌+◌, ◌<◌, ◌≤◌, ◌^◌, Bool, true, false, drop, length, slice_get};
+ghost use Rattle.std.specs.Prelude.{IfSome, IfOk, IfErr};
 ghost use Rattle.std.specs.List.{prefix_len};
 ghost use Rattle.std.specs.Char.{is_ascii_digit, is_ascii_hexdigit};
 ghost use Rattle.clif_lex.specs.Bytes as bytes;
@@ -10,7 +11,7 @@ ghost use Rattle.clif_lex.specs.Spans.{spelling};
 ghost use Rattle.clif_lex.specs.Lexing as spec;
 ghost use Rattle.clif_lex.specs.Lexing.{Gives};
 ghost use Rattle.clif_lex.specs.Spelling.{IsFaultIn, AreIn};
-ghost use Rattle.clif_lex.specs.Pieces.{piece_tokens};
+ghost use Rattle.clif_lex.specs.Stretches.{stretch_tokens};
 
 use crate::bytes::{first, is_blank, is_letter, is_mark, is_sign, is_word_byte, second};
 use crate::faults::LexErr;
@@ -36,7 +37,8 @@ fn word_end(text: &[u8], at: usize) -> usize
 #[inline]
 fn blanks_end(text: &[u8], at: usize) -> usize
     requires { at ≤ length text.now }
-    ensures same { (preamble : Bool) → spec.tokens_from preamble 0 result (drop result text.now) ≡ spec.tokens_from preamble 0 at (drop at text.now) }
+    ensures same { (preamble : Bool) → spec.tokens_from preamble 0 result (drop result text.now)
+        ≡ spec.tokens_from preamble 0 at (drop at text.now) }
     ensures stop { bytes.is_blank (bytes.first (drop result text.now)) ≡ false }
     ensures forward { at ≤ result }
     ensures within { result ≤ length text.now }
@@ -245,22 +247,22 @@ pub fn tokens_between(
 ) -> Result<Tokens, LexErr>
     requires ordered { from ≤ «end» }
     requires within { «end» ≤ length text.now }
-    ensures tokens { Gives result (piece_tokens text.now preamble from «end») }
+    ensures tokens { Gives result (stretch_tokens text.now preamble from «end») }
     ensures spot { IfErr result (IsFaultIn text.now) }
     ensures in_text { IfOk result (AreIn text.now) }
 {
     if text.len() > u32::MAX as usize {
         return Err(LexErr::NoMemory);
     }
-    let piece = &text[..end];
+    let stretch = &text[..end];
     let mut spans = Vec::new(alloc);
     let mut in_preamble = preamble;
-    let mut at = blanks_end(piece, from);
-    'tokens: while at < piece.len() {
-        let token = token_at(in_preamble, piece, at)?;
+    let mut at = blanks_end(stretch, from);
+    'tokens: while at < stretch.len() {
+        let token = token_at(in_preamble, stretch, at)?;
         spans.push(Span::new(token))?;
         in_preamble = stays_preamble(in_preamble, token.kind);
-        at = blanks_end(piece, token.end);
+        at = blanks_end(stretch, token.end);
     }
     Ok(Tokens { spans })
 }

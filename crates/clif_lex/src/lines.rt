@@ -3,7 +3,7 @@
 ghost use Rattle.std.specs.Prelude.{◌≡◌, ◌+◌, ◌<◌, ◌≤◌, ◌==◌, ◌&&◌, ◌⊎◌, ℕ, nat_eq, length, drop, slice_index};
 ghost use Rattle.std.specs.List.{starts_with};
 ghost use Rattle.clif_lex.specs.Bytes.{line_feed};
-ghost use Rattle.clif_lex.specs.Pieces.{IsCut, IsLineWith};
+ghost use Rattle.clif_lex.specs.Stretches.{IsCut, IsLineWith};
 
 /// Whether a line ends with the byte at a place, and the next one begins with these bytes.
 #[inline]

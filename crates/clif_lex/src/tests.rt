@@ -78,7 +78,7 @@ fn reads_numbers(rt: HostRuntime) {
 }
 
 #[test]
-fn reads_pieces(rt: HostRuntime) {
+fn reads_stretches(rt: HostRuntime) {
     for (text, count) in [
         ("test a\n; c\n\n%f -> 0x1_0\n test b\n", 7),
         ("; set c\n set c\n", 2),
@@ -94,10 +94,10 @@ fn reads_pieces(rt: HostRuntime) {
             for _ in 0..text.len() {
                 if from < text.len() {
                     let end = next_line_with(text, from, b"");
-                    let piece = tokens_between(rt.alloc(), text, from, end, preamble);
-                    assert!(rt; piece.is_ok(), "no tokens from {from}");
-                    if let Ok(piece) = piece {
-                        for token in piece.iter() {
+                    let stretch = tokens_between(rt.alloc(), text, from, end, preamble);
+                    assert!(rt; stretch.is_ok(), "no tokens from {from}");
+                    if let Ok(stretch) = stretch {
+                        for token in stretch.iter() {
                             assert!(rt; seen < found.len(), "too many at {from}");
                             if seen < found.len() {
                                 assert!(rt; token == found.get(seen), "another at {from}");

@@ -30,9 +30,9 @@ length_more n lo hi =
     let e = ap (λ (m : ℕ). length (decimal m)) same in
     omega (arith, a, b, c, d, e)
 
--- numbers of 32 bits have ten at most
-pub length_most : (n : ℕ) → n < 2 ^ 32 → length (decimal n) ≤ 10
-length_most n h = length-decimal-le 10 n (omega arith) (omega arith) (omega arith)
+-- numbers of 64 bits have twenty at most
+pub length_most : (n : ℕ) → n < 2 ^ 64 → length (decimal n) ≤ 20
+length_most n h = length-decimal-le 20 n (omega arith) (omega arith) (omega arith)
 
 -- the digits are written behind the bytes that are there
 pub digits_behind : (old new ds : List ℕ) (len end start : ℕ) → start + length ds ≡ end → end ≡ len + length ds → drop start new ≡ ds ++ drop end old → take start new ≡ take start old → take end new ≡ take len old ++ ds

@@ -1,10 +1,5 @@
-pub mod Blocks
 pub mod Digits
-pub mod Left
-pub mod PartsLemmas
-pub mod PlacesLemmas
 pub mod Puts
-pub mod Ranges
 pub mod Results
 pub mod Sinks
 pub mod Types

@@ -48,7 +48,8 @@ pub record Takes (old new : SinkState) (bytes : List ℕ) : Type 0 where
   pub takes : (start : Start) (text : List ℕ) → HasText start old text → HasText start new (text ++ bytes)
 
 -- what the sink has at the end
-pub record Ends {T E : Type 0} (start : Start) (written : Option (List ℕ)) (faults : ℕ) (result : Result T E) (text : List ℕ) : Type 0 where
+pub record Ends {T E : Type 0} (start : Start) (written : Option (List ℕ)) (faults : ℕ) (result : Result T E)
+    (text : List ℕ) : Type 0 where
   pub whole : OnOk result (Appends start.written written text)
   pub part : OnErr result (AppendsPrefix start.written written text)
   pub cause : HasCause start.faults faults result

@@ -1,13 +1,14 @@
 //! Declarations, each on a line.
 ghost use Rattle.std.specs.Prelude.{ℕ, List};
-ghost use Rattle.ir_core.specs.Pieces.{Text, spelled};
-ghost use Rattle.ir_core.specs.Text.{alignment, colocation, slot_line, signature_line, callee_line, declarations};
+ghost use Rattle.ir_text.specs.TextTree.{Text, spelled};
+ghost use Rattle.ir_text.specs.TextDeclarations.{alignment, colocation, slot_line, signature_line, callee_line};
+ghost use Rattle.ir_text.specs.TextDeclarations.{declarations};
 ghost use Rattle.clif_print.specs.Output.{Start, Puts};
 
-use crate::numbers::FuncNumbers;
 use crate::operands::put_signature_reference;
 use crate::output::{Output, put_number};
 use crate::signatures::{put_name, put_signature};
+use clif_numbers::FuncNumbers;
 use ir_core::{Callee, Sig, SlotDecl};
 
 /// What is declared before the blocks.

@@ -3,22 +3,25 @@ ghost use Rattle.std.specs.Prelude.{◌≡◌, ℕ, ◌+◌, ◌<◌, ◌^◌, L
 ghost use Rattle.ir_core.specs.Edits.{params_of, lines_of};
 ghost use Rattle.ir_core.specs.Lists.{In};
 ghost use Rattle.ir_core.specs.Lookup.{block_numbers, definitions, line_definitions};
-ghost use Rattle.ir_core.specs.Numbering.{Numbering, numbering_of};
-ghost use Rattle.ir_core.specs.Pieces.{Text, spelled, more};
-ghost use Rattle.ir_core.specs.Text.{results, line, lines, type_text, block_parameter, block_parameters, block, next_after, more_blocks, blocks, after_declarations, canonical_function};
+ghost use Rattle.ir_text.specs.Numbering.{Numbering, numbering_of};
+ghost use Rattle.ir_text.specs.TextTree.{Text, spelled, more};
+ghost use Rattle.ir_text.specs.Text.{results, line, lines, block_parameter, block_parameters, block, more_blocks};
+ghost use Rattle.ir_text.specs.Text.{blocks, canonical_function};
+ghost use Rattle.ir_text.specs.TextInstructions.{type_text, next_after};
+ghost use Rattle.ir_text.specs.TextDeclarations.{after_declarations};
 ghost use Rattle.ir_core.specs.Viewed.{line_of};
 ghost use Rattle.clif_print.specs.Output.{Start, Puts};
-ghost use Rattle.clif_print.specs.Walk.{block_at, blocks_at};
+ghost use Rattle.clif_numbers.specs.Walk.{block_at, blocks_at};
 
 use crate::declarations::put_declarations;
 use crate::instructions::put_instruction;
 use crate::lists::put_list;
-use crate::numbers::FuncNumbers;
 use crate::operands::{put_block_reference, put_tags, put_value};
 use crate::output::Output;
 use crate::signatures::{put_name, put_signature};
 use crate::suffixes::{shown_suffix, type_of};
 use crate::words::type_word;
+use clif_numbers::FuncNumbers;
 use ir_core::{Block, Blocks, Func, InstData, Ty, Value};
 
 fn put_results<O: Output>(out: &mut O, func: &Func, numbers: &FuncNumbers, defined: &[Value])
@@ -55,7 +58,8 @@ fn put_lines<O: Output>(
     insts: &[InstData],
 ) -> u32
     requires { first + length (line_definitions (map line_of insts.now)) < 2 ^ 32 }
-    ensures text { Puts O.holds out.old out.new (spelled (lines func.now.function numbers.now first (map line_of insts.now))) }
+    ensures text { Puts O.holds out.old out.new
+        (spelled (lines func.now.function numbers.now first (map line_of insts.now))) }
     ensures next { result ≡ first + length (line_definitions (map line_of insts.now)) }
 {
     let mut next = first;
@@ -121,8 +125,10 @@ fn put_block<O: Output>(
     number: Block,
 ) -> u32
     requires there { In number (block_numbers func.now.function.blocks) }
-    requires few { next + length (params_of number func.now.function.blocks) + length (line_definitions (lines_of number func.now.function.blocks)) < 2 ^ 32 }
-    ensures text { Puts O.holds out.old out.new (spelled (block func.now.function numbers.now next (block_at func.now.function.blocks number))) }
+    requires few { next + length (params_of number func.now.function.blocks)
+        + length (line_definitions (lines_of number func.now.function.blocks)) < 2 ^ 32 }
+    ensures text { Puts O.holds out.old out.new
+        (spelled (block func.now.function numbers.now next (block_at func.now.function.blocks number))) }
     ensures next { result ≡ next_after next (block_at func.now.function.blocks number) }
 {
     let params = func.params(number);
@@ -148,7 +154,8 @@ fn put_more_blocks<O: Output>(
 )
     requires there { (n : ℕ) → In n order → In n (block_numbers func.now.function.blocks) }
     requires few { first + length (definitions (blocks_at func.now.function.blocks order)) < 2 ^ 32 }
-    ensures { Puts O.holds out.old out.new (spelled (more_blocks func.now.function numbers.now first (blocks_at func.now.function.blocks order.entry))) }
+    ensures { Puts O.holds out.old out.new
+        (spelled (more_blocks func.now.function numbers.now first (blocks_at func.now.function.blocks order.entry))) }
 {
     let mut next = first;
     for number in order {
@@ -177,7 +184,7 @@ fn put_gap<O: Output>(out: &mut O, func: &Func)
 }
 
 /// Puts a function, whose numbers these are.
-pub(crate) fn put_function<O: Output>(out: &mut O, func: &Func, numbers: &FuncNumbers)
+pub fn put_function<O: Output>(out: &mut O, func: &Func, numbers: &FuncNumbers)
     requires { numbers.now ≡ numbering_of func.now.function }
     ensures { Puts O.holds out.old out.new (spelled (canonical_function func.now.function)) }
 {

@@ -1,32 +1,36 @@
 //! Instructions, by their forms.
 ghost use Rattle.std.specs.Prelude.{ℕ, List};
-ghost use Rattle.ir_core.specs.Numbering.{Numbering};
-ghost use Rattle.ir_core.specs.Pieces.{Text, spelled, comma, ◌▹◌};
-ghost use Rattle.ir_core.specs.Text.{instruction, value, address, slot_address, signature_reference, target, exception_table, op_suffix, condition, extending_suffix, load_opcode, store_opcode};
+ghost use Rattle.ir_text.specs.Numbering.{Numbering};
+ghost use Rattle.ir_text.specs.TextTree.{Text, spelled, comma, ◌▹◌};
+ghost use Rattle.ir_text.specs.TextInstructions.{instruction, value, address, slot_address, op_suffix, condition};
+ghost use Rattle.ir_text.specs.TextInstructions.{suffix_but_i64};
+ghost use Rattle.ir_text.specs.TextInstructions.{extending_suffix, load_opcode, store_opcode};
 ghost use Rattle.ir_core.specs.Viewed.{instruction_of};
 ghost use Rattle.ir_core.specs.declared.instructions.Inst.TheVariants as form;
 ghost use Rattle.clif_print.specs.Output.{Start, Puts};
 
-use crate::numbers::FuncNumbers;
+use crate::control::{
+    put_br_table, put_brif, put_call, put_call_indirect, put_jump, put_return, put_return_call,
+    put_return_call_indirect, put_trap, put_trapnz, put_trapz, put_try_call, put_try_call_indirect,
+};
 use crate::operands::{
-    put_address, put_call_arguments, put_callee_reference, put_constant, put_exception_table,
-    put_flags, put_operands, put_signature_reference, put_slot_address, put_suffix, put_suffix_if,
-    put_target, put_target_list, put_trap_code, put_value,
+    put_address, put_callee_reference, put_constant, put_flags, put_operands, put_slot_address,
+    put_suffix, put_suffix_if, put_value,
 };
 use crate::output::{Output, put_numbered};
-use crate::words::{condition_word, op_word, type_of_width};
-use clk_num::{Bits, Op, TrapCode};
-use exn_tables::Table;
-use ir_core::{Access, BlockCall, Flags, FuncRef, Inst, List, SigRef, Slot, Ty, Value, Values};
+use crate::words::{condition_word, op_word, ty_of};
+use clif_numbers::FuncNumbers;
+use clk_num::{Bits, Op};
+use ir_core::{Access, Flags, FuncRef, Inst, Slot, Ty, Value};
 
 /// Puts the suffix of an operation.
 fn put_op_suffix<O: Output>(out: &mut O, op: Op, suffix: Option<Ty>)
     ensures { Puts O.holds out.old out.new (spelled (op_suffix op suffix)) }
 {
     match op {
-        Op::Uextend(width) => put_suffix(out, type_of_width(width)),
-        Op::Sextend(width) => put_suffix(out, type_of_width(width)),
-        Op::Ireduce(width) => put_suffix(out, type_of_width(width)),
+        Op::Uextend(width) => put_suffix(out, ty_of(width)),
+        Op::Sextend(width) => put_suffix(out, ty_of(width)),
+        Op::Ireduce(width) => put_suffix(out, ty_of(width)),
         _ => put_suffix_if(out, suffix),
     }
 }
@@ -42,10 +46,11 @@ fn put_condition<O: Output>(out: &mut O, op: Op)
 }
 
 fn put_const<O: Output>(out: &mut O, numbers: &FuncNumbers, suffix: Option<Ty>, bits: &Bits)
-    ensures { Puts O.holds out.old out.new (spelled (instruction numbers.now suffix (instruction_of (form.Const bits.now)))) }
+    ensures { Puts O.holds out.old out.new
+        (spelled (instruction numbers.now suffix (instruction_of (form.Const bits.now)))) }
 {
     out.put(b"iconst");
-    put_suffix(out, type_of_width(bits.width()));
+    put_suffix(out, ty_of(bits.width()));
     out.put(b" ");
     put_constant(out, bits);
 }
@@ -57,7 +62,8 @@ fn put_pure<O: Output>(
     op: Op,
     args: &[Value],
 )
-    ensures { Puts O.holds out.old out.new (spelled (instruction numbers.now suffix (instruction_of (form.Pure op args.now)))) }
+    ensures { Puts O.holds out.old out.new
+        (spelled (instruction numbers.now suffix (instruction_of (form.Pure op args.now)))) }
 {
     out.put(op_word(op));
     put_op_suffix(out, op, suffix);
@@ -73,7 +79,8 @@ fn put_pure_imm<O: Output>(
     arg: Value,
     imm: &Bits,
 )
-    ensures { Puts O.holds out.old out.new (spelled (instruction numbers.now suffix (instruction_of (form.PureImm op arg imm.now)))) }
+    ensures { Puts O.holds out.old out.new
+        (spelled (instruction numbers.now suffix (instruction_of (form.PureImm op arg imm.now)))) }
 {
     out.put(op_word(op));
     out.put(b"_imm");
@@ -85,18 +92,30 @@ fn put_pure_imm<O: Output>(
     put_constant(out, imm);
 }
 
-/// Puts the suffix of a load that extends.
-fn put_extending_suffix<O: Output>(out: &mut O, ty: Ty, bytes: u8)
-    ensures { Puts O.holds out.old out.new (spelled (extending_suffix ty bytes)) }
+/// Puts a suffix, but for that of i64.
+fn put_suffix_but_i64<O: Output>(out: &mut O, suffix: Option<Ty>)
+    ensures { Puts O.holds out.old out.new (spelled (suffix_but_i64 suffix)) }
 {
-    if bytes == 4 && matches!(ty, Ty::I64) {
-        return;
+    match suffix {
+        None => {}
+        Some(Ty::I64) => {}
+        Some(ty) => put_suffix(out, ty),
     }
-    put_suffix(out, ty);
 }
 
-fn put_load_opcode<O: Output>(out: &mut O, access: Access)
-    ensures { Puts O.holds out.old out.new (spelled (load_opcode access)) }
+/// Puts the suffix of a load that extends: of 4 bytes that of the instruction, else the type of its result.
+fn put_extending_suffix<O: Output>(out: &mut O, suffix: Option<Ty>, ty: Ty, bytes: u8)
+    ensures { Puts O.holds out.old out.new (spelled (extending_suffix suffix ty bytes)) }
+{
+    if bytes == 4 {
+        put_suffix_but_i64(out, suffix);
+    } else {
+        put_suffix(out, ty);
+    }
+}
+
+fn put_load_opcode<O: Output>(out: &mut O, suffix: Option<Ty>, access: Access)
+    ensures { Puts O.holds out.old out.new (spelled (load_opcode suffix access)) }
 {
     match access {
         Access::Full(ty) => {
@@ -105,11 +124,11 @@ fn put_load_opcode<O: Output>(out: &mut O, access: Access)
         }
         Access::Uload(ty, bytes) => {
             put_numbered(out, b"uload", 8 * u32::from(bytes));
-            put_extending_suffix(out, ty, bytes);
+            put_extending_suffix(out, suffix, ty, bytes);
         }
         Access::Sload(ty, bytes) => {
             put_numbered(out, b"sload", 8 * u32::from(bytes));
-            put_extending_suffix(out, ty, bytes);
+            put_extending_suffix(out, suffix, ty, bytes);
         }
     }
 }
@@ -123,9 +142,10 @@ fn put_load<O: Output>(
     address: Value,
     offset: i32,
 )
-    ensures { Puts O.holds out.old out.new (spelled (instruction numbers.now suffix (instruction_of (form.Load access flags.now address offset)))) }
+    ensures { Puts O.holds out.old out.new
+        (spelled (instruction numbers.now suffix (instruction_of (form.Load access flags.now address offset)))) }
 {
-    put_load_opcode(out, access);
+    put_load_opcode(out, suffix, access);
     out.put(b" ");
     put_flags(out, flags);
     put_address(out, numbers, address, offset);
@@ -150,7 +170,8 @@ fn put_store<O: Output>(
     address: Value,
     offset: i32,
 )
-    ensures { Puts O.holds out.old out.new (spelled (instruction numbers.now suffix (instruction_of (form.Store narrow flags.now value address offset)))) }
+    ensures { Puts O.holds out.old out.new
+        (spelled (instruction numbers.now suffix (instruction_of (form.Store narrow flags.now value address offset)))) }
 {
     put_store_opcode(out, narrow);
     put_suffix_if(out, suffix);
@@ -167,7 +188,8 @@ fn put_stored<O: Output>(
     base: Value,
     offset: i32,
 )
-    ensures { Puts O.holds out.old out.new (spelled (value numbers.now stored ▹ comma ▹ address numbers.now base offset)) }
+    ensures { Puts O.holds out.old out.new
+        (spelled (value numbers.now stored ▹ comma ▹ address numbers.now base offset)) }
 {
     put_value(out, numbers, stored);
     out.put(b", ");
@@ -197,7 +219,8 @@ fn put_stack_load<O: Output>(
     slot: Slot,
     offset: i32,
 )
-    ensures { Puts O.holds out.old out.new (spelled (instruction numbers.now suffix (instruction_of (form.StackLoad ty slot offset)))) }
+    ensures { Puts O.holds out.old out.new
+        (spelled (instruction numbers.now suffix (instruction_of (form.StackLoad ty slot offset)))) }
 {
     out.put(b"stack_load");
     put_suffix(out, ty);
@@ -213,7 +236,8 @@ fn put_stack_store<O: Output>(
     slot: Slot,
     offset: i32,
 )
-    ensures { Puts O.holds out.old out.new (spelled (instruction numbers.now suffix (instruction_of (form.StackStore value slot offset)))) }
+    ensures { Puts O.holds out.old out.new
+        (spelled (instruction numbers.now suffix (instruction_of (form.StackStore value slot offset)))) }
 {
     out.put(b"stack_store");
     put_suffix_if(out, suffix);
@@ -222,219 +246,11 @@ fn put_stack_store<O: Output>(
 }
 
 fn put_func_addr<O: Output>(out: &mut O, numbers: &FuncNumbers, suffix: Option<Ty>, callee: FuncRef)
-    ensures { Puts O.holds out.old out.new (spelled (instruction numbers.now suffix (instruction_of (form.FuncAddr callee)))) }
+    ensures { Puts O.holds out.old out.new
+        (spelled (instruction numbers.now suffix (instruction_of (form.FuncAddr callee)))) }
 {
     out.put(b"func_addr.i64 ");
     put_callee_reference(out, callee);
-}
-
-fn put_jump<O: Output>(out: &mut O, numbers: &FuncNumbers, suffix: Option<Ty>, to: &BlockCall)
-    ensures { Puts O.holds out.old out.new (spelled (instruction numbers.now suffix (instruction_of (form.Jump to.now)))) }
-{
-    out.put(b"jump ");
-    put_target(out, numbers, to);
-}
-
-fn put_brif<O: Output>(
-    out: &mut O,
-    numbers: &FuncNumbers,
-    suffix: Option<Ty>,
-    cond: Value,
-    yes: &BlockCall,
-    no: &BlockCall,
-)
-    ensures { Puts O.holds out.old out.new (spelled (instruction numbers.now suffix (instruction_of (form.Brif cond yes.now no.now)))) }
-{
-    out.put(b"brif");
-    put_suffix_if(out, suffix);
-    out.put(b" ");
-    put_value(out, numbers, cond);
-    out.put(b", ");
-    put_target(out, numbers, yes);
-    out.put(b", ");
-    put_target(out, numbers, no);
-}
-
-fn put_br_table<O: Output>(
-    out: &mut O,
-    numbers: &FuncNumbers,
-    suffix: Option<Ty>,
-    index: Value,
-    default: &BlockCall,
-    entries: &List<BlockCall>,
-)
-    ensures { Puts O.holds out.old out.new (spelled (instruction numbers.now suffix (instruction_of (form.BrTable index default.now entries.now)))) }
-{
-    out.put(b"br_table ");
-    put_value(out, numbers, index);
-    out.put(b", ");
-    put_target(out, numbers, default);
-    out.put(b", ");
-    put_target_list(out, numbers, entries.as_slice());
-}
-
-fn put_return<O: Output>(out: &mut O, numbers: &FuncNumbers, suffix: Option<Ty>, values: &Values)
-    ensures { Puts O.holds out.old out.new (spelled (instruction numbers.now suffix (instruction_of (form.Return values.now)))) }
-{
-    out.put(b"return");
-    put_operands(out, numbers, values.as_slice());
-}
-
-fn put_trap<O: Output>(out: &mut O, numbers: &FuncNumbers, suffix: Option<Ty>, code: TrapCode)
-    ensures { Puts O.holds out.old out.new (spelled (instruction numbers.now suffix (instruction_of (form.Trap code)))) }
-{
-    out.put(b"trap ");
-    put_trap_code(out, code);
-}
-
-fn put_trapz<O: Output>(
-    out: &mut O,
-    numbers: &FuncNumbers,
-    suffix: Option<Ty>,
-    cond: Value,
-    code: TrapCode,
-)
-    ensures { Puts O.holds out.old out.new (spelled (instruction numbers.now suffix (instruction_of (form.Trapz cond code)))) }
-{
-    out.put(b"trapz");
-    put_suffix_if(out, suffix);
-    out.put(b" ");
-    put_value(out, numbers, cond);
-    out.put(b", ");
-    put_trap_code(out, code);
-}
-
-fn put_trapnz<O: Output>(
-    out: &mut O,
-    numbers: &FuncNumbers,
-    suffix: Option<Ty>,
-    cond: Value,
-    code: TrapCode,
-)
-    ensures { Puts O.holds out.old out.new (spelled (instruction numbers.now suffix (instruction_of (form.Trapnz cond code)))) }
-{
-    out.put(b"trapnz");
-    put_suffix_if(out, suffix);
-    out.put(b" ");
-    put_value(out, numbers, cond);
-    out.put(b", ");
-    put_trap_code(out, code);
-}
-
-fn put_call<O: Output>(
-    out: &mut O,
-    numbers: &FuncNumbers,
-    suffix: Option<Ty>,
-    callee: FuncRef,
-    args: &Values,
-)
-    ensures { Puts O.holds out.old out.new (spelled (instruction numbers.now suffix (instruction_of (form.Call callee args.now)))) }
-{
-    out.put(b"call ");
-    put_callee_reference(out, callee);
-    put_call_arguments(out, numbers, args.as_slice());
-}
-
-fn put_return_call<O: Output>(
-    out: &mut O,
-    numbers: &FuncNumbers,
-    suffix: Option<Ty>,
-    callee: FuncRef,
-    args: &Values,
-)
-    ensures { Puts O.holds out.old out.new (spelled (instruction numbers.now suffix (instruction_of (form.ReturnCall callee args.now)))) }
-{
-    out.put(b"return_call ");
-    put_callee_reference(out, callee);
-    put_call_arguments(out, numbers, args.as_slice());
-}
-
-fn put_call_indirect<O: Output>(
-    out: &mut O,
-    numbers: &FuncNumbers,
-    suffix: Option<Ty>,
-    sig: SigRef,
-    address: Value,
-    args: &Values,
-)
-    ensures { Puts O.holds out.old out.new (spelled (instruction numbers.now suffix (instruction_of (form.CallIndirect sig address args.now)))) }
-{
-    out.put(b"call_indirect ");
-    put_signature_reference(out, sig);
-    out.put(b", ");
-    put_value(out, numbers, address);
-    put_call_arguments(out, numbers, args.as_slice());
-}
-
-fn put_return_call_indirect<O: Output>(
-    out: &mut O,
-    numbers: &FuncNumbers,
-    suffix: Option<Ty>,
-    sig: SigRef,
-    address: Value,
-    args: &Values,
-)
-    ensures { Puts O.holds out.old out.new (spelled (instruction numbers.now suffix (instruction_of (form.ReturnCallIndirect sig address args.now)))) }
-{
-    out.put(b"return_call_indirect ");
-    put_signature_reference(out, sig);
-    out.put(b", ");
-    put_value(out, numbers, address);
-    put_call_arguments(out, numbers, args.as_slice());
-}
-
-/// Puts what stands behind the arguments of a call with an exception table.
-fn put_outcomes<O: Output>(
-    out: &mut O,
-    numbers: &FuncNumbers,
-    sig: SigRef,
-    normal: &BlockCall,
-    table: &Table<BlockCall>,
-)
-    ensures { Puts O.holds out.old out.new (spelled (comma ▹ signature_reference sig ▹ comma ▹ target numbers.now normal.now ▹ comma ▹ exception_table numbers.now table.now)) }
-{
-    out.put(b", ");
-    put_signature_reference(out, sig);
-    out.put(b", ");
-    put_target(out, numbers, normal);
-    out.put(b", ");
-    put_exception_table(out, numbers, table.entries());
-}
-
-fn put_try_call<O: Output>(
-    out: &mut O,
-    numbers: &FuncNumbers,
-    suffix: Option<Ty>,
-    callee: FuncRef,
-    sig: SigRef,
-    args: &Values,
-    normal: &BlockCall,
-    table: &Table<BlockCall>,
-)
-    ensures { Puts O.holds out.old out.new (spelled (instruction numbers.now suffix (instruction_of (form.TryCall callee sig args.now normal.now table.now)))) }
-{
-    out.put(b"try_call ");
-    put_callee_reference(out, callee);
-    put_call_arguments(out, numbers, args.as_slice());
-    put_outcomes(out, numbers, sig, normal, table);
-}
-
-fn put_try_call_indirect<O: Output>(
-    out: &mut O,
-    numbers: &FuncNumbers,
-    suffix: Option<Ty>,
-    sig: SigRef,
-    address: Value,
-    args: &Values,
-    normal: &BlockCall,
-    table: &Table<BlockCall>,
-)
-    ensures { Puts O.holds out.old out.new (spelled (instruction numbers.now suffix (instruction_of (form.TryCallIndirect sig address args.now normal.now table.now)))) }
-{
-    out.put(b"try_call_indirect ");
-    put_value(out, numbers, address);
-    put_call_arguments(out, numbers, args.as_slice());
-    put_outcomes(out, numbers, sig, normal, table);
 }
 
 /// Puts an instruction. `suffix` is the suffix that is printed where the form may leave it out.

@@ -1,28 +1,24 @@
-//! Canonical text: the numbers of values and blocks, and the text of a module.
+//! Canonical text: the text of a module and of a function, and where it goes.
 #![tactic(auto)]
 
-mod cuts;
+mod control;
 mod declarations;
 mod functions;
 mod instructions;
-mod law;
+pub mod laws;
 mod lists;
-mod numbers;
 mod operands;
 mod output;
-mod parts;
-mod places;
 mod plain_outputs;
 mod signatures;
 mod sink_output;
 mod suffixes;
-#[cfg(test)]
-mod tests;
 mod text;
 mod waiting;
 mod words;
 
-pub use law::worked_texts;
-pub use numbers::{Numbers, numbering};
-pub use parts::{PrintErr, print_with};
+pub use functions::put_function;
+pub use output::Output;
+pub use plain_outputs::MemoryOutput;
+pub use sink_output::SinkOutput;
 pub use text::{func_text, print, text_len};

@@ -1,11 +1,11 @@
 //! Lists of things with commas between them, and declarations on lines of their own.
 ghost use Rattle.std.specs.Prelude.{ℕ, List};
-ghost use Rattle.ir_core.specs.Numbering.{Numbering};
-ghost use Rattle.ir_core.specs.Pieces.{Text, spelled, more, separated, in_parentheses, in_brackets};
+ghost use Rattle.ir_text.specs.Numbering.{Numbering};
+ghost use Rattle.ir_text.specs.TextTree.{Text, spelled, more, separated, in_parentheses, in_brackets};
 ghost use Rattle.clif_print.specs.Output.{Start, Puts};
 
-use crate::numbers::FuncNumbers;
 use crate::output::Output;
+use clif_numbers::FuncNumbers;
 
 /// What stands in lists.
 pub(crate) trait Item {

@@ -1,15 +1,19 @@
 //! Operands of instructions.
 ghost use Rattle.std.specs.Prelude.{ℕ, List, ◌*◌};
 ghost use Rattle.clk_num.specs.Views.{data_of};
-ghost use Rattle.ir_core.specs.Numbering.{Numbering};
-ghost use Rattle.ir_core.specs.Pieces.{Text, spelled, in_brackets, separated};
-ghost use Rattle.ir_core.specs.Text.{value, block_reference, argument, target_arguments, target, entry_tag, entry, exception_table, operands, call_arguments, debug_tag, debug_tags, suffix, suffix_if, constant, signature_reference, callee_reference, trap_code, flag, flags, offset_text, slot_address, address};
+ghost use Rattle.ir_text.specs.Numbering.{Numbering};
+ghost use Rattle.ir_text.specs.TextTree.{Text, spelled, in_brackets, separated};
+ghost use Rattle.ir_text.specs.TextInstructions.{value, block_reference, argument, target_arguments, target, entry_tag};
+ghost use Rattle.ir_text.specs.TextInstructions.{entry, exception_table, operands, call_arguments, debug_tag};
+ghost use Rattle.ir_text.specs.TextInstructions.{debug_tags, suffix, suffix_if, constant, signature_reference};
+ghost use Rattle.ir_text.specs.TextInstructions.{callee_reference, trap_code, flag, flags, offset_text, slot_address};
+ghost use Rattle.ir_text.specs.TextInstructions.{address};
 ghost use Rattle.clif_print.specs.Output.{Start, Puts};
 
 use crate::lists::{Item, put_in_parentheses, put_list};
-use crate::numbers::FuncNumbers;
 use crate::output::{Output, put_number, put_numbered};
 use crate::words::type_word;
+use clif_numbers::FuncNumbers;
 use clk_num::{Bits, TrapCode};
 use debug_tags::Tag;
 use exn_tables::Entry;
@@ -27,7 +31,8 @@ pub(crate) fn put_value<O: Output>(out: &mut O, numbers: &FuncNumbers, number: V
 pub(crate) fn put_block_reference<O: Output>(out: &mut O, numbers: &FuncNumbers, block: Block)
     ensures { Puts O.holds out.old out.new (spelled (block_reference numbers.now block)) }
 {
-    put_numbered(out, b"block", numbers.block(block));
+    out.put(b"block");
+    out.put_digits(numbers.block(block));
 }
 
 /// Puts a signature's word.

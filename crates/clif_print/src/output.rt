@@ -6,7 +6,7 @@ ghost use Rattle.clif_print.specs.Output.{Start, Puts};
 use itoa::Integer;
 
 /// What takes a text piece by piece. A failure shows at the end alone: what comes behind it is dropped.
-pub(crate) trait Output {
+pub trait Output {
     /// From this start on the output has taken this text.
     ghost holds: { Start → Self → List ℕ → Type 0 };
 
@@ -15,7 +15,7 @@ pub(crate) trait Output {
         ensures { Puts holds self.old self.new bytes.now };
 
     /// Takes the digits of the number.
-    fn put_digits(&mut self, number: u32)
+    fn put_digits(&mut self, number: u64)
         ensures { Puts holds self.old self.new (decimal number) }
     {
         self.put(itoa::Buffer::new().format(number).as_bytes());
@@ -34,5 +34,5 @@ pub(crate) fn put_numbered<O: Output>(out: &mut O, word: &[u8], number: u32)
     ensures { Puts O.holds out.old out.new (word.now ++ decimal number) }
 {
     out.put(word);
-    out.put_digits(number);
+    out.put_digits(u64::from(number));
 }

@@ -9,7 +9,7 @@ use std::alloc::{AllocError, Global};
 /// A text in memory, and bytes that wait until there are enough to append them. Once there is no memory, what comes is
 /// dropped.
 #[derive(Drop)]
-pub(crate) struct MemoryOutput {
+pub struct MemoryOutput {
     text: Vec<u8>,
     waiting: Waiting,
     refused: bool,
@@ -17,7 +17,7 @@ pub(crate) struct MemoryOutput {
 
 impl MemoryOutput {
     /// The output that took nothing.
-    pub(crate) fn new(alloc: Global) -> MemoryOutput
+    pub fn new(alloc: Global) -> MemoryOutput
         ensures { result.text.items ++ result.waiting ≡ [] }
     {
         MemoryOutput {
@@ -30,7 +30,8 @@ impl MemoryOutput {
     /// Appends what waits to the text.
     fn flush(&mut self)
         ensures empty { self.new.waiting ≡ [] }
-        ensures text { self.new.refused ≡ false → (self.old.refused ≡ false) × (self.new.text.items ≡ self.old.text.items ++ self.old.waiting) }
+        ensures text { self.new.refused ≡ false → (self.old.refused ≡ false)
+            × (self.new.text.items ≡ self.old.text.items ++ self.old.waiting) }
     {
         if !self.refused {
             self.refused = self.text.extend_from_slice(self.waiting.text()).is_err();
@@ -41,7 +42,9 @@ impl MemoryOutput {
     /// Takes bytes that have no room behind those that wait.
     #[inline(never)]
     fn put_behind(&mut self, bytes: &[u8])
-        ensures { self.new.refused ≡ false → (self.old.refused ≡ false) × (self.new.text.items ++ self.new.waiting ≡ (self.old.text.items ++ self.old.waiting) ++ bytes.now) }
+        ensures { self.new.refused ≡ false
+            → (self.old.refused ≡ false)
+            × (self.new.text.items ++ self.new.waiting ≡ (self.old.text.items ++ self.old.waiting) ++ bytes.now) }
     {
         self.flush();
         if self.waiting.has_room(bytes.len()) {
@@ -52,7 +55,7 @@ impl MemoryOutput {
     }
 
     /// The whole text, if memory was enough.
-    pub(crate) fn finish(mut self) -> Result<Vec<u8>, AllocError>
+    pub fn finish(mut self) -> Result<Vec<u8>, AllocError>
         ensures { IfOk result (λ text. (self.refused ≡ false) × (text.items ≡ self.text.items ++ self.waiting)) }
     {
         self.flush();
@@ -73,7 +76,7 @@ impl Output for MemoryOutput {
         }
     }
 
-    fn put_digits(&mut self, number: u32) {
+    fn put_digits(&mut self, number: u64) {
         if self.waiting.has_room(MOST_DIGITS) {
             self.waiting.append_digits(number);
         } else {

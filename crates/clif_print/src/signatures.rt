@@ -1,14 +1,15 @@
 //! Names, signatures and declarations.
 ghost use Rattle.std.specs.Prelude.{ℕ, List};
-ghost use Rattle.ir_core.specs.Numbering.{Numbering};
-ghost use Rattle.ir_core.specs.Pieces.{Text, spelled};
-ghost use Rattle.ir_core.specs.Text.{function_name, extension, purpose_text, parameter, signature_results, signature};
+ghost use Rattle.ir_text.specs.Numbering.{Numbering};
+ghost use Rattle.ir_text.specs.TextTree.{Text, spelled};
+ghost use Rattle.ir_text.specs.TextDeclarations.{function_name, extension, purpose_text, parameter, signature_results};
+ghost use Rattle.ir_text.specs.TextDeclarations.{signature};
 ghost use Rattle.clif_print.specs.Output.{Start, Puts};
 
 use crate::lists::{Item, put_in_parentheses, put_list};
-use crate::numbers::FuncNumbers;
 use crate::output::{Output, put_number, put_numbered};
 use crate::words::{convention_word, type_word};
+use clif_numbers::FuncNumbers;
 use ir_core::{Ext, FuncName, Param, Purpose, Sig};
 
 /// Puts the name of a function.

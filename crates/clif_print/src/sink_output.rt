@@ -8,7 +8,7 @@ use clk_flow::{Failed, Sink};
 
 /// A sink, and bytes that wait until there are enough. After a failure nothing more is given to the sink.
 #[derive(Drop)]
-pub(crate) struct SinkOutput<'a, K> {
+pub struct SinkOutput<'a, K> {
     sink: &'a mut K,
     waiting: Waiting,
     failed: bool,
@@ -16,9 +16,17 @@ pub(crate) struct SinkOutput<'a, K> {
 
 impl<'a, K: Sink> SinkOutput<'a, K> {
     /// An output into this sink, which took nothing.
-    pub(crate) fn new(sink: &'a mut K) -> SinkOutput<'a, K>
+    pub fn new(sink: &'a mut K) -> SinkOutput<'a, K>
         ensures same { result.sink.ghost_name ≡ sink.entry.ghost_name }
-        ensures text { HasText (record { name = sink.entry.ghost_name; written = K.written sink.old; faults = K.faults sink.old }) (record { name = result.sink.ghost_name; written = K.written result.sink.now; faults = K.faults result.sink.now; waiting = result.waiting; failed = result.failed }) [] }
+        ensures text { HasText
+            (record { name = sink.entry.ghost_name; written = K.written sink.old; faults = K.faults sink.old })
+            (record {
+              name = result.sink.ghost_name;
+              written = K.written result.sink.now;
+              faults = K.faults result.sink.now;
+              waiting = result.waiting;
+              failed = result.failed;
+            }) [] }
     {
         SinkOutput {
             sink,
@@ -32,8 +40,20 @@ impl<'a, K: Sink> SinkOutput<'a, K> {
         requires { self.old.waiting ≡ [] }
         ensures same { self.new.sink.ghost_name ≡ self.old.sink.ghost_name }
         ensures empty { self.new.waiting ≡ [] }
-        ensures takes { Takes (record { name = self.old.sink.ghost_name; written = K.written self.old.sink.now; faults = K.faults self.old.sink.now; waiting = self.old.waiting; failed = self.old.failed })
-            (record { name = self.new.sink.ghost_name; written = K.written self.new.sink.now; faults = K.faults self.new.sink.now; waiting = self.new.waiting; failed = self.new.failed }) bytes.now }
+        ensures takes { Takes (record {
+          name = self.old.sink.ghost_name;
+          written = K.written self.old.sink.now;
+          faults = K.faults self.old.sink.now;
+          waiting = self.old.waiting;
+          failed = self.old.failed;
+        })
+            (record {
+              name = self.new.sink.ghost_name;
+              written = K.written self.new.sink.now;
+              faults = K.faults self.new.sink.now;
+              waiting = self.new.waiting;
+              failed = self.new.failed;
+            }) bytes.now }
     {
         if self.failed {
             return;
@@ -45,8 +65,20 @@ impl<'a, K: Sink> SinkOutput<'a, K> {
     fn flush(&mut self)
         ensures same { self.new.sink.ghost_name ≡ self.old.sink.ghost_name }
         ensures empty { self.new.waiting ≡ [] }
-        ensures takes { Takes (record { name = self.old.sink.ghost_name; written = K.written self.old.sink.now; faults = K.faults self.old.sink.now; waiting = self.old.waiting; failed = self.old.failed })
-            (record { name = self.new.sink.ghost_name; written = K.written self.new.sink.now; faults = K.faults self.new.sink.now; waiting = self.new.waiting; failed = self.new.failed }) [] }
+        ensures takes { Takes (record {
+          name = self.old.sink.ghost_name;
+          written = K.written self.old.sink.now;
+          faults = K.faults self.old.sink.now;
+          waiting = self.old.waiting;
+          failed = self.old.failed;
+        })
+            (record {
+              name = self.new.sink.ghost_name;
+              written = K.written self.new.sink.now;
+              faults = K.faults self.new.sink.now;
+              waiting = self.new.waiting;
+              failed = self.new.failed;
+            }) [] }
     {
         if self.failed {
             self.waiting.clear();
@@ -60,8 +92,20 @@ impl<'a, K: Sink> SinkOutput<'a, K> {
     #[inline(never)]
     fn put_behind(&mut self, bytes: &[u8])
         ensures same { self.new.sink.ghost_name ≡ self.old.sink.ghost_name }
-        ensures takes { Takes (record { name = self.old.sink.ghost_name; written = K.written self.old.sink.now; faults = K.faults self.old.sink.now; waiting = self.old.waiting; failed = self.old.failed })
-            (record { name = self.new.sink.ghost_name; written = K.written self.new.sink.now; faults = K.faults self.new.sink.now; waiting = self.new.waiting; failed = self.new.failed }) bytes.now }
+        ensures takes { Takes (record {
+          name = self.old.sink.ghost_name;
+          written = K.written self.old.sink.now;
+          faults = K.faults self.old.sink.now;
+          waiting = self.old.waiting;
+          failed = self.old.failed;
+        })
+            (record {
+              name = self.new.sink.ghost_name;
+              written = K.written self.new.sink.now;
+              faults = K.faults self.new.sink.now;
+              waiting = self.new.waiting;
+              failed = self.new.failed;
+            }) bytes.now }
     {
         self.flush();
         if self.waiting.has_room(bytes.len()) {
@@ -72,9 +116,17 @@ impl<'a, K: Sink> SinkOutput<'a, K> {
     }
 
     /// Gives what waits to the sink, and says whether all was given.
-    pub(crate) fn finish(&mut self) -> Result<(), Failed>
+    pub fn finish(&mut self) -> Result<(), Failed>
         ensures same { self.new.sink.ghost_name ≡ self.old.sink.ghost_name }
-        ensures ends { (start : Start) (text : List ℕ) → HasText start (record { name = self.old.sink.ghost_name; written = K.written self.old.sink.now; faults = K.faults self.old.sink.now; waiting = self.old.waiting; failed = self.old.failed }) text
+        ensures ends { (start : Start) (text : List ℕ)
+            → HasText start
+            (record {
+              name = self.old.sink.ghost_name;
+              written = K.written self.old.sink.now;
+              faults = K.faults self.old.sink.now;
+              waiting = self.old.waiting;
+              failed = self.old.failed;
+            }) text
             → Ends start (K.written self.new.sink.now) (K.faults self.new.sink.now) result text }
     {
         self.flush();
@@ -83,7 +135,14 @@ impl<'a, K: Sink> SinkOutput<'a, K> {
 }
 
 impl<'a, K: Sink> Output for SinkOutput<'a, K> {
-    ghost holds = { λ start w text. HasText start (record { name = w.sink.ghost_name; written = K.written w.sink.now; faults = K.faults w.sink.now; waiting = w.waiting; failed = w.failed }) text };
+    ghost holds = { λ start w text. HasText start
+        (record {
+          name = w.sink.ghost_name;
+          written = K.written w.sink.now;
+          faults = K.faults w.sink.now;
+          waiting = w.waiting;
+          failed = w.failed;
+        }) text };
 
     #[inline(always)]
     fn put(&mut self, bytes: &[u8]) {
@@ -94,7 +153,7 @@ impl<'a, K: Sink> Output for SinkOutput<'a, K> {
         }
     }
 
-    fn put_digits(&mut self, number: u32) {
+    fn put_digits(&mut self, number: u64) {
         if self.waiting.has_room(MOST_DIGITS) {
             self.waiting.append_digits(number);
         } else {

@@ -1,11 +1,13 @@
 //! Which suffix an opcode is printed with.
 ghost use Rattle.std.specs.Prelude.{◌≡◌, ℕ, ◌<◌, List, Option};
 ghost use Rattle.ir_core.specs.Lookup.{type_of};
-ghost use Rattle.ir_core.specs.Numbering.{Numbering};
-ghost use Rattle.ir_core.specs.Text.{has_type, same_type, is_known, shown_suffix, typing_operand, op_operand, first_value, second_value};
+ghost use Rattle.ir_text.specs.Numbering.{Numbering};
+ghost use Rattle.ir_text.specs.TextInstructions.{has_type, is_known, shown_suffix, typing_operand};
+ghost use Rattle.ir_core.specs.Forms.{controlling};
+ghost use Rattle.ir_core.specs.Signatures.{same_type};
 ghost use Rattle.ir_core.specs.Viewed.{instruction_of};
 
-use crate::numbers::FuncNumbers;
+use clif_numbers::FuncNumbers;
 use clk_num::Op;
 use ir_core::{Func, Inst, InstData, Ty, Value};
 
@@ -48,7 +50,7 @@ fn is_known(func: &Func, numbers: &FuncNumbers, next: u32, ty: Ty, operand: Opti
     ensures { result ≡ is_known func.now.function numbers.now next ty operand }
 {
     match operand {
-        Some(value) => numbers.value(value) < next && has_type(func, value, ty),
+        Some(value) => numbers.value(value) < u64::from(next) && has_type(func, value, ty),
         None => false,
     }
 }
@@ -58,7 +60,7 @@ fn typing_operand(inst: &Inst) -> Option<Value>
     ensures { result ≡ typing_operand (instruction_of inst.now) }
 {
     match inst {
-        Inst::Pure { op, args } => op_operand(*op, args.as_slice()),
+        Inst::Pure { op, args } => controlling(*op, args.as_slice()),
         Inst::PureImm { op: _, arg, imm: _ } => Some(*arg),
         Inst::Store {
             narrow: _,
@@ -83,30 +85,16 @@ fn typing_operand(inst: &Inst) -> Option<Value>
     }
 }
 
-fn op_operand(op: Op, args: &[Value]) -> Option<Value>
-    ensures { result ≡ op_operand op args.now }
+/// The operand that gives the type of an operation, where its suffix may be left out.
+fn controlling(op: Op, args: &[Value]) -> Option<Value>
+    ensures { result ≡ controlling op args.now }
 {
     match op {
-        Op::Select => second_value(args),
-        _ => first_value(args),
-    }
-}
-
-fn first_value(values: &[Value]) -> Option<Value>
-    ensures { result ≡ first_value values.now }
-{
-    match values.split_first() {
-        Some((first, _)) => Some(*first),
-        None => None,
-    }
-}
-
-fn second_value(values: &[Value]) -> Option<Value>
-    ensures { result ≡ second_value values.now }
-{
-    match values.split_first() {
-        Some((_, rest)) => first_value(rest),
-        None => None,
+        Op::Select => args.get(1).copied(),
+        Op::Uextend(_) => None,
+        Op::Sextend(_) => None,
+        Op::Ireduce(_) => None,
+        _ => args.first().copied(),
     }
 }
 
@@ -117,7 +105,9 @@ pub(crate) fn shown_suffix(
     next: u32,
     line: &InstData,
 ) -> Option<Ty>
-    ensures { result ≡ shown_suffix func.now.function numbers.now next line.now.ty (typing_operand (instruction_of line.now.inst)) }
+    ensures { result
+        ≡ shown_suffix func.now.function numbers.now next line.now.ty
+        (typing_operand (instruction_of line.now.inst)) }
 {
     match line.ty {
         Some(ty) => {

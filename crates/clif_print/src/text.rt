@@ -3,21 +3,22 @@ ghost use Rattle.std.specs.Prelude.{◌≡◌, ◌^◌, ◌-◌, ◌<◌, IfOk, 
 ghost use Rattle.std.specs.Io.KnownBytes.{Appends};
 ghost use Rattle.clk_flow.specs.Faults.{HasCause};
 ghost use Rattle.clk_flow.specs.Whole.{AppendsPrefix};
-ghost use Rattle.ir_core.specs.Numbering.{numberings_of};
-ghost use Rattle.ir_core.specs.Text.{text_of, function_text_of};
+ghost use Rattle.ir_text.specs.Numbering.{numberings_of};
+ghost use Rattle.ir_text.specs.Text.{text_of, function_text_of};
 ghost use Rattle.clif_print.specs.Output.{Start, Puts};
 
 use crate::functions::put_function;
-use crate::numbers::Numbers;
 use crate::output::Output;
 use crate::plain_outputs::{LengthOutput, MemoryOutput};
 use crate::sink_output::SinkOutput;
+use clif_numbers::Numbers;
 use clk_flow::{Failed, Sink};
 use ir_core::Module;
 use std::alloc::{AllocError, Global};
 
 /// Appends the canonical text of the module, whose numbers these are. It takes no memory, and gives the sink a few
-/// kilobytes at a time. `Failed` comes only where the sink's count of faults rose; a beginning of the text was appended then.
+/// kilobytes at a time. `Failed` comes only where the sink's count of faults rose; a beginning of the text was appended
+/// then.
 pub fn print<K: Sink>(module: &Module, numbers: &Numbers, sink: &mut K) -> Result<(), Failed>
     requires { numbers.now ≡ numberings_of «module».now }
     ensures whole { OnOk result (Appends (K.written sink.old) (K.written sink.new) (text_of «module».now)) }
@@ -29,8 +30,8 @@ pub fn print<K: Sink>(module: &Module, numbers: &Numbers, sink: &mut K) -> Resul
     out.finish()
 }
 
-/// The length of the canonical text of the module, whose numbers these are, in bytes: the greatest number of the type where
-/// it is greater. It takes no memory.
+/// The length of the canonical text of the module, whose numbers these are, in bytes: the greatest number of the type
+/// where it is greater. It takes no memory.
 pub fn text_len(module: &Module, numbers: &Numbers) -> u64
     requires { numbers.now ≡ numberings_of «module».now }
     ensures { result ≡ min (length (text_of «module».now)) (2 ^ 64 - 1) }

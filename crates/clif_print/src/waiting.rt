@@ -7,8 +7,8 @@ use std::marker::Model;
 /// How many bytes wait at most.
 const ROOM: usize = 4096;
 
-/// How many digits a number of 32 bits has at most.
-pub(crate) const MOST_DIGITS: usize = 10;
+/// How many digits a number of 64 bits has at most.
+pub(crate) const MOST_DIGITS: usize = 20;
 
 /// A few kilobytes that wait. Contracts see them as a list.
 #[derive(Drop)]
@@ -68,12 +68,12 @@ impl Waiting {
 
     /// Appends the digits of the number, written in place.
     #[inline(always)]
-    pub(crate) fn append_digits(&mut self, number: u32)
-        requires { length self.old + 10 ≤ 4096 }
+    pub(crate) fn append_digits(&mut self, number: u64)
+        requires { length self.old + 20 ≤ 4096 }
         ensures { self.new ≡ self.old ++ decimal number }
     {
         let end = self.len + digits(number);
-        itoa::write_digits(u64::from(number), &mut self.bytes, end);
+        itoa::write_digits(number, &mut self.bytes, end);
         self.len = end;
     }
 
@@ -86,7 +86,7 @@ impl Waiting {
 }
 
 /// How many digits a number has.
-fn digits(number: u32) -> usize
+fn digits(number: u64) -> usize
     ensures { result ≡ length (decimal number) }
 {
     let mut left = number;

@@ -1,6 +1,7 @@
 //! The words.
 ghost use Rattle.std.specs.Prelude.{◌≡◌};
-ghost use Rattle.ir_core.specs.Words.{op_word, condition_word, type_word, type_of_width, convention_word};
+ghost use Rattle.ir_text.specs.Words.{op_word, condition_word, type_word, convention_word};
+ghost use Rattle.ir_core.specs.Lookup.{ty_of};
 
 use clk_num::{Cc, Op, Width};
 use ir_core::{Conv, Ty};
@@ -85,8 +86,8 @@ pub(crate) fn type_word(ty: Ty) -> &'static [u8]
 }
 
 /// The type of a width.
-pub(crate) fn type_of_width(width: Width) -> Ty
-    ensures { result ≡ type_of_width width }
+pub(crate) fn ty_of(width: Width) -> Ty
+    ensures { result ≡ ty_of width }
 {
     match width {
         Width::W8 => Ty::I8,

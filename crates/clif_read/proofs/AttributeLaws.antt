@@ -1,6 +1,6 @@
 -- Attributes are read as their rule of the grammar says.
 use Rattle.std.proofs.Common.{◌≡◌, List, [], ◌∷◌, Option, Some, None, refl}
-use Rattle.grammar.specs.Rules.{Lexeme, Opt, Value}
+use Rattle.grammar.specs.Rules.{Lexeme, Opt, Tree}
 use Rattle.clif_words.specs.declared.class.Class.TheVariants as classes
 use Rattle.clif_words.specs.Terminals.{◌then◌, ◌or◌, ext}
 use Rattle.clif_insts.specs.Values.{perhaps}
@@ -28,10 +28,10 @@ unfolding opt_ext_at
 opt_ext_is first = opt_is (map_is ext_is (λ x. first ∷ x ∷ [])) (first ∷ [])
 
 -- `uext` or `sext`, and then perhaps the other kind
-abbrev from_ext : Value (ext then Opt purpose) → List RawAttribute
+abbrev from_ext : Tree (ext then Opt purpose) → List RawAttribute
 from_ext v = ext_value v.0 ∷ opt_purpose_value v.1
 
-abbrev from_purpose : Value (purpose then Opt ext) → List RawAttribute
+abbrev from_purpose : Tree (purpose then Opt ext) → List RawAttribute
 from_purpose v = purpose_value v.0 ∷ opt_ext_value v.1
 
 ext_first_is : Is (ext then Opt purpose) from_ext ext_first_at
@@ -39,7 +39,7 @@ unfolding ext_first_at
 ext_first_is =
     also (then_is ext_is (Opt purpose) (λ x. perhaps (x ∷ []) (λ v. x ∷ purpose_value v ∷ [])) (λ x. opt_purpose_at x) (λ x. opt_purpose_is x)) from_ext (λ v. go v.0 v.1)
   where
-    go : (x : Lexeme) (p : Option (Value purpose)) → perhaps (ext_value x ∷ []) (λ v. ext_value x ∷ purpose_value v ∷ []) p ≡ ext_value x ∷ opt_purpose_value p
+    go : (x : Lexeme) (p : Option (Tree purpose)) → perhaps (ext_value x ∷ []) (λ v. ext_value x ∷ purpose_value v ∷ []) p ≡ ext_value x ∷ opt_purpose_value p
     go x None = refl
     go x (Some v) = refl
 
@@ -48,7 +48,7 @@ unfolding purpose_first_at
 purpose_first_is =
     also (then_is purpose_is (Opt ext) (λ x. perhaps (x ∷ []) (λ v. x ∷ ext_value v ∷ [])) (λ x. opt_ext_at x) (λ x. opt_ext_is x)) from_purpose (λ v. go v.0 v.1)
   where
-    go : (x : Value purpose) (p : Option (Value ext)) → perhaps (purpose_value x ∷ []) (λ v. purpose_value x ∷ ext_value v ∷ []) p ≡ purpose_value x ∷ opt_ext_value p
+    go : (x : Tree purpose) (p : Option (Tree ext)) → perhaps (purpose_value x ∷ []) (λ v. purpose_value x ∷ ext_value v ∷ []) p ≡ purpose_value x ∷ opt_ext_value p
     go x None = refl
     go x (Some v) = refl
 

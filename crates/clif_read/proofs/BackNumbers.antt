@@ -12,7 +12,7 @@ use Rattle.clif_lex.specs.declared.spans.TokenKind.TheVariants.{Number}
 use Rattle.clif_lex.specs.Bytes.{is_blank, is_letter, is_word_byte, is_decimal_byte, is_sign, first}
 use Rattle.clif_lex.specs.Numbers.{amount, unsigned, magnitude, is_hex, is_in_range, spelled_number, digits_len, number_len, lacks_digits}
 use Rattle.clif_lex.specs.Lexing.{◌>>=◌, begins_number, token, token_at, number_at, tokens_from}
-use Rattle.ir_core.specs.Pieces.{with_sign}
+use Rattle.ir_text.specs.TextTree.{with_sign}
 use Rattle.clif_read.proofs.BackDecimals.{decimal_digits, decimal_some, decimal_amount}
 use Rattle.clif_read.proofs.BackFronts.{run_is, first_of, no_letter, no_decimal, all_wider, token_then}
 

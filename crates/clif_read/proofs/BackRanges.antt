@@ -4,7 +4,7 @@ use Rattle.std.specs.Prelude.{◌⊎◌, nat_lt, position, is_some, unwrap_or}
 use Rattle.std.specs.List.{list_all, range_with_len, enumerate_from, position_or_len}
 use Rattle.std.proofs.lemmas.Bool.Decides.{nat_tests, leb_tells}
 use Rattle.std.proofs.lemmas.List.FromFn.{length-range_with_len}
-use Rattle.ir_core.specs.Numbering.{place}
+use Rattle.ir_core.specs.Lookup.{number_in}
 
 pub other_numbers : (a b : ℕ) → a < b → nat_eq a b ≡ false
 other_numbers a b h = grind (arith, nat_tests)
@@ -49,11 +49,11 @@ enumerated k (x ∷ xs) = ap (λ (z : List ℕ). k ∷ z) (enumerated (k + 1) xs
 pub cases_lt : (a v : ℕ) → a ≤ v → (a ≡ v) ⊎ (a < v)
 cases_lt a v h = elim (leb_tells v a) [ inl t ↦ inl (let k : v ≤ a = t.1 in omega arith) | inr f ↦ inr f.1 ]
 
-pub place_in_range : (a n v : ℕ) → a ≤ v → v < a + n → a + place (range_with_len a n) v ≡ v
+pub place_in_range : (a n v : ℕ) → a ≤ v → v < a + n → a + number_in (range_with_len a n) v ≡ v
 place_in_range a zero v low high = absurd (omega arith)
 place_in_range a (suc n) v low high = go (cases_lt a v low) (λ l. place_in_range (a + 1) n v l (omega arith))
   where
-    go : (a ≡ v) ⊎ (a < v) → (a + 1 ≤ v → a + 1 + place (range_with_len (a + 1) n) v ≡ v) → a + cond (nat_eq a v) 0 (suc (place (range_with_len (a + 1) n) v)) ≡ v
+    go : (a ≡ v) ⊎ (a < v) → (a + 1 ≤ v → a + 1 + number_in (range_with_len (a + 1) n) v ≡ v) → a + cond (nat_eq a v) 0 (suc (number_in (range_with_len (a + 1) n) v)) ≡ v
     go (inl e) ih = rw (same_number a v e) (omega arith)
     go (inr l) ih = rw (other_numbers a v l) (let k = ih (omega arith) in omega arith)
 
@@ -71,7 +71,7 @@ first_none a (suc n) v h = rw (more_numbers v a (omega arith), first_none (a + 1
 
 -- ---- words that are among some
 
--- the place of a number among those below n
+-- the number_in of a number among those below n
 pub position_in_range : (n v : ℕ) → v < n → position (nat_eq v) (range_with_len 0 n) ≡ Some v
 position_in_range n v h =
     let at : position_or_len (nat_eq v) (range_with_len 0 n) ≡ v = (let k = first_at 0 n v (omega arith) (omega arith) in omega arith) in
@@ -84,7 +84,7 @@ position_past_range n v h =
     let lt : nat_lt n n ≡ false = less_false n n (omega arith) in
     rw (at, length-range_with_len 0 n, lt) refl
 
--- the place of what is among some is below their number
+-- the number_in of what is among some is below their number
 pub place_below : (ws : List ℕ) (w : ℕ) → is_some (position (nat_eq w) ws) ≡ true → unwrap_or (position (nat_eq w) ws) 0 < length ws
 place_below ws w h = go (nat_lt (position_or_len (nat_eq w) ws) (length ws)) refl h
   where

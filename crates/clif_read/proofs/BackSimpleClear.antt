@@ -1,4 +1,4 @@
--- The pieces of a written function are apart.
+-- The stretches of a written function are apart.
 use Rattle.std.proofs.Common.{◌≡◌, ℕ, zero, suc, ◌^◌, Bool, true, false, ◌&&◌, List, [], ◌∷◌, replicate, refl, arith}
 use Rattle.std.specs.Prelude.{nat_lt, nat_le}
 use Rattle.std.specs.List.{list_all}
@@ -6,8 +6,9 @@ use Rattle.std.proofs.lemmas.Bool.{and_parts, and_from}
 use Rattle.std.proofs.lemmas.Bool.Decides.{nat_tests}
 use Rattle.clif_lex.specs.Bytes.{is_word_byte, first}
 use Rattle.ir_core.specs.declared.signatures.Param.{Param}
-use Rattle.ir_core.specs.Pieces.{Text, Nothing, ◌▹◌, more, separated}
-use Rattle.ir_core.specs.Text as text
+use Rattle.ir_text.specs.TextTree.{Text, Nothing, ◌▹◌, more, separated}
+use Rattle.ir_text.specs.TextDeclarations as text_declarations
+use Rattle.ir_text.specs.Text as text
 use Rattle.clif_read.specs.declared.simple.written.Assignment.{Assignment}
 use Rattle.clif_read.specs.declared.simple.written.Computation.{Computation}
 use Rattle.clif_read.specs.declared.simple.written.Computation.TheVariants.{Iconst, Iadd}
@@ -15,7 +16,7 @@ use Rattle.clif_read.specs.SimpleGrammar.{OneBlock}
 use Rattle.clif_read.specs.SimpleModule.{i64_param, signature}
 use Rattle.clif_read.specs.SimpleWords.{last_number}
 use Rattle.clif_read.proofs.BackNumbers.{is_64_bits}
-use Rattle.clif_read.proofs.BackPieces.{front, clear}
+use Rattle.clif_read.proofs.BackStretches.{front, clear}
 use Rattle.clif_read.proofs.BackSimpleText.{value_text, param_text, written_params, written_line, written_lines, written_operands, written_return, written_block, written}
 
 -- ---- which functions are written
@@ -76,23 +77,23 @@ each_small s one (v ∷ vs) h = let a = and_parts (small v) (list_all small vs) 
 
 -- ---- signatures
 
-type_clear : Apart (text.parameter i64_param)
+type_clear : Apart (text_declarations.parameter i64_param)
 type_clear b e = rw e refl
 
-each_type : (n : ℕ) → Each (λ (p : Param). Apart (text.parameter p)) (replicate n i64_param)
+each_type : (n : ℕ) → Each (λ (p : Param). Apart (text_declarations.parameter p)) (replicate n i64_param)
 each_type zero = tt
 each_type (suc n) = (type_clear, each_type n)
 
-results_clear : (n : ℕ) → Apart (text.signature_results (replicate n i64_param))
+results_clear : (n : ℕ) → Apart (text_declarations.signature_results (replicate n i64_param))
 results_clear zero b e = refl
-results_clear (suc n) b e = separated_clear text.parameter (i64_param ∷ replicate n i64_param) (each_type (suc n)) b e
+results_clear (suc n) b e = separated_clear text_declarations.parameter (i64_param ∷ replicate n i64_param) (each_type (suc n)) b e
 
-results_front : (n : ℕ) → is_word_byte (front (text.signature_results (replicate n i64_param)) 32) ≡ false
+results_front : (n : ℕ) → is_word_byte (front (text_declarations.signature_results (replicate n i64_param)) 32) ≡ false
 results_front zero = refl
 results_front (suc n) = refl
 
-signature_clear : (f : OneBlock) → Apart (text.signature (signature f))
-signature_clear f b e = rw (separated_clear text.parameter (replicate f.params i64_param) (each_type f.params) 41 refl, results_clear f.results 32 refl, e) refl
+signature_clear : (f : OneBlock) → Apart (text_declarations.signature (signature f))
+signature_clear f b e = rw (separated_clear text_declarations.parameter (replicate f.params i64_param) (each_type f.params) 41 refl, results_clear f.results 32 refl, e) refl
 
 -- ---- blocks
 

@@ -6,9 +6,10 @@ use Rattle.std.proofs.lemmas.Bool.{and_parts}
 use Rattle.std.proofs.lemmas.List.{append-nil}
 use Rattle.std.specs.Fmt.{decimal}
 use Rattle.clif_lex.specs.declared.spans.TokenKind.TheVariants as kind
-use Rattle.grammar.specs.Rules.{Lexeme, Rule, Alt, Many, Value}
-use Rattle.ir_core.specs.Pieces.{Text, Nothing, Word, Numbered, Name, Mark, ◌▹◌, spelled, line_end, equals}
-use Rattle.ir_core.specs.Text as text
+use Rattle.grammar.specs.Rules.{Lexeme, Rule, Alt, Many, Tree}
+use Rattle.ir_text.specs.TextTree.{Text, Nothing, Word, Numbered, Name, Mark, ◌▹◌, spelled, line_end, equals}
+use Rattle.ir_text.specs.TextDeclarations as text_declarations
+use Rattle.ir_text.specs.Text as text
 use Rattle.clif_read.specs.declared.simple.lexemes.Class.TheVariants as class
 use Rattle.clif_read.specs.declared.simple.written.Assignment.{Assignment}
 use Rattle.clif_read.specs.declared.simple.written.Computation.{Computation}
@@ -25,10 +26,10 @@ use Rattle.clif_read.proofs.BackSimpleRules.{signature_told, params_told, return
 
 -- ---- lines
 
-told_left : {a b : Rule} {A : Type 0} {x : A} {ts : List Lexeme} (f : Value (Alt a b) → A) → Told a (λ v. f (inl v)) x ts → Told (Alt a b) f x ts
+told_left : {a b : Rule} {A : Type 0} {x : A} {ts : List Lexeme} (f : Tree (Alt a b) → A) → Told a (λ v. f (inl v)) x ts → Told (Alt a b) f x ts
 told_left f t = record { tree = inl t.tree; derived = t.derived; says = t.says }
 
-told_right : {a b : Rule} {A : Type 0} {x : A} {ts : List Lexeme} (f : Value (Alt a b) → A) → Told b (λ v. f (inr v)) x ts → Told (Alt a b) f x ts
+told_right : {a b : Rule} {A : Type 0} {x : A} {ts : List Lexeme} (f : Tree (Alt a b) → A) → Told b (λ v. f (inr v)) x ts → Told (Alt a b) f x ts
 told_right f t = record { tree = inr t.tree; derived = t.derived; says = t.says }
 
 iconst_told : (n : ℤ) (at : ℕ) → small_computation (Iconst n) ≡ true → Told g.iconst_rule (λ v. g.computation (inl v)) (Iconst n) (s_at at (written_computation (Iconst n)))
@@ -111,7 +112,7 @@ pub function_told : (f : OneBlock) (at : ℕ) → IsSmall f → Told g.function_
 function_told f at h =
     let at1 = at + 8 + 1 in
     let at2 = at1 + length (spelled (Name f.name)) in
-    let at3 = at2 + length (spelled (text.signature (signature f))) + 1 in
+    let at3 = at2 + length (spelled (text_declarations.signature (signature f))) + 1 in
     let at4 = at3 + 1 + 1 + 0 + 0 + 0 + 0 in
     let at5 = at4 + length (spelled (Numbered (codes "block") 0)) in
     let at6 = at5 + length (spelled (written_params f.block_params)) in
@@ -126,7 +127,7 @@ function_told f at h =
     (told_seq {C = Head} (λ (x : List ℕ) (y : List Assignment × List ℕ). (x, y.0, y.1)) (head_told f at4 h)
     (told_seq {C = List Assignment × List ℕ} (λ (x : List Assignment) (y : List ℕ). (x, y)) body.told
     (told_seq {C = List ℕ} (λ (x : List ℕ) (y : Unit {0}). x) last (mark_told class.RightBrace 125 at8 refl))))))) in
-    told_as (ap (λ (z : List Lexeme). s_at at (Word (codes "function")) ++ (s_at at1 (Name f.name) ++ (s_at at2 (text.signature (signature f)) ++ (s_at at3 (Mark 123) ++ z))))
+    told_as (ap (λ (z : List Lexeme). s_at at (Word (codes "function")) ++ (s_at at1 (Name f.name) ++ (s_at at2 (text_declarations.signature (signature f)) ++ (s_at at3 (Mark 123) ++ z))))
     (regroup (lexeme_as kind.Word (codes "block" ++ decimal 0) at4) (lexeme_as (kind.Mark 58) (58 ∷ []) at6) (lexeme_as (kind.Mark 125) (125 ∷ []) at8) (s_at at5 (written_params f.block_params)) (s_at at7 (written_lines f.lines (written_return f.returned ▹ Nothing))) body.tokens (s_at body.next (written_return f.returned)) body.same)) all
 
 -- ---- all functions

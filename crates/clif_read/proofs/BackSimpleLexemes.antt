@@ -1,4 +1,4 @@
--- The tokens of pieces as the grammar of simple texts sees them.
+-- The tokens of stretches as the grammar of simple texts sees them.
 use Rattle.std.proofs.Common.{◌≡◌, ℕ, suc, ◌+◌, ◌/◌, ◌%◌, ◌^◌, ◌<◌, ◌≤◌, ◌==◌, Bool, true, false, cond, List, [], ◌∷◌, ◌++◌, map, length, Some, refl, sym, ap, ◌∙◌, arith}
 use Rattle.std.specs.Prelude.{codes}
 use Rattle.std.specs.Fmt.{decimal}
@@ -8,11 +8,11 @@ use Rattle.std.proofs.lemmas.Fmt.{decimal_by_steps, decimal_digit}
 use Rattle.clif_lex.specs.declared.spans.Token.{Token}
 use Rattle.clif_lex.specs.Bytes.{first}
 use Rattle.grammar.specs.Rules.{Lexeme}
-use Rattle.ir_core.specs.Pieces.{Text, Nothing, Blanks, Word, Numbered, Name, Number, Signed, Offset, Mark, Arrow, Then, spelled}
+use Rattle.ir_text.specs.TextTree.{Text, Nothing, Blanks, Word, Numbered, Name, Number, Signed, Offset, Mark, Arrow, Then, spelled}
 use Rattle.clif_read.specs.declared.simple.lexemes.Class.TheVariants as class
 use Rattle.clif_read.specs.SimpleWords.{is_shortest, entity_number, word, lexeme_as, lexeme_in, is_comment, lexemes}
 use Rattle.clif_read.proofs.BackDecimals.{decimal_digits, decimal_value}
-use Rattle.clif_read.proofs.BackPieces.{tokens_at, seen_in, seen_at}
+use Rattle.clif_read.proofs.BackStretches.{tokens_at, seen_in, seen_at}
 use Rattle.clif_read.proofs.BackSimpleClear.{small}
 
 abbrev pub s_at : ℕ → Text → List Lexeme
@@ -29,23 +29,23 @@ lexemes_append text (t ∷ ts) us = go (is_comment t.kind) (lexemes_append text 
     go true ih = ih
     go false ih = ap (λ (z : List Lexeme). lexeme_in text t ∷ z) ih
 
-pub lexemes_of_pieces : (t : Text) (text : List ℕ) (at : ℕ) → lexemes text (tokens_at at t) ≡ map (seen_in lexeme_as text) (tokens_at at t)
+pub lexemes_of_stretches : (t : Text) (text : List ℕ) (at : ℕ) → lexemes text (tokens_at at t) ≡ map (seen_in lexeme_as text) (tokens_at at t)
 unfolding lexeme_in
-lexemes_of_pieces Nothing text at = refl
-lexemes_of_pieces (Blanks bytes) text at = refl
-lexemes_of_pieces (Word word) text at = refl
-lexemes_of_pieces (Numbered word number) text at = refl
-lexemes_of_pieces (Name bytes) text at = refl
-lexemes_of_pieces (Number number) text at = refl
-lexemes_of_pieces (Signed number) text at = refl
-lexemes_of_pieces (Offset number) text at = refl
-lexemes_of_pieces (Mark byte) text at = refl
-lexemes_of_pieces Arrow text at = refl
-lexemes_of_pieces (Then s t) text at =
+lexemes_of_stretches Nothing text at = refl
+lexemes_of_stretches (Blanks bytes) text at = refl
+lexemes_of_stretches (Word word) text at = refl
+lexemes_of_stretches (Numbered word number) text at = refl
+lexemes_of_stretches (Name bytes) text at = refl
+lexemes_of_stretches (Number number) text at = refl
+lexemes_of_stretches (Signed number) text at = refl
+lexemes_of_stretches (Offset number) text at = refl
+lexemes_of_stretches (Mark byte) text at = refl
+lexemes_of_stretches Arrow text at = refl
+lexemes_of_stretches (Then s t) text at =
     let next = at + length (spelled s) in
     lexemes_append text (tokens_at at s) (tokens_at next t)
-    ∙ ap (λ (z : List Lexeme). z ++ lexemes text (tokens_at next t)) (lexemes_of_pieces s text at)
-    ∙ ap (λ (z : List Lexeme). map (seen_in lexeme_as text) (tokens_at at s) ++ z) (lexemes_of_pieces t text next)
+    ∙ ap (λ (z : List Lexeme). z ++ lexemes text (tokens_at next t)) (lexemes_of_stretches s text at)
+    ∙ ap (λ (z : List Lexeme). map (seen_in lexeme_as text) (tokens_at at s) ++ z) (lexemes_of_stretches t text next)
     ∙ sym (map-append (seen_in lexeme_as text) (tokens_at at s) (tokens_at next t))
 
 -- ---- the number of an entity

@@ -13,7 +13,7 @@ use Rattle.clif_lex.specs.Lexing.{is_preamble, tokens_of}
 use Rattle.clif_lex.specs.Spans.{spelling}
 use Rattle.clif_lex.specs.Spelling.{spells, Stands, IsDivided, IsAtEnd, IsReading}
 use Rattle.clif_lex.proofs.Readings.{reading}
-use Rattle.grammar.specs.Rules.{Lexeme, Value, Derives}
+use Rattle.grammar.specs.Rules.{Lexeme, Tree, Derives}
 use Rattle.clif_read.specs.declared.simple.lexemes.Class.{Class}
 use Rattle.clif_read.specs.declared.simple.lexemes.Class.TheVariants as class
 use Rattle.clif_read.specs.SimpleClasses.{code}
@@ -161,7 +161,7 @@ all_parts (u ∷ us) vs h =
 sound_name : (l : Lexeme) → l.class ≡ 1 → is_sound l ≡ true → is_name l.name ≡ true
 sound_name l e h = (let k : (not (1 == 1) || is_name l.name) ≡ true = ap (λ (c : ℕ). not (c == 1) || is_name l.name) (sym e) ∙ h in k)
 
-function_named : (ts : List Lexeme) (v : Value function_rule) → Derives function_rule ts v → list_all is_sound ts ≡ true → is_name (function v).name ≡ true
+function_named : (ts : List Lexeme) (v : Tree function_rule) → Derives function_rule ts v → list_all is_sound ts ≡ true → is_name (function v).name ≡ true
 function_named ts v (us, ws, e, (d, (us2, ws2, e2, (d2, more)))) h =
     let a = all_parts us ws (ap (list_all is_sound) (sym e) ∙ h) in
     let b = all_parts us2 ws2 (ap (list_all is_sound) (sym e2) ∙ a.1) in
@@ -171,7 +171,7 @@ function_named ts v (us, ws, e, (d, (us2, ws2, e2, (d2, more)))) h =
 abbrev pub is_named_well : OneBlock → Bool
 is_named_well f = is_name f.name
 
-pub functions_named : (ts : List Lexeme) (tree : Value module_rule) → Derives module_rule ts tree → list_all is_sound ts ≡ true → list_all is_named_well (functions tree) ≡ true
+pub functions_named : (ts : List Lexeme) (tree : Tree module_rule) → Derives module_rule ts tree → list_all is_sound ts ≡ true → list_all is_named_well (functions tree) ≡ true
 functions_named ts [] d h = refl
 functions_named ts (v ∷ vs) (us, ws, e, (d, more)) h =
     let a = all_parts us ws (ap (list_all is_sound) (sym e) ∙ h) in

@@ -5,9 +5,10 @@ use Rattle.std.specs.List.{list_all}
 use Rattle.std.proofs.lemmas.Bool.{and_parts}
 use Rattle.std.proofs.lemmas.List.{append-nil, length-map}
 use Rattle.std.proofs.Math.ListN.{length-replicate}
-use Rattle.grammar.specs.Rules.{Lexeme, Seq, Opt, Value}
-use Rattle.ir_core.specs.Pieces.{Word, Mark, spelled, separated, in_parentheses}
-use Rattle.ir_core.specs.Text as text
+use Rattle.grammar.specs.Rules.{Lexeme, Seq, Opt, Tree}
+use Rattle.ir_text.specs.TextTree.{Word, Mark, spelled, separated, in_parentheses}
+use Rattle.ir_text.specs.TextDeclarations as text_declarations
+use Rattle.ir_text.specs.Text as text
 use Rattle.ir_core.specs.declared.signatures.Param.{Param}
 use Rattle.clif_read.specs.declared.simple.lexemes.Class.TheVariants as class
 use Rattle.clif_read.specs.SimpleGrammar as g
@@ -23,13 +24,13 @@ use Rattle.clif_read.proofs.BackSimpleTold.{Told, told_seq, told_as, told_some, 
 abbrev silent : {A : Type 0} → A → Unit {0}
 silent x = tt
 
-all_types : (n : ℕ) → AllTold {X = Param} (one class.I64) nothing_said text.parameter silent (replicate n i64_param)
+all_types : (n : ℕ) → AllTold {X = Param} (one class.I64) nothing_said text_declarations.parameter silent (replicate n i64_param)
 all_types zero = tt
 all_types (suc n) = ((λ at. word_told class.I64 (codes "i64") at type_word), all_types n)
 
-type_count : (n at : ℕ) → Told g.params_rule g.count (suc n) (s_at at (separated text.parameter (replicate (suc n) i64_param)))
+type_count : (n at : ℕ) → Told g.params_rule g.count (suc n) (s_at at (separated text_declarations.parameter (replicate (suc n) i64_param)))
 type_count n at =
-    let t = separated_told {X = Param} (one class.I64) nothing_said text.parameter silent i64_param (replicate n i64_param) at (all_types (suc n)) in
+    let t = separated_told {X = Param} (one class.I64) nothing_said text_declarations.parameter silent i64_param (replicate n i64_param) at (all_types (suc n)) in
     record { tree = t.tree; derived = t.derived; says = counted t.tree.1 (replicate n i64_param) (tail t.says) ∙ (let k : 1 + length (replicate n i64_param) ≡ suc n = omega (arith, length-replicate n i64_param) in k) }
   where
     tail : {a b : Unit {0}} {xs ys : List (Unit {0})} → a ∷ xs ≡ b ∷ ys → xs ≡ ys
@@ -38,21 +39,21 @@ type_count n at =
     counted : (vs : List (Lexeme × Lexeme)) (ps : List Param) → map (λ (w : Lexeme × Lexeme). nothing_said w.1) vs ≡ map silent ps → 1 + length vs ≡ 1 + length ps
     counted vs ps e = ap (λ (k : ℕ). 1 + k) (sym (length-map vs (λ (w : Lexeme × Lexeme). nothing_said w.1)) ∙ ap length e ∙ length-map ps silent)
 
-types_told : (n at : ℕ) → Told (Opt g.params_rule) g.params_count n (s_at at (separated text.parameter (replicate n i64_param)))
+types_told : (n at : ℕ) → Told (Opt g.params_rule) g.params_count n (s_at at (separated text_declarations.parameter (replicate n i64_param)))
 types_told zero at = told_none g.params_rule g.params_count
 types_told (suc n) at = told_some g.params_count (type_count n at)
 
-results_told : (n at : ℕ) → Told (Opt (Seq (one class.Arrow) g.params_rule)) g.results_count n (s_at at (text.signature_results (replicate n i64_param)))
+results_told : (n at : ℕ) → Told (Opt (Seq (one class.Arrow) g.params_rule)) g.results_count n (s_at at (text_declarations.signature_results (replicate n i64_param)))
 results_told zero at = told_none (Seq (one class.Arrow) g.params_rule) g.results_count
 results_told (suc n) at = told_some g.results_count (told_seq (λ (x : Unit {0}) (k : ℕ). k) (arrow_told (at + 1)) (type_count n (at + 1 + 2 + 1)))
 
-abbrev pub counts : Value g.signature_rule → ℕ × ℕ
+abbrev pub counts : Tree g.signature_rule → ℕ × ℕ
 counts v = (g.params_count v.1.0, g.results_count v.1.1.1.0)
 
-pub signature_told : (f : OneBlock) (at : ℕ) → Told g.signature_rule counts (f.params, f.results) (s_at at (text.signature (signature f)))
+pub signature_told : (f : OneBlock) (at : ℕ) → Told g.signature_rule counts (f.params, f.results) (s_at at (text_declarations.signature (signature f)))
 signature_told f at =
-    let p = separated text.parameter (replicate f.params i64_param) in
-    let r = text.signature_results (replicate f.results i64_param) in
+    let p = separated text_declarations.parameter (replicate f.params i64_param) in
+    let r = text_declarations.signature_results (replicate f.results i64_param) in
     let at1 = at + 1 in
     let at2 = at1 + length (spelled p) in
     let at3 = at + length (spelled (in_parentheses p)) in

@@ -8,11 +8,13 @@ use Rattle.std.proofs.lemmas.List.{append-nil}
 use Rattle.std.proofs.lemmas.List.FromFn.{length-range_with_len}
 use Rattle.ir_core.specs.declared.signatures.Ty.{Ty}
 use Rattle.ir_core.specs.declared.signatures.Ty.TheVariants.{I64}
-use Rattle.ir_core.specs.Lookup.{type_in, type_of, line_definitions}
+use Rattle.ir_core.specs.Lookup.{type_in, type_of, line_definitions, number_in}
 use Rattle.ir_core.specs.Module.{Line, Function}
-use Rattle.ir_core.specs.Numbering.{Numbering, numbering_of, place}
-use Rattle.ir_core.specs.Pieces.{Text, Nothing, Word, Numbered, Name, Signed, Mark, ◌▹◌, space, line_end, indent, comma, colon, equals, more, separated, in_parentheses}
-use Rattle.ir_core.specs.Text as text
+use Rattle.ir_text.specs.Numbering.{Numbering, numbering_of}
+use Rattle.ir_text.specs.TextTree.{Text, Nothing, Word, Numbered, Name, Signed, Mark, ◌▹◌, space, line_end, indent, comma, colon, equals, more, separated, in_parentheses}
+use Rattle.ir_text.specs.TextDeclarations as text_declarations
+use Rattle.ir_text.specs.TextInstructions as text_instructions
+use Rattle.ir_text.specs.Text as text
 use Rattle.clif_read.specs.declared.simple.written.Assignment.{Assignment}
 use Rattle.clif_read.specs.declared.simple.written.Computation.{Computation}
 use Rattle.clif_read.specs.declared.simple.written.Computation.TheVariants.{Iconst, Iadd}
@@ -58,7 +60,7 @@ written_block f = Numbered (codes "block") 0 ▹ written_params f.block_params �
 
 abbrev pub written : OneBlock → Text
 written f =
-    Word (codes "function") ▹ space ▹ Name f.name ▹ text.signature (signature f) ▹ space ▹ Mark 123 ▹ line_end
+    Word (codes "function") ▹ space ▹ Name f.name ▹ text_declarations.signature (signature f) ▹ space ▹ Mark 123 ▹ line_end
     ▹ Nothing ▹ Nothing ▹ Nothing ▹ Nothing
     ▹ (written_block f ▹ Nothing) ▹ Mark 125 ▹ line_end
 
@@ -66,8 +68,8 @@ written f =
 
 -- the values below c have their canonical numbers, and the type i64
 pub record Known (f : Function) (n : Numbering) (c : ℕ) : Type 0 where
-  pub block : place n.blocks 0 ≡ 0
-  pub value : (v : ℕ) → v < c → place n.values v ≡ v
+  pub block : number_in n.blocks 0 ≡ 0
+  pub value : (v : ℕ) → v < c → number_in n.values v ≡ v
   pub type : (v : ℕ) → v < c → type_of f v ≡ Some I64
 
 abbrev are_below : ℕ → List ℕ → Bool
@@ -89,7 +91,7 @@ separated_same s t c same (v ∷ vs) h =
     ap₂ (λ (x y : Text). x ▹ y) (same v (below_is v c a.0)) (more_same s t c same vs a.1)
 
 module _ (f : Function) (n : Numbering) (c : ℕ) (known : Known f n c) where
-  value_same : (v : ℕ) → v < c → text.value n v ≡ value_text v
+  value_same : (v : ℕ) → v < c → text_instructions.value n v ≡ value_text v
   value_same v h = ap (Numbered (codes "v")) (known.value v h)
 
   param_same : (v : ℕ) → v < c → text.block_parameter f n v ≡ param_text v
@@ -99,9 +101,9 @@ module _ (f : Function) (n : Numbering) (c : ℕ) (known : Known f n c) where
   params_same [] h = refl
   params_same (v ∷ vs) h = ap in_parentheses (separated_same (text.block_parameter f n) param_text c param_same (v ∷ vs) h)
 
-  operands_same : (vs : List ℕ) → are_below c vs ≡ true → text.operands n vs ≡ written_operands vs
+  operands_same : (vs : List ℕ) → are_below c vs ≡ true → text_instructions.operands n vs ≡ written_operands vs
   operands_same [] h = refl
-  operands_same (v ∷ vs) h = ap (λ (z : Text). space ▹ z) (separated_same (text.value n) value_text c value_same (v ∷ vs) h)
+  operands_same (v ∷ vs) h = ap (λ (z : Text). space ▹ z) (separated_same (text_instructions.value n) value_text c value_same (v ∷ vs) h)
 
   line_same : (ws : List ℕ) (r : ℕ) (e : Computation) → may_compute ws e ≡ true → length ws < c
       → text.line f n (length ws) (line_after ws (record { result = r; computation = e })) ≡ written_line (record { result = length ws; computation = recomputed ws e })
@@ -183,11 +185,11 @@ type_in_typed k (w ∷ ws) v low high = go (cases_lt k v low) (λ l. type_in_typ
 known_itself : (f : OneBlock) → Known (meaning f) (numbering_of (meaning f)) (length (words f))
 known_itself f = record {
   block = refl;
-  value = λ v h. ap (λ (z : List ℕ). place z v) (values_below f) ∙ (let k = place_in_range 0 (length (words f)) v (omega arith) (omega arith) in omega arith);
+  value = λ v h. ap (λ (z : List ℕ). number_in z v) (values_below f) ∙ (let k = place_in_range 0 (length (words f)) v (omega arith) (omega arith) in omega arith);
   type = λ v h. type_in_typed 0 (words f) v (omega arith) (omega arith);
 }
 
 pub function_same : (f : OneBlock) → function_fits f ≡ true → text.canonical_function (meaning f) ≡ written (renumbered f)
 function_same f h =
-    ap (λ (z : Text). Word (codes "function") ▹ space ▹ Name f.name ▹ text.signature (signature f) ▹ space ▹ Mark 123 ▹ line_end ▹ Nothing ▹ Nothing ▹ Nothing ▹ Nothing ▹ (z ▹ Nothing) ▹ Mark 125 ▹ line_end)
+    ap (λ (z : Text). Word (codes "function") ▹ space ▹ Name f.name ▹ text_declarations.signature (signature f) ▹ space ▹ Mark 123 ▹ line_end ▹ Nothing ▹ Nothing ▹ Nothing ▹ Nothing ▹ (z ▹ Nothing) ▹ Mark 125 ▹ line_end)
     (block_same f (numbering_of (meaning f)) (known_itself f) h)

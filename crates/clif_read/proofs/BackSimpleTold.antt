@@ -2,9 +2,9 @@
 use Rattle.std.proofs.Common.{◌≡◌, ℕ, ◌+◌, true, List, [], ◌∷◌, ◌++◌, map, length, Some, None, refl, sym, ap, ap₂, subst}
 use Rattle.std.specs.Prelude.{codes, ℤ}
 use Rattle.std.specs.Fmt.{decimal, signed_decimal}
-use Rattle.grammar.specs.Rules.{Lexeme, Rule, Tok, Seq, Opt, Many, Value, Derives}
+use Rattle.grammar.specs.Rules.{Lexeme, Rule, Tok, Seq, Opt, Many, Tree, Derives}
 use Rattle.clif_lex.specs.declared.spans.TokenKind.TheVariants as kind
-use Rattle.ir_core.specs.Pieces.{Text, Word, Numbered, Name, Signed, Mark, Arrow, spelled, more, separated}
+use Rattle.ir_text.specs.TextTree.{Text, Word, Numbered, Name, Signed, Mark, Arrow, spelled, more, separated}
 use Rattle.clif_read.specs.declared.simple.lexemes.Class.{Class}
 use Rattle.clif_read.specs.declared.simple.lexemes.Class.TheVariants as class
 use Rattle.clif_read.specs.SimpleClasses.{code}
@@ -16,22 +16,22 @@ use Rattle.clif_read.proofs.BackSimpleClear.{small}
 use Rattle.clif_read.proofs.BackSimpleLexemes.{s_at, value_word, block_word}
 
 -- the tokens are derived by a rule, and their tree says x
-pub record Told (r : Rule) {A : Type 0} (f : Value r → A) (x : A) (ts : List Lexeme) : Type 0 where
-  pub tree : Value r
+pub record Told (r : Rule) {A : Type 0} (f : Tree r → A) (x : A) (ts : List Lexeme) : Type 0 where
+  pub tree : Tree r
   pub derived : Derives r ts tree
   pub says : f tree ≡ x
 
-pub told_seq : {a b : Rule} {A B C : Type 0} {f : Value a → A} {g : Value b → B} {x : A} {y : B} {us ws : List Lexeme} (h : A → B → C)
-    → Told a f x us → Told b g y ws → Told (Seq a b) (λ (v : Value a × Value b). h (f v.0) (g v.1)) (h x y) (us ++ ws)
+pub told_seq : {a b : Rule} {A B C : Type 0} {f : Tree a → A} {g : Tree b → B} {x : A} {y : B} {us ws : List Lexeme} (h : A → B → C)
+    → Told a f x us → Told b g y ws → Told (Seq a b) (λ (v : Tree a × Tree b). h (f v.0) (g v.1)) (h x y) (us ++ ws)
 told_seq {a} {b} {A} {B} {C} {f} {g} {x} {y} {us} {ws} h s t = record { tree = (s.tree, t.tree); derived = (us, ws, refl, (s.derived, t.derived)); says = ap₂ h s.says t.says }
 
-pub told_as : {r : Rule} {A : Type 0} {f : Value r → A} {x : A} {ts us : List Lexeme} → ts ≡ us → Told r f x us → Told r f x ts
+pub told_as : {r : Rule} {A : Type 0} {f : Tree r → A} {x : A} {ts us : List Lexeme} → ts ≡ us → Told r f x us → Told r f x ts
 told_as {r} {A} {f} {x} e t = subst (λ z. Told r f x z) (sym e) t
 
-pub told_some : {r : Rule} {A : Type 0} {x : A} {ts : List Lexeme} (f : Value (Opt r) → A) → Told r (λ v. f (Some v)) x ts → Told (Opt r) f x ts
+pub told_some : {r : Rule} {A : Type 0} {x : A} {ts : List Lexeme} (f : Tree (Opt r) → A) → Told r (λ v. f (Some v)) x ts → Told (Opt r) f x ts
 told_some f t = record { tree = Some t.tree; derived = t.derived; says = t.says }
 
-pub told_none : (r : Rule) {A : Type 0} (f : Value (Opt r) → A) → Told (Opt r) f (f None) []
+pub told_none : (r : Rule) {A : Type 0} (f : Tree (Opt r) → A) → Told (Opt r) f (f None) []
 told_none r f = record { tree = None; derived = refl; says = refl }
 
 told_token : {A : Type 0} (c : ℕ) (f : Lexeme → A) (l : Lexeme) (x : A) → l.class ≡ c → f l ≡ x → Told (Tok c) f x (l ∷ [])
@@ -64,12 +64,12 @@ arrow_told at = told_token (code class.Arrow) nothing_said (lexeme_as kind.Arrow
 -- ---- lists behind commas
 
 -- each text says its own
-abbrev pub AllTold : {X A : Type 0} (r : Rule) (f : Value r → A) (s : X → Text) (say : X → A) → List X → Type 0
+abbrev pub AllTold : {X A : Type 0} (r : Rule) (f : Tree r → A) (s : X → Text) (say : X → A) → List X → Type 0
 AllTold r f s say [] = Unit {0}
 AllTold r f s say (x ∷ xs) = ((at : ℕ) → Told r f (say x) (s_at at (s x))) × AllTold r f s say xs
 
-pub more_told : {X A : Type 0} (r : Rule) (f : Value r → A) (s : X → Text) (say : X → A) (xs : List X) (at : ℕ) → AllTold r f s say xs
-    → Told (Many (Seq (one class.Comma) r)) (map (λ (v : Lexeme × Value r). f v.1)) (map say xs) (s_at at (more s xs))
+pub more_told : {X A : Type 0} (r : Rule) (f : Tree r → A) (s : X → Text) (say : X → A) (xs : List X) (at : ℕ) → AllTold r f s say xs
+    → Told (Many (Seq (one class.Comma) r)) (map (λ (v : Lexeme × Tree r). f v.1)) (map say xs) (s_at at (more s xs))
 more_told r f s say [] at h = record { tree = []; derived = refl; says = refl }
 more_told r f s say (x ∷ xs) at h =
     let c = mark_told class.Comma 44 at refl in
@@ -82,7 +82,7 @@ more_told r f s say (x ∷ xs) at h =
       says = ap₂ (λ y ys. y ∷ ys) v.says m.says;
     }
 
-pub separated_told : {X A : Type 0} (r : Rule) (f : Value r → A) (s : X → Text) (say : X → A) (x : X) (xs : List X) (at : ℕ) → AllTold r f s say (x ∷ xs)
-    → Told (commas r) (λ v. f v.0 ∷ map (λ (w : Lexeme × Value r). f w.1) v.1) (say x ∷ map say xs) (s_at at (separated s (x ∷ xs)))
+pub separated_told : {X A : Type 0} (r : Rule) (f : Tree r → A) (s : X → Text) (say : X → A) (x : X) (xs : List X) (at : ℕ) → AllTold r f s say (x ∷ xs)
+    → Told (commas r) (λ v. f v.0 ∷ map (λ (w : Lexeme × Tree r). f w.1) v.1) (say x ∷ map say xs) (s_at at (separated s (x ∷ xs)))
 separated_told r f s say x xs at h =
     told_seq (λ y ys. y ∷ ys) (h.0 at) (more_told r f s say xs (at + length (spelled (s x))) h.1)

@@ -7,17 +7,17 @@ use Rattle.clif_lex.specs.declared.spans.Token.{Token}
 use Rattle.clif_lex.specs.Lexing.{tokens_of}
 use Rattle.grammar.specs.Rules.{Lexeme, Derives}
 use Rattle.ir_core.specs.Module.{Module}
-use Rattle.ir_core.specs.Pieces.{Text, ◌▹◌, spelled, line_end}
-use Rattle.ir_core.specs.Text.{canonical_text, more_functions, text_of}
+use Rattle.ir_text.specs.TextTree.{Text, ◌▹◌, spelled, line_end}
+use Rattle.ir_text.specs.Text.{canonical_text, more_functions, text_of}
 use Rattle.clif_read.specs.SimpleBack.{ReadsBack}
 use Rattle.clif_read.specs.SimpleGrammar.{OneBlock, module_rule}
 use Rattle.clif_read.specs.SimpleModule.{Means, functions, function_fits, is_named, may_follow, most_functions, functions_fit, meaning}
 use Rattle.clif_read.specs.SimpleWords.{lexeme_as, lexemes}
-use Rattle.clif_read.proofs.BackPieces.{front, clear, tokens_at, pieces_lexed, pieces_seen}
+use Rattle.clif_read.proofs.BackStretches.{front, clear, tokens_at, stretches_lexed, stretches_seen}
 use Rattle.clif_read.proofs.BackSimple.{renumbered}
 use Rattle.clif_read.proofs.BackSimpleClear.{is_name, written_clear}
 use Rattle.clif_read.proofs.BackSimpleFunctions.{more_written, all_written, AreSmall, functions_told}
-use Rattle.clif_read.proofs.BackSimpleLexemes.{s_at, lexemes_of_pieces}
+use Rattle.clif_read.proofs.BackSimpleLexemes.{s_at, lexemes_of_stretches}
 use Rattle.clif_read.proofs.BackSimpleMeaning.{functions_again, all_mean}
 use Rattle.clif_read.proofs.BackSimpleNames.{is_named_well, lexemes_sound, functions_named}
 use Rattle.clif_read.proofs.BackSimpleSmall.{renumbered_small}
@@ -80,10 +80,10 @@ written_back fs m fits named e =
     let small = all_small [] fs fits named in
     let told = functions_told (map renumbered fs) 0 small in
     let seen : lexemes (spelled t) (tokens_at 0 t) ≡ s_at 0 t =
-    lexemes_of_pieces t (spelled t) 0 ∙ pieces_seen lexeme_as t (spelled t) [] [] 0 (sym (append-nil (spelled t))) refl in
+    lexemes_of_stretches t (spelled t) 0 ∙ stretches_seen lexeme_as t (spelled t) [] [] 0 (sym (append-nil (spelled t))) refl in
     record {
       tokens = tokens_at 0 t;
-      lexed = pieces_lexed t (all_clear (map renumbered fs) small);
+      lexed = stretches_lexed t (all_clear (map renumbered fs) small);
       means = record {
         tree = told.tree;
         derived = subst (λ (z : List Lexeme). Derives module_rule z told.tree) (sym seen) told.derived;

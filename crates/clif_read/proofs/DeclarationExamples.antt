@@ -1,7 +1,7 @@
 -- Parameters and declarations on examples: the tokens of a short text, and what it is or where it stops.
 use Rattle.std.proofs.Common.{◌≡◌, ℕ, true, false, List, [], ◌∷◌, map, Some, Ok, Err, refl}
 use Rattle.std.specs.Prelude.{ℤ, pos, codes, Result}
-use Rattle.grammar.specs.Rules.{Lexeme, Kind, Syntax, Unsupported, Many, Rule, Value, read_all, ◌>>=◌}
+use Rattle.grammar.specs.Rules.{Lexeme, Kind, Syntax, Unsupported, Many, Rule, Tree, read_all, ◌>>=◌}
 use Rattle.ir_core.specs.declared.signatures.Ty.TheVariants as ty
 use Rattle.ir_core.specs.declared.signatures.Conv.TheVariants as convs
 use Rattle.clif_words.specs.declared.class.Class.{Class}
@@ -27,7 +27,7 @@ abbrev name : List ℕ → ℕ → Lexeme
 name bytes spot = record { class = code classes.Name; number = 0; amount = pos 0; name = bytes; spot = spot }
 
 -- what the whole text is by the rule, or why and before which tokens it stops
-abbrev told : {A : Type 0} (r : Rule) → (Value r → A) → List Lexeme → Result A (Kind × List Lexeme)
+abbrev told : {A : Type 0} (r : Rule) → (Tree r → A) → List Lexeme → Result A (Kind × List Lexeme)
 told r f ts = read_all r ts >>= λ v. Ok (f v)
 
 abbrev a_param : List Lexeme → Result RawParam (Kind × List Lexeme)

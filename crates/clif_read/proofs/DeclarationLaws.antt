@@ -1,6 +1,6 @@
 -- Names of functions and declarations are read as their rules of the grammar say.
 use Rattle.std.proofs.Common.{Bool, true, false, List, [], ◌∷◌, map, Option, Some, None, Ok}
-use Rattle.grammar.specs.Rules.{Lexeme, Rule, Opt, Many, Value, Unsupported, Out, ◌>>=◌}
+use Rattle.grammar.specs.Rules.{Lexeme, Rule, Opt, Many, Tree, Unsupported, Out, ◌>>=◌}
 use Rattle.clif_words.specs.declared.class.Class.TheVariants as classes
 use Rattle.clif_words.specs.Terminals.{◌then◌, ◌or◌, user_name, colon, comma, equals, explicit_slot, align, colocated, sig}
 use Rattle.clif_insts.specs.declared.raw.RawName.{RawName}
@@ -25,7 +25,7 @@ use Rattle.clif_read.proofs.SignatureLaws.{signature_is}
 
 -- ---- names
 
-abbrev user_value : Value (user_name then colon then number) → RawFuncName
+abbrev user_value : Tree (user_name then colon then number) → RawFuncName
 user_value v = names.User (name v.0) (number_value v.1.1)
 
 user_name_is : Is (user_name then colon then number) user_value user_name_at
@@ -49,7 +49,7 @@ align_is =
     (λ c. then_is (name_is classes.Align) (equals then number) (λ a v. number_value v.1) (λ a ts. name_at classes.Equals ts >>= λ e. number_at e.1)
     (λ a. then_is (name_is classes.Equals) number (λ e v. number_value v) (λ e. number_at) (λ e. number_is)))
 
-abbrev opt_align_value : Value (Opt (comma then align then equals then number)) → Option RawNumber
+abbrev opt_align_value : Tree (Opt (comma then align then equals then number)) → Option RawNumber
 opt_align_value = perhaps None (λ w. Some (align_value w))
 
 opt_align_is : Is (Opt (comma then align then equals then number)) opt_align_value opt_align_at
@@ -63,7 +63,7 @@ sized = number then Opt (comma then align then equals then number)
 abbrev sized_at : RawName → List Lexeme → Out RawDecl
 sized_at s ts = number_at ts >>= λ n. opt_align_at n.1 >>= λ a. Ok (decls.Slot s n.0 a.0, a.1)
 
-abbrev sized_value : RawName → Value sized → RawDecl
+abbrev sized_value : RawName → Tree sized → RawDecl
 sized_value s v = decls.Slot s (number_value v.0) (opt_align_value v.1)
 
 sized_is : (s : RawName) → Is sized (sized_value s) (sized_at s)
@@ -102,7 +102,7 @@ named_callee = func_name then (sig or signature)
 abbrev named_callee_at : RawName → Bool → List Lexeme → Out RawDecl
 named_callee_at f c ts = func_name_at ts >>= λ n. callee_sig_at n.1 >>= λ s. Ok (decls.Callee f c n.0 s.0, s.1)
 
-abbrev named_callee_value : RawName → Bool → Value named_callee → RawDecl
+abbrev named_callee_value : RawName → Bool → Tree named_callee → RawDecl
 named_callee_value f c v = decls.Callee f c (func_name_value v.0) (callee_sig_value v.1)
 
 named_callee_is : (f : RawName) (c : Bool) → Is named_callee (named_callee_value f c) (named_callee_at f c)

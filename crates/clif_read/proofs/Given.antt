@@ -3,45 +3,45 @@ use Rattle.std.proofs.Common.{◌≡◌, ℕ, Bool, true, false, List, [], ◌�
 use Rattle.std.specs.Prelude.{◌⊎◌}
 use Rattle.std.proofs.lemmas.List.{append-nil}
 use Rattle.grammar.proofs.Chains.{ends-append}
-use Rattle.grammar.specs.Rules.{Lexeme, Rule, Tok, Seq, Alt, Opt, Many, Chain, Value, Cut, Each, Links, ByFlag, ends, nullable, good, Derives}
+use Rattle.grammar.specs.Rules.{Lexeme, Rule, Tok, Seq, Alt, Opt, Many, Chain, Tree, Cut, Each, Links, ByFlag, ends, nullable, good, Derives}
 use Rattle.grammar.proofs.Binds.{ok_is}
-use Rattle.grammar.proofs.Laws.{complete}
+use Rattle.grammar.proofs.Exactness.{complete}
 use Rattle.grammar.proofs.Same.{Splits, SplitsBegun, same_texts, same_beginnings}
 use Rattle.grammar.proofs.Tails.{tok_ends, may_end, Tail, tail_same, tail_end, tail_alt, tail_seq, Or, splits, splits_begun}
 use Rattle.clif_insts.specs.Values.{either}
 use Rattle.clif_read.specs.Alike.{Means, Alike}
 
 -- an a that ends with the token c, and a w that is given to it
-abbrev Giving : {Y W : Type 0} (c : ℕ) (a w : Rule) (fa : Value a → Y) (fw : Value w → W) (give : W → Y → Y) → List Lexeme → Y → Type 0
-Giving c a w fa fw give ts y = Cut ts (λ us vs. (x : Value a) × Derives a us x × ((f : Bool) → ends c f us ≡ true) × (z : Value w) × Derives w vs z × (give (fw z) (fa x) ≡ y))
+abbrev Giving : {Y W : Type 0} (c : ℕ) (a w : Rule) (fa : Tree a → Y) (fw : Tree w → W) (give : W → Y → Y) → List Lexeme → Y → Type 0
+Giving c a w fa fw give ts y = Cut ts (λ us vs. (x : Tree a) × Derives a us x × ((f : Bool) → ends c f us ≡ true) × (z : Tree w) × Derives w vs z × (give (fw z) (fa x) ≡ y))
 
 -- n is a, but a w may stand behind an a that ends with the token c
-pub record Given {Y W : Type 0} (c : ℕ) (n a w : Rule) (fn : Value n → Y) (fa : Value a → Y) (fw : Value w → W) (give : W → Y → Y) : Type 0 where
+pub record Given {Y W : Type 0} (c : ℕ) (n a w : Rule) (fn : Tree n → Y) (fa : Tree a → Y) (fw : Tree w → W) (give : W → Y → Y) : Type 0 where
   pub tail : Tail c n a w
-  pub split : (ts : List Lexeme) (v : Value n) → Derives n ts v → Means a fa ts (fn v) ⊎ Giving c a w fa fw give ts (fn v)
+  pub split : (ts : List Lexeme) (v : Tree n) → Derives n ts v → Means a fa ts (fn v) ⊎ Giving c a w fa fw give ts (fn v)
 
-pub given_same : {Y W : Type 0} (c : ℕ) (a w : Rule) (fn fa : Value a → Y) (fw : Value w → W) (give : W → Y → Y) → ((v : Value a) → fa v ≡ fn v) → may_end c a ≡ false → nullable a ≡ false → Given c a a w fn fa fw give
+pub given_same : {Y W : Type 0} (c : ℕ) (a w : Rule) (fn fa : Tree a → Y) (fw : Tree w → W) (give : W → Y → Y) → ((v : Tree a) → fa v ≡ fn v) → may_end c a ≡ false → nullable a ≡ false → Given c a a w fn fa fw give
 given_same c a w fn fa fw give e m some = record { tail = tail_same c a w m some; split = λ ts v d. inl (v, d, e v) }
 
-end_split : {Y W : Type 0} (c : ℕ) (w : Rule) (fn : Lexeme → Option (Value w) → Y) (fa : Lexeme → Y) (fw : Value w → W) (give : W → Y → Y) → ((x : Lexeme) → fa x ≡ fn x None) → ((x : Lexeme) (z : Value w) → give (fw z) (fa x) ≡ fn x (Some z))
+end_split : {Y W : Type 0} (c : ℕ) (w : Rule) (fn : Lexeme → Option (Tree w) → Y) (fa : Lexeme → Y) (fw : Tree w → W) (give : W → Y → Y) → ((x : Lexeme) → fa x ≡ fn x None) → ((x : Lexeme) (z : Tree w) → give (fw z) (fa x) ≡ fn x (Some z))
     → ((us : List Lexeme) (x : Lexeme) → Derives (Tok c) us x → (f : Bool) → ends c f us ≡ true)
-    → (ts : List Lexeme) (x : Lexeme) (o : Option (Value w)) → Derives (Seq (Tok c) (Opt w)) ts (x, o) → Means (Tok c) fa ts (fn x o) ⊎ Giving c (Tok c) w fa fw give ts (fn x o)
+    → (ts : List Lexeme) (x : Lexeme) (o : Option (Tree w)) → Derives (Seq (Tok c) (Opt w)) ts (x, o) → Means (Tok c) fa ts (fn x o) ⊎ Giving c (Tok c) w fa fw give ts (fn x o)
 end_split c w fn fa fw give none some last ts x None d =
     let e : ts ≡ d.0 = d.2 ∙ ap (λ (l : List Lexeme). d.0 ++ l) d.3.1 ∙ append-nil d.0 in
     inl (x, (e ∙ d.3.0.0, d.3.0.1), none x)
 end_split c w fn fa fw give none some last ts x (Some z) d = inr (d.0, d.1, d.2, (x, d.3.0, last d.0 x d.3.0, z, d.3.1, some x z))
 
-pub given_end : {Y W : Type 0} (c : ℕ) (w : Rule) (fn : Lexeme → Option (Value w) → Y) (fa : Lexeme → Y) (fw : Value w → W) (give : W → Y → Y) → ((x : Lexeme) → fa x ≡ fn x None) → ((x : Lexeme) (z : Value w) → give (fw z) (fa x) ≡ fn x (Some z))
+pub given_end : {Y W : Type 0} (c : ℕ) (w : Rule) (fn : Lexeme → Option (Tree w) → Y) (fa : Lexeme → Y) (fw : Tree w → W) (give : W → Y → Y) → ((x : Lexeme) → fa x ≡ fn x None) → ((x : Lexeme) (z : Tree w) → give (fw z) (fa x) ≡ fn x (Some z))
     → Given c (Seq (Tok c) (Opt w)) (Tok c) w (λ v. fn v.0 v.1) fa fw give
 given_end c w fn fa fw give none some = record { tail = tail_end c w; split = λ ts v d. end_split c w fn fa fw give none some (tok_ends c) ts v.0 v.1 d }
 
-alt_split : {Y W : Type 0} (c : ℕ) (n1 a1 n2 a2 w : Rule) (fn1 : Value n1 → Y) (fa1 : Value a1 → Y) (fn2 : Value n2 → Y) (fa2 : Value a2 → Y) (fw : Value w → W) (give : W → Y → Y)
+alt_split : {Y W : Type 0} (c : ℕ) (n1 a1 n2 a2 w : Rule) (fn1 : Tree n1 → Y) (fa1 : Tree a1 → Y) (fn2 : Tree n2 → Y) (fa2 : Tree a2 → Y) (fw : Tree w → W) (give : W → Y → Y)
     → Given c n1 a1 w fn1 fa1 fw give → Given c n2 a2 w fn2 fa2 fw give
-    → (ts : List Lexeme) (v : Value n1 ⊎ Value n2) → Derives (Alt n1 n2) ts v → Means (Alt a1 a2) (either fa1 fa2) ts (either fn1 fn2 v) ⊎ Giving c (Alt a1 a2) w (either fa1 fa2) fw give ts (either fn1 fn2 v)
+    → (ts : List Lexeme) (v : Tree n1 ⊎ Tree n2) → Derives (Alt n1 n2) ts v → Means (Alt a1 a2) (either fa1 fa2) ts (either fn1 fn2 v) ⊎ Giving c (Alt a1 a2) w (either fa1 fa2) fw give ts (either fn1 fn2 v)
 alt_split c n1 a1 n2 a2 w fn1 fa1 fn2 fa2 fw give s t ts (inl v) d = elim (s.split ts v d) [ inl k ↦ inl (inl k.0, k.1, k.2) | inr k ↦ inr (k.0, k.1, k.2, (inl k.3.0, k.3.1, k.3.2, k.3.3, k.3.4, k.3.5)) ]
 alt_split c n1 a1 n2 a2 w fn1 fa1 fn2 fa2 fw give s t ts (inr v) d = elim (t.split ts v d) [ inl k ↦ inl (inr k.0, k.1, k.2) | inr k ↦ inr (k.0, k.1, k.2, (inr k.3.0, k.3.1, k.3.2, k.3.3, k.3.4, k.3.5)) ]
 
-pub given_alt : {Y W : Type 0} {c : ℕ} {n1 a1 n2 a2 w : Rule} {fn1 : Value n1 → Y} {fa1 : Value a1 → Y} {fn2 : Value n2 → Y} {fa2 : Value a2 → Y} {fw : Value w → W} {give : W → Y → Y}
+pub given_alt : {Y W : Type 0} {c : ℕ} {n1 a1 n2 a2 w : Rule} {fn1 : Tree n1 → Y} {fa1 : Tree a1 → Y} {fn2 : Tree n2 → Y} {fa2 : Tree a2 → Y} {fw : Tree w → W} {give : W → Y → Y}
     → Given c n1 a1 w fn1 fa1 fw give → Given c n2 a2 w fn2 fa2 fw give → Given c (Alt n1 n2) (Alt a1 a2) w (either fn1 fn2) (either fa1 fa2) fw give
 given_alt {Y} {W} {c} {n1} {a1} {n2} {a2} {w} {fn1} {fa1} {fn2} {fa2} {fw} {give} s t = record {
   tail = tail_alt c n1 a1 n2 a2 w s.tail t.tail;
@@ -52,7 +52,7 @@ further : (ts us ws u1 u2 : List Lexeme) → ts ≡ us ++ ws → ws ≡ u1 ++ u2
 further ts us ws u1 u2 e f = e ∙ ap (λ (l : List Lexeme). us ++ l) f ∙ sym (append_assoc us u1 u2)
 
 -- behind something else
-pub given_seq : {Y W M : Type 0} {c : ℕ} {p n a w : Rule} (m : Value p → M) {fn : M → Value n → Y} {fa : M → Value a → Y} {fw : Value w → W} {give : W → Y → Y}
+pub given_seq : {Y W M : Type 0} {c : ℕ} {p n a w : Rule} (m : Tree p → M) {fn : M → Tree n → Y} {fa : M → Tree a → Y} {fw : Tree w → W} {give : W → Y → Y}
     → nullable a ≡ false → M → ((x : M) → Given c n a w (fn x) (fa x) fw give) → Given c (Seq p n) (Seq p a) w (λ v. fn (m v.0) v.1) (λ v. fa (m v.0) v.1) fw give
 given_seq {Y} {W} {M} {c} {p} {n} {a} {w} m {fn} {fa} {fw} {give} some any g = record {
   tail = tail_seq c p n a w some (g any).tail;
@@ -63,7 +63,7 @@ given_seq {Y} {W} {M} {c} {p} {n} {a} {w} m {fn} {fa} {fw} {give} some any g = r
 }
 
 -- seen as something else
-pub given_map : {Y Z W : Type 0} {c : ℕ} {n a w : Rule} {fn : Value n → Y} {fa : Value a → Y} {fw : Value w → W} {give : W → Y → Y} (h : Y → Z) (give_to : W → Z → Z)
+pub given_map : {Y Z W : Type 0} {c : ℕ} {n a w : Rule} {fn : Tree n → Y} {fa : Tree a → Y} {fw : Tree w → W} {give : W → Y → Y} (h : Y → Z) (give_to : W → Z → Z)
     → ((x : W) (y : Y) → give_to x (h y) ≡ h (give x y)) → Given c n a w fn fa fw give → Given c n a w (λ v. h (fn v)) (λ v. h (fa v)) fw give_to
 given_map {Y} {Z} {W} {c} {n} {a} {w} {fn} {fa} {fw} {give} h give_to e g = record {
   tail = g.tail;
@@ -74,10 +74,10 @@ given_map {Y} {Z} {W} {c} {n} {a} {w} {fn} {fa} {fw} {give} h give_to e g = reco
 }
 
 -- b is a or w, seen as parts of a list
-pub record Offers {Y W P : Type 0} (b a w : Rule) (fb : Value b → P) (fa : Value a → Y) (fw : Value w → W) (whole : Y → P) (rest : W → P) : Type 0 where
+pub record Offers {Y W P : Type 0} (b a w : Rule) (fb : Tree b → P) (fa : Tree a → Y) (fw : Tree w → W) (whole : Y → P) (rest : W → P) : Type 0 where
   pub both : Or b a w
-  pub from_a : (ts : List Lexeme) (x : Value a) → Derives a ts x → Means b fb ts (whole (fa x))
-  pub from_w : (ts : List Lexeme) (z : Value w) → Derives w ts z → Means b fb ts (rest (fw z))
+  pub from_a : (ts : List Lexeme) (x : Tree a) → Derives a ts x → Means b fb ts (whole (fa x))
+  pub from_w : (ts : List Lexeme) (z : Tree w) → Derives w ts z → Means b fb ts (rest (fw z))
 
 -- how parts are joined
 pub record Joins {Y W P : Type 0} (whole : Y → P) (rest : W → P) (give : W → Y → Y) (joined : List Y → List P → List Y) : Type 0 where
@@ -92,10 +92,10 @@ pub record Chaining (Y W P : Type 0) : Type 0 where
   pub a : Rule
   pub b : Rule
   pub w : Rule
-  pub fn : Value n → Y
-  pub fa : Value a → Y
-  pub fb : Value b → P
-  pub fw : Value w → W
+  pub fn : Tree n → Y
+  pub fa : Tree a → Y
+  pub fb : Tree b → P
+  pub fw : Tree w → W
   pub give : W → Y → Y
   pub whole : Y → P
   pub rest : W → P
@@ -109,26 +109,26 @@ pub record Chaining (Y W P : Type 0) : Type 0 where
   pub readable : good (Chain c a b) ≡ true
 
 -- what an element of the chain is
-abbrev pub part : {Y W P : Type 0} (s : Chaining Y W P) → Value s.a ⊎ Value s.b → P
+abbrev pub part : {Y W P : Type 0} (s : Chaining Y W P) → Tree s.a ⊎ Tree s.b → P
 part s = either (λ v. s.whole (s.fa v)) s.fb
 
 -- what the chain means
-abbrev pub chained : {Y W P : Type 0} (s : Chaining Y W P) → List (Value s.a ⊎ Value s.b) → List Y
+abbrev pub chained : {Y W P : Type 0} (s : Chaining Y W P) → List (Tree s.a ⊎ Tree s.b) → List Y
 chained s vs = s.joined [] (map (part s) vs)
 
 -- an element of the chain
 abbrev Item : {Y W P : Type 0} (s : Chaining Y W P) → Bool → List Lexeme → P → Type 0
-Item s f us p = (v : Value s.a ⊎ Value s.b) × ByFlag (Derives s.a) (Derives s.b) f us v × (part s v ≡ p)
+Item s f us p = (v : Tree s.a ⊎ Tree s.b) × ByFlag (Derives s.a) (Derives s.b) f us v × (part s v ≡ p)
 
-item : {Y W P : Type 0} (s : Chaining Y W P) (f : Bool) (us : List Lexeme) (x : Value s.a) → Derives s.a us x → Item s f us (s.whole (s.fa x))
+item : {Y W P : Type 0} (s : Chaining Y W P) (f : Bool) (us : List Lexeme) (x : Tree s.a) → Derives s.a us x → Item s f us (s.whole (s.fa x))
 item s true us x d = let k = s.offers.from_a us x d in (inr k.0, (refl, k.1), k.2)
 item s false us x d = (inl x, (refl, d), refl)
 
 -- the rest of the chain
-abbrev Tree : {Y W P : Type 0} (s : Chaining Y W P) → Bool → List Lexeme → List Y → Type 0
-Tree s f ts ys = (vs : List (Value s.a ⊎ Value s.b)) × Links (ByFlag (Derives s.a) (Derives s.b)) s.c f ts vs × ((before : List _) → s.joined before (map (part s) vs) ≡ before ++ ys)
+abbrev ChainTree : {Y W P : Type 0} (s : Chaining Y W P) → Bool → List Lexeme → List Y → Type 0
+ChainTree s f ts ys = (vs : List (Tree s.a ⊎ Tree s.b)) × Links (ByFlag (Derives s.a) (Derives s.b)) s.c f ts vs × ((before : List _) → s.joined before (map (part s) vs) ≡ before ++ ys)
 
-one_more : {Y W P : Type 0} (s : Chaining Y W P) (f : Bool) (ts us ws : List Lexeme) (y : Y) (ys : List Y) → ts ≡ us ++ ws → Item s f us (s.whole y) → Tree s (ends s.c f us) ws ys → Tree s f ts (y ∷ ys)
+one_more : {Y W P : Type 0} (s : Chaining Y W P) (f : Bool) (ts us ws : List Lexeme) (y : Y) (ys : List Y) → ts ≡ us ++ ws → Item s f us (s.whole y) → ChainTree s (ends s.c f us) ws ys → ChainTree s f ts (y ∷ ys)
 one_more {Y} {W} {P} s f ts us ws y ys e i k = (
   i.0 ∷ k.0,
   (us, ws, e, (i.1, k.1)),
@@ -139,8 +139,8 @@ one_more {Y} {W} {P} s f ts us ws y ys e i k = (
 )
 
 -- an element, and what is given to it
-two_more : {Y W P : Type 0} (s : Chaining Y W P) (f : Bool) (ts u1 u2 ws : List Lexeme) (x : Value s.a) (z : Value s.w) (ys : List Y) → ts ≡ u1 ++ (u2 ++ ws) → Derives s.a u1 x → ends s.c f u1 ≡ true → Derives s.w u2 z → Tree s (ends s.c true u2) ws ys
-    → Tree s f ts (s.give (s.fw z) (s.fa x) ∷ ys)
+two_more : {Y W P : Type 0} (s : Chaining Y W P) (f : Bool) (ts u1 u2 ws : List Lexeme) (x : Tree s.a) (z : Tree s.w) (ys : List Y) → ts ≡ u1 ++ (u2 ++ ws) → Derives s.a u1 x → ends s.c f u1 ≡ true → Derives s.w u2 z → ChainTree s (ends s.c true u2) ws ys
+    → ChainTree s f ts (s.give (s.fw z) (s.fa x) ∷ ys)
 two_more {Y} {W} {P} s f ts u1 u2 ws x z ys e d last dw k =
     let i = item s f u1 x d in
     let o = s.offers.from_w u2 z dw in
@@ -155,27 +155,27 @@ two_more {Y} {W} {P} s f ts u1 u2 ws x z ys e d last dw k =
           ),
     )
 
-forward : {Y W P : Type 0} (s : Chaining Y W P) (f : Bool) (ts : List Lexeme) (vs : List (Value s.n)) → Each (Derives s.n) ts vs → Tree s f ts (map s.fn vs)
+forward : {Y W P : Type 0} (s : Chaining Y W P) (f : Bool) (ts : List Lexeme) (vs : List (Tree s.n)) → Each (Derives s.n) ts vs → ChainTree s f ts (map s.fn vs)
 forward s f ts [] h = ([], h, λ before. s.joins.nothing before ∙ sym (append-nil before))
 forward {Y} {W} {P} s f ts (v ∷ vs) h =
     elim (s.given.split h.0 v h.3.0) [
       | inl k ↦ (
           let whole = one_more s f ts h.0 h.1 (s.fa k.0) (map s.fn vs) h.2 (item s f h.0 k.0 k.1) (forward s (ends s.c f h.0) h.1 vs h.3.1) in
-          subst (λ (y : Y). Tree s f ts (y ∷ map s.fn vs)) k.2 whole
+          subst (λ (y : Y). ChainTree s f ts (y ∷ map s.fn vs)) k.2 whole
           )
       | inr k ↦ (
           let e = h.2 ∙ ap (λ (l : List Lexeme). l ++ h.1) k.2 ∙ append_assoc k.0 k.1 h.1 in
           let whole = two_more s f ts k.0 k.1 h.1 k.3.0 k.3.3 (map s.fn vs) e k.3.1 (k.3.2 f) k.3.4 (forward s (ends s.c true k.1) h.1 vs h.3.1) in
-          subst (λ (y : Y). Tree s f ts (y ∷ map s.fn vs)) k.3.5 whole
+          subst (λ (y : Y). ChainTree s f ts (y ∷ map s.fn vs)) k.3.5 whole
           )
     ]
 
 -- a text has one tree
-same_tree : (r : Rule) → good r ≡ true → (ts : List Lexeme) (v x : Value r) → Derives r ts v → Derives r ts x → v ≡ x
+same_tree : (r : Rule) → good r ≡ true → (ts : List Lexeme) (v x : Tree r) → Derives r ts v → Derives r ts x → v ≡ x
 same_tree r g ts v x d e =
     let p = complete r g ts v [] d refl in
     let q = complete r g ts x [] e refl in
-    ap (λ (y : Value r × List Lexeme). y.0) (ok_is (v, []) (x, []) (sym p ∙ q))
+    ap (λ (y : Tree r × List Lexeme). y.0) (ok_is (v, []) (x, []) (sym p ∙ q))
 
 all_splits : {Y W P : Type 0} (s : Chaining Y W P) → Splits s.c s.n s.a s.b s.w
 all_splits s = splits s.c s.n s.a s.b s.w s.given.tail s.offers.both s.some_a s.some_w s.quiet_w

@@ -3,7 +3,7 @@ use Rattle.std.proofs.Common.{◌≡◌, ℕ, ◌+◌, Bool, true, false, not, �
 use Rattle.std.specs.Prelude.{◌⊎◌, count_by}
 use Rattle.std.proofs.lemmas.List.{append-nil}
 use Rattle.std.proofs.lemmas.List.Sums.{sum_by-cons}
-use Rattle.grammar.specs.Rules.{Lexeme, Rule, Opt, Value, Derives, Begins}
+use Rattle.grammar.specs.Rules.{Lexeme, Rule, Opt, Tree, Derives, Begins}
 use Rattle.grammar.proofs.Past.{derives_begins}
 use Rattle.clif_words.specs.Terminals.{◌then◌, ◌or◌, ext}
 use Rattle.clif_insts.specs.Values.{◌otherwise◌, perhaps}
@@ -23,14 +23,14 @@ count_is p a b xs e = sum_by-cons (λ x. cond (p x) 1 0) a xs ∙ ap (λ (c : Bo
 of_ext : (x : Lexeme) → is_ext (ext_value x) ≡ true
 of_ext x = elim (x.number == 0) as (λ b. is_ext (cond b (ext_of 0) (ext_of 1)) ≡ true) [ true ↦ refl | false ↦ refl ]
 
-of_purpose : (p : Value purpose) → is_ext (purpose_value p) ≡ false
+of_purpose : (p : Tree purpose) → is_ext (purpose_value p) ≡ false
 of_purpose (inl x) = refl
 of_purpose (inr x) = refl
 
 no_purpose : (x : Lexeme) → is_purpose (ext_value x) ≡ false
 no_purpose x = ap not (of_ext x)
 
-a_purpose : (p : Value purpose) → is_purpose (purpose_value p) ≡ true
+a_purpose : (p : Tree purpose) → is_purpose (purpose_value p) ≡ true
 a_purpose p = ap not (of_purpose p)
 
 none_kept : AtMostOne []
@@ -42,13 +42,13 @@ ext_kept x =
     let p = count_is is_purpose (ext_value x) false [] (no_purpose x) in
     (omega arith, omega arith)
 
-purpose_kept : (q : Value purpose) → AtMostOne (purpose_value q ∷ [])
+purpose_kept : (q : Tree purpose) → AtMostOne (purpose_value q ∷ [])
 purpose_kept q =
     let e = count_is is_ext (purpose_value q) false [] (of_purpose q) in
     let p = count_is is_purpose (purpose_value q) true [] (a_purpose q) in
     (omega arith, omega arith)
 
-both_kept : (x : Lexeme) (q : Value purpose) → AtMostOne (ext_value x ∷ purpose_value q ∷ [])
+both_kept : (x : Lexeme) (q : Tree purpose) → AtMostOne (ext_value x ∷ purpose_value q ∷ [])
 both_kept x q =
     let e = count_is is_ext (ext_value x) true (purpose_value q ∷ []) (of_ext x) in
     let p = count_is is_purpose (ext_value x) false (purpose_value q ∷ []) (no_purpose x) in
@@ -56,7 +56,7 @@ both_kept x q =
     let g = count_is is_purpose (purpose_value q) true [] (a_purpose q) in
     (omega arith, omega arith)
 
-turned_kept : (x : Lexeme) (q : Value purpose) → AtMostOne (purpose_value q ∷ ext_value x ∷ [])
+turned_kept : (x : Lexeme) (q : Tree purpose) → AtMostOne (purpose_value q ∷ ext_value x ∷ [])
 turned_kept x q =
     let e = count_is is_ext (ext_value x) true [] (of_ext x) in
     let p = count_is is_purpose (ext_value x) false [] (no_purpose x) in
@@ -66,10 +66,10 @@ turned_kept x q =
 
 -- ---- texts
 
-abbrev item : Value (ext or purpose) → RawAttribute
+abbrev item : Tree (ext or purpose) → RawAttribute
 item = ext_value otherwise purpose_value
 
-to_letter : (ts : List Lexeme) (v : Value attributes) → Derives attributes ts v → ByLetter ts (perhaps [] attributes_value v)
+to_letter : (ts : List Lexeme) (v : Tree attributes) → Derives attributes ts v → ByLetter ts (perhaps [] attributes_value v)
 to_letter ts None d = (([], d, refl), none_kept)
 to_letter ts (Some (inl (x, None))) d = ((inl x ∷ [], (d.0, d.1, d.2, (d.3.0, d.3.1)), refl), ext_kept x)
 to_letter ts (Some (inl (x, Some q))) d =
@@ -82,7 +82,7 @@ to_letter ts (Some (inr (q, Some x))) d =
 alone : (ws us vs : List Lexeme) → ws ≡ us ++ vs → vs ≡ [] → us ≡ ws
 alone ws us vs e n = sym (e ∙ ap (λ (l : List Lexeme). us ++ l) n ∙ append-nil us)
 
-to_rule : (ts : List Lexeme) (v : Value letter_attributes) → Derives letter_attributes ts v → AtMostOne (letter_value v) → ByRule ts (letter_value v)
+to_rule : (ts : List Lexeme) (v : Tree letter_attributes) → Derives letter_attributes ts v → AtMostOne (letter_value v) → ByRule ts (letter_value v)
 to_rule ts [] d most = (None, d, refl)
 to_rule ts (inl x ∷ []) d most = (Some (inl (x, None)), (d.0, d.1, d.2, (d.3.0, d.3.1)), refl)
 to_rule ts (inr q ∷ []) d most = (Some (inr (q, None)), (d.0, d.1, d.2, (d.3.0, d.3.1)), refl)
@@ -136,7 +136,7 @@ to_rule ts (inr q ∷ inl x ∷ inr r ∷ more) d most =
 -- ---- beginnings
 
 abbrev Whole : Rule → List Lexeme → Type 0
-Whole r ts = (v : Value r) × Derives r ts v
+Whole r ts = (v : Tree r) × Derives r ts v
 
 purpose_begun : (ts : List Lexeme) → Begins purpose ts → (ts ≡ []) ⊎ Whole purpose ts
 purpose_begun ts (inl (inl e)) = inl e
@@ -201,7 +201,7 @@ rest_begun b one (r ∷ rest) more ws e (inr k) =
     let whole : ws ≡ r ∷ rest = y.1 ∙ sym (rw (front, none_before rest more behind) refl) in
     inr (subst (Begins b) whole (derives_begins b ws k.0 k.1))
 
-may_be : (b : Rule) (ws : List Lexeme) (w : Value (Opt b)) → Derives (Opt b) ws w → (ws ≡ []) ⊎ Whole b ws
+may_be : (b : Rule) (ws : List Lexeme) (w : Tree (Opt b)) → Derives (Opt b) ws w → (ws ≡ []) ⊎ Whole b ws
 may_be b ws None d = inl d
 may_be b ws (Some w) d = inr (w, d)
 
@@ -215,7 +215,7 @@ prefix_begun a b one two none (t ∷ ts) more ((v, w), (us, ws, e, (d, m))) =
     let same : us ≡ t ∷ [] = x.1 ∙ ap (λ (z : Lexeme). z ∷ []) front in
     inr (t ∷ [], ts, refl, ((v, subst (λ (l : List Lexeme). Derives a l v) same d), rest_begun b two ts more ws behind (may_be b ws w m)))
 
-begun_before : (ts more : List Lexeme) (v : Value attributes) → Derives attributes (ts ++ more) v → Begins attributes ts
+begun_before : (ts more : List Lexeme) (v : Tree attributes) → Derives attributes (ts ++ more) v → Begins attributes ts
 begun_before ts more None d = inl (none_before ts more d)
 begun_before ts more (Some (inl v)) d = inr (inl (prefix_begun ext purpose ext_one purpose_one (inl refl) ts more (v, d)))
 begun_before ts more (Some (inr v)) d = inr (inr (prefix_begun purpose ext purpose_one ext_one (inl (inl refl)) ts more (v, d)))

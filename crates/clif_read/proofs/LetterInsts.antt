@@ -1,6 +1,6 @@
 -- An instruction with the values of a `return`, and one behind which they stand.
 use Rattle.std.proofs.Common.{◌≡◌, ℕ, false, List, [], ◌∷◌, None, refl}
-use Rattle.grammar.specs.Rules.{Rule, Value, Opt, Refuse, UnknownOpcode, Unsupported, nullable}
+use Rattle.grammar.specs.Rules.{Rule, Tree, Opt, Refuse, UnknownOpcode, Unsupported, nullable}
 use Rattle.grammar.proofs.Tails.{may_end}
 use Rattle.clif_words.specs.declared.class.Class.{Class}
 use Rattle.clif_words.specs.declared.class.Class.TheVariants as classes
@@ -10,7 +10,7 @@ use Rattle.clif_insts.specs.declared.raw.RawOperands.TheVariants as operands
 use Rattle.clif_words.specs.Classes.{code}
 use Rattle.clif_words.specs.Terminals.{◌then◌, refused, value, comma, condition, sig, callee, iconst, binary, unary, icmp, select, convert, binary_imm, icmp_imm, load, load_wide, store, stack_load, stack_store, func_addr, nullary, jump, brif, br_table, return_word, trap, trap_if, call, try_call, call_indirect, try_call_indirect}
 use Rattle.clif_insts.specs.Grammar.{commas, number, suffix, suffix_i64, any_trap, flags, address, slot_address, target, normal_target, table, args, target_list, words_but, instruction, return_values}
-use Rattle.clif_insts.specs.Reading.{name}
+use Rattle.clif_insts.specs.Reading.{name, opcode}
 use Rattle.clif_insts.specs.Values.{perhaps, never, commas_value}
 use Rattle.clif_insts.specs.InstValues.{raw, iconst_value, binary_value, unary_value, icmp_value, select_value, convert_value, binary_imm_value, icmp_imm_value, load_value, load_wide_value, store_value, stack_load_value, stack_store_value, func_addr_value, nullary_value, jump_value, brif_value, br_table_value, return_inst_value, trap_inst_value, trap_if_value, call_value, try_call_value, call_indirect_value, try_call_indirect_value, instruction_value, return_values_value}
 use Rattle.clif_read.specs.Alike.{Alike}
@@ -24,25 +24,25 @@ c = code classes.Return
 abbrev pub values : Rule
 values = commas value
 
-abbrev pub values_value : Value values → List RawName
+abbrev pub values_value : Tree values → List RawName
 values_value = commas_value value name
 
 -- an instruction with these values
 abbrev pub give_inst : List RawName → RawInst → RawInst
 give_inst vs i = raw i.opcode i.suffix (operands.Return vs)
 
-abbrev pub whole_of : (excepted : List Class) → Value (instruction return_values excepted) → RawInst
+abbrev pub whole_of : (excepted : List Class) → Tree (instruction return_values excepted) → RawInst
 whole_of excepted = instruction_value return_values excepted return_values_value
 
-abbrev pub alone_of : (excepted : List Class) → Value (instruction return_word excepted) → RawInst
+abbrev pub alone_of : (excepted : List Class) → Tree (instruction return_word excepted) → RawInst
 alone_of excepted = instruction_value return_word excepted return_inst_value
 
 -- a form that no values follow
-form : (r : Rule) (f : Value r → RawInst) → may_end c r ≡ false → nullable r ≡ false → Given c r r values f f values_value give_inst
+form : (r : Rule) (f : Tree r → RawInst) → may_end c r ≡ false → nullable r ≡ false → Given c r r values f f values_value give_inst
 form r f m some = given_same c r values f f values_value give_inst (λ v. refl) m some
 
 returned : Given c return_values return_word values return_values_value return_inst_value values_value give_inst
-returned = given_end c values (λ x o. raw (name x) None (operands.Return (perhaps [] values_value o))) return_inst_value values_value give_inst (λ x. refl) (λ x z. refl)
+returned = given_end c values (λ x o. raw (opcode x) None (operands.Return (perhaps [] values_value o))) return_inst_value values_value give_inst (λ x. refl) (λ x z. refl)
 
 pub inst_given : (excepted : List Class) → Given c (instruction return_values excepted) (instruction return_word excepted) values (whole_of excepted) (alone_of excepted) values_value give_inst
 inst_given excepted =
@@ -73,7 +73,7 @@ inst_given excepted =
     (given_alt (form (try_call_indirect then Opt suffix_i64 then value then args then comma then sig then comma then normal_target then comma then table) try_call_indirect_value refl refl)
     (given_alt (form (refused (classes.RefusedOpcode ∷ []) Unsupported) never refl refl) (form (Refuse (words_but excepted) UnknownOpcode) never refl refl))))))))))))))))))))))))))
 
-same : (r : Rule) (f : Value r → RawInst) → Alike r r f f
+same : (r : Rule) (f : Tree r → RawInst) → Alike r r f f
 same r f = alike_same r f f (λ v. refl)
 
 -- which words begin something else there makes no difference to what is derived

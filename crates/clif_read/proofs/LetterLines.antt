@@ -2,7 +2,7 @@
 use Rattle.std.proofs.Common.{◌≡◌, ℕ, pos, List, [], ◌∷◌, ◌++◌, map, Option, Some, None, refl, sym, ap, ◌∙◌, inl, inr, append_assoc}
 use Rattle.std.specs.Prelude.{◌⊎◌}
 use Rattle.std.proofs.lemmas.List.{append-nil}
-use Rattle.grammar.specs.Rules.{Lexeme, Rule, Opt, Many, Value, Derives}
+use Rattle.grammar.specs.Rules.{Lexeme, Rule, Opt, Many, Tree, Derives}
 use Rattle.grammar.proofs.Tails.{Or, or_opt, or_left, or_right, or_seq}
 use Rattle.clif_words.specs.declared.class.Class.{Class}
 use Rattle.clif_words.specs.declared.class.Class.TheVariants as classes
@@ -29,7 +29,7 @@ use Rattle.clif_read.proofs.LetterInsts.{c, values, values_value, whole_of, alon
 -- which of the two, and what it means
 pub record Returned : Type 0 where
   pub rule : Rule
-  pub inst : (excepted : List Class) → Value (instruction rule excepted) → RawInst
+  pub inst : (excepted : List Class) → Tree (instruction rule excepted) → RawInst
 
 abbrev own : Returned
 own = record { rule = return_values; inst = whole_of }
@@ -58,28 +58,28 @@ located_by r = named_by r or tagged_by r or instruction r.rule (classes.Value �
 abbrev line_of : Returned → Rule
 line_of r = named_by r or tagged_by r or (srcloc then located_by r) or instruction r.rule (classes.Value ∷ classes.Block ∷ [])
 
-abbrev made_line : (r : Returned) → Option ℕ → List RawTag → List RawName → Value (made_by r) → RawLine
+abbrev made_line : (r : Returned) → Option ℕ → List RawTag → List RawName → Tree (made_by r) → RawLine
 made_line r l ts rs v = raw_lines.Inst l ts rs (r.inst [] v.1)
 
-abbrev inst_line : (r : Returned) (excepted : List Class) → Option ℕ → List RawTag → List RawName → Value (instruction r.rule excepted) → RawLine
+abbrev inst_line : (r : Returned) (excepted : List Class) → Option ℕ → List RawTag → List RawName → Tree (instruction r.rule excepted) → RawLine
 inst_line r excepted l ts rs v = raw_lines.Inst l ts rs (r.inst excepted v)
 
-abbrev named_tail_line : (r : Returned) → Option ℕ → RawName → Value (named_tail r) → RawLine
+abbrev named_tail_line : (r : Returned) → Option ℕ → RawName → Tree (named_tail r) → RawLine
 named_tail_line r l first = either (λ v. raw_lines.Alias l first (name v.1)) (λ v. made_line r l [] (values_from first v.0) v.1)
 
-abbrev named_line : (r : Returned) → Option ℕ → Value (named_by r) → RawLine
+abbrev named_line : (r : Returned) → Option ℕ → Tree (named_by r) → RawLine
 named_line r l v = named_tail_line r l (name v.0) v.1
 
-abbrev tagged_tail_line : (r : Returned) → Option ℕ → List RawTag → Value (tagged_tail r) → RawLine
+abbrev tagged_tail_line : (r : Returned) → Option ℕ → List RawTag → Tree (tagged_tail r) → RawLine
 tagged_tail_line r l ts = either (λ v. made_line r l ts (commas_value value name v.0) v.1) (inst_line r (classes.Value ∷ []) l ts [])
 
-abbrev tagged_line : (r : Returned) → Option ℕ → Value (tagged_by r) → RawLine
+abbrev tagged_line : (r : Returned) → Option ℕ → Tree (tagged_by r) → RawLine
 tagged_line r l v = tagged_tail_line r l (debug_tags_value v.0) v.1
 
-abbrev located_line : (r : Returned) → Option ℕ → Value (located_by r) → RawLine
+abbrev located_line : (r : Returned) → Option ℕ → Tree (located_by r) → RawLine
 located_line r l = either (named_line r l) (either (tagged_line r l) (inst_line r (classes.Value ∷ []) l [] []))
 
-abbrev line_by : (r : Returned) → Value (line_of r) → RawLine
+abbrev line_by : (r : Returned) → Tree (line_of r) → RawLine
 line_by r = either (named_line r None) (either (tagged_line r None) (either (λ v. located_line r (Some v.0.spot) v.1) (inst_line r (classes.Value ∷ classes.Block ∷ []) None [] [])))
 
 -- ---- values that stand behind a line are given to it
@@ -124,14 +124,14 @@ line_given =
 
 -- ---- a line, or values
 
-line_offered : (ts : List Lexeme) (x : Value line) → Derives line ts x → Means line_or_values line_or_values_value ts (Whole (line_by behind x))
+line_offered : (ts : List Lexeme) (x : Tree line) → Derives line ts x → Means line_or_values line_or_values_value ts (Whole (line_by behind x))
 line_offered ts (inl (x, inl v)) d = (inl (x, inl v), d, refl)
 line_offered ts (inl (x, inr (m, v))) d = (inl (x, inr (m, Some v)), d, refl)
 line_offered ts (inr (inl v)) d = (inr (inl v), d, refl)
 line_offered ts (inr (inr (inl v))) d = (inr (inr (inl v)), d, refl)
 line_offered ts (inr (inr (inr v))) d = (inr (inr (inr v)), d, refl)
 
-values_offered : (ts : List Lexeme) (x : Value values) → Derives values ts x → Means line_or_values line_or_values_value ts (Values (values_value x))
+values_offered : (ts : List Lexeme) (x : Tree values) → Derives values ts x → Means line_or_values line_or_values_value ts (Values (values_value x))
 values_offered ts (x, m) d = (inl (x, inr (m, None)), (d.0, d.1, d.2, (d.3.0, (d.1, [], sym (append-nil d.1), (d.3.1, refl)))), refl)
 
 line_or : Or line_or_values line values
@@ -194,17 +194,17 @@ chaining = record {
   readable = refl;
 }
 
-line_seen : (v : Value line) → Whole (line_by behind v) ≡ line_value v
+line_seen : (v : Tree line) → Whole (line_by behind v) ≡ line_value v
 line_seen (inl v) = refl
 line_seen (inr (inl v)) = refl
 line_seen (inr (inr (inl v))) = refl
 line_seen (inr (inr (inr v))) = refl
 
-part_seen : (v : Value line ⊎ Value line_or_values) → part chaining v ≡ part_value v
+part_seen : (v : Tree line ⊎ Tree line_or_values) → part chaining v ≡ part_value v
 part_seen (inl v) = line_seen v
 part_seen (inr v) = refl
 
-parts_seen : (vs : List (Value line ⊎ Value line_or_values)) → map (part chaining) vs ≡ map part_value vs
+parts_seen : (vs : List (Tree line ⊎ Tree line_or_values)) → map (part chaining) vs ≡ map part_value vs
 parts_seen [] = refl
 parts_seen (v ∷ vs) = rw (part_seen v, parts_seen vs) refl
 
@@ -216,10 +216,10 @@ own_lines = alike_then (chain_alike chaining) (alike_same lines (chained chainin
 inst_line_alike : (these those : List Class) (l : Option ℕ) (ts : List RawTag) (rs : List RawName) → Alike (instruction return_values these) (instruction return_values those) (inst_line own these l ts rs) (inst_line own those l ts rs)
 inst_line_alike these those l ts rs = alike_map (raw_lines.Inst l ts rs) (inst_alike these those)
 
-same : (r : Rule) (f : Value r → RawLine) → Alike r r f f
+same : (r : Rule) (f : Tree r → RawLine) → Alike r r f f
 same r f = alike_same r f f (λ v. refl)
 
-abbrev result_line : Option ℕ → List RawTag → Value (Opt results then whole_inst) → RawLine
+abbrev result_line : Option ℕ → List RawTag → Tree (Opt results then whole_inst) → RawLine
 result_line l ts v = raw_lines.Inst l ts (results_value v.0) (whole_value v.1)
 
 -- results may be left out
@@ -229,7 +229,7 @@ results_alike l ts =
     (alike_then (alt_swap whole_inst (results then whole_inst) (λ v. raw_lines.Inst l ts [] (whole_value v)) (λ v. raw_lines.Inst l ts (commas_value value name v.0.0) (whole_value v.1)))
     (alt_alike (seq_group (commas value) equals whole_inst (λ x e v. raw_lines.Inst l ts (commas_value value name x) (whole_value v))) (inst_line_alike [] (classes.Value ∷ []) l ts [])))
 
-abbrev bare_line : Option ℕ → Value (Opt debug_tags then Opt results then whole_inst) → RawLine
+abbrev bare_line : Option ℕ → Tree (Opt debug_tags then Opt results then whole_inst) → RawLine
 bare_line l v = result_line l (tags_value v.0) v.1
 
 -- tags may be left out
@@ -238,10 +238,10 @@ tags_alike l =
     alike_then (opt_seq debug_tags (Opt results then whole_inst) (λ o v. result_line l (tags_value o) v))
     (alt_alike (results_alike l []) (seq_second {M = List RawTag} debug_tags_value (result_line l) (tagged_tail_line own l) (results_alike l)))
 
-abbrev alias_by : Option ℕ → Value (value then arrow then value) → RawLine
+abbrev alias_by : Option ℕ → Tree (value then arrow then value) → RawLine
 alias_by l v = raw_lines.Alias l (name v.0) (name v.1.1)
 
-abbrev results_by : Option ℕ → Value (commas value then made_by own) → RawLine
+abbrev results_by : Option ℕ → Tree (commas value then made_by own) → RawLine
 results_by l v = made_line own l [] (commas_value value name v.0) v.1
 
 -- what begins with a value
@@ -258,7 +258,7 @@ located_alike l =
     (alike_then (alike_back (alt_group (value then arrow then value) (commas value then made_by own) (instruction return_values (classes.Value ∷ []) or tagged_by own) (alias_by l) (results_by l) (either (inst_line own (classes.Value ∷ []) l [] []) (tagged_line own l))))
     (alt_alike (named_alike l) (alt_swap (instruction return_values (classes.Value ∷ [])) (tagged_by own) (inst_line own (classes.Value ∷ []) l [] []) (tagged_line own l)))))
 
-abbrev at_spot : Value (srcloc then located_by own) → RawLine
+abbrev at_spot : Tree (srcloc then located_by own) → RawLine
 at_spot v = located_line own (Some v.0.spot) v.1
 
 -- a line with or without a location

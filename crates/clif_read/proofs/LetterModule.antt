@@ -1,6 +1,6 @@
 -- A module of the grammar is one of the EBNF.
-use Rattle.std.proofs.Common.{List, ◌∷◌, [], map, refl}
-use Rattle.grammar.specs.Rules.{Lexeme, Opt, Many, Value}
+use Rattle.std.proofs.Common.{ℕ, List, ◌∷◌, [], map, refl}
+use Rattle.grammar.specs.Rules.{Lexeme, Opt, Many, Tree}
 use Rattle.clif_words.specs.Terminals.{◌then◌, right_brace, cold}
 use Rattle.clif_insts.specs.Reading.{name}
 use Rattle.clif_insts.specs.Values.{perhaps}
@@ -20,7 +20,7 @@ use Rattle.clif_read.proofs.LetterLines.{lines_alike}
 
 -- ---- blocks
 
-abbrev block_of : Lexeme → Value (Opt block_params) → Value (Opt cold) → List RawLine → RawBlock
+abbrev block_of : Lexeme → Tree (Opt block_params) → Tree (Opt cold) → List RawLine → RawBlock
 block_of b ps c ls = record { block = name b; params = perhaps [] block_params_value ps; cold = is_cold c; lines = ls }
 
 block_alike : Alike letter_block block_rule letter_block_value block_value
@@ -33,22 +33,26 @@ block_alike =
 
 -- ---- functions
 
-abbrev function_of : Lexeme → Value func_name → Value signature → List (Value decl) → List RawBlock → RawFunction
-function_of f n s ds blocks = record { spot = f.spot; name = func_name_value n; signature = signature_value s; decls = map decl_value ds; blocks = blocks }
+-- the blocks of a function, and the spot of what ends it
+abbrev ending : List RawBlock → ℕ → List RawBlock × ℕ
+ending blocks spot = (blocks, spot)
 
-more_alike : Alike (Many letter_block then right_brace) (Many block_rule then right_brace) (λ v. map letter_block_value v.0) (λ v. map block_value v.0)
-more_alike = seq_alike {fb = λ (x : Lexeme). x} {fd = λ (x : Lexeme). x} (λ blocks brace. blocks) (many_alike block_alike) (alike_same right_brace (λ x. x) (λ x. x) (λ x. refl))
+abbrev function_of : Lexeme → Tree func_name → Tree signature → List (Tree decl) → List RawBlock × ℕ → RawFunction
+function_of f n s ds rest = record { spot = f.spot; name = func_name_value n; signature = signature_value s; decls = map decl_value ds; blocks = rest.0; end_spot = rest.1 }
 
-blocks_alike : Alike (letter_block then Many letter_block then right_brace) (block_rule then Many block_rule then right_brace) (λ v. letter_block_value v.0 ∷ map letter_block_value v.1.0) (λ v. block_value v.0 ∷ map block_value v.1.0)
-blocks_alike = seq_alike (λ (b : RawBlock) (bs : List RawBlock). b ∷ bs) block_alike more_alike
+more_alike : Alike (Many letter_block then right_brace) (Many block_rule then right_brace) (λ v. ending (map letter_block_value v.0) v.1.spot) (λ v. ending (map block_value v.0) v.1.spot)
+more_alike = seq_alike {fb = λ (x : Lexeme). x} {fd = λ (x : Lexeme). x} (λ (blocks : List RawBlock) (brace : Lexeme). ending blocks brace.spot) (many_alike block_alike) (alike_same right_brace (λ x. x) (λ x. x) (λ x. refl))
+
+blocks_alike : Alike (letter_block then Many letter_block then right_brace) (block_rule then Many block_rule then right_brace) (λ v. ending (letter_block_value v.0 ∷ map letter_block_value v.1.0) v.1.1.spot) (λ v. ending (block_value v.0 ∷ map block_value v.1.0) v.1.1.spot)
+blocks_alike = seq_alike (λ (b : RawBlock) (rest : List RawBlock × ℕ). ending (b ∷ rest.0) rest.1) block_alike more_alike
 
 function_alike : Alike letter_function function letter_function_value function_value
 function_alike =
-    seq_second (λ f. f) (λ f v. function_of f v.0 v.1.0 v.1.1.1.0 (letter_block_value v.1.1.1.1.0 ∷ map letter_block_value v.1.1.1.1.1.0)) (λ f v. function_of f v.0 v.1.0 v.1.1.1.0 (block_value v.1.1.1.1.0 ∷ map block_value v.1.1.1.1.1.0))
-    (λ f. seq_second (λ n. n) (λ n v. function_of f n v.0 v.1.1.0 (letter_block_value v.1.1.1.0 ∷ map letter_block_value v.1.1.1.1.0)) (λ n v. function_of f n v.0 v.1.1.0 (block_value v.1.1.1.0 ∷ map block_value v.1.1.1.1.0))
-    (λ n. seq_second (λ s. s) (λ s v. function_of f n s v.1.0 (letter_block_value v.1.1.0 ∷ map letter_block_value v.1.1.1.0)) (λ s v. function_of f n s v.1.0 (block_value v.1.1.0 ∷ map block_value v.1.1.1.0))
-    (λ s. seq_second (λ l. l) (λ l v. function_of f n s v.0 (letter_block_value v.1.0 ∷ map letter_block_value v.1.1.0)) (λ l v. function_of f n s v.0 (block_value v.1.0 ∷ map block_value v.1.1.0))
-    (λ l. seq_second (λ ds. ds) (λ ds v. function_of f n s ds (letter_block_value v.0 ∷ map letter_block_value v.1.0)) (λ ds v. function_of f n s ds (block_value v.0 ∷ map block_value v.1.0))
+    seq_second (λ f. f) (λ f v. function_of f v.0 v.1.0 v.1.1.1.0 (ending (letter_block_value v.1.1.1.1.0 ∷ map letter_block_value v.1.1.1.1.1.0) v.1.1.1.1.1.1.spot)) (λ f v. function_of f v.0 v.1.0 v.1.1.1.0 (ending (block_value v.1.1.1.1.0 ∷ map block_value v.1.1.1.1.1.0) v.1.1.1.1.1.1.spot))
+    (λ f. seq_second (λ n. n) (λ n v. function_of f n v.0 v.1.1.0 (ending (letter_block_value v.1.1.1.0 ∷ map letter_block_value v.1.1.1.1.0) v.1.1.1.1.1.spot)) (λ n v. function_of f n v.0 v.1.1.0 (ending (block_value v.1.1.1.0 ∷ map block_value v.1.1.1.1.0) v.1.1.1.1.1.spot))
+    (λ n. seq_second (λ s. s) (λ s v. function_of f n s v.1.0 (ending (letter_block_value v.1.1.0 ∷ map letter_block_value v.1.1.1.0) v.1.1.1.1.spot)) (λ s v. function_of f n s v.1.0 (ending (block_value v.1.1.0 ∷ map block_value v.1.1.1.0) v.1.1.1.1.spot))
+    (λ s. seq_second (λ l. l) (λ l v. function_of f n s v.0 (ending (letter_block_value v.1.0 ∷ map letter_block_value v.1.1.0) v.1.1.1.spot)) (λ l v. function_of f n s v.0 (ending (block_value v.1.0 ∷ map block_value v.1.1.0) v.1.1.1.spot))
+    (λ l. seq_second (λ ds. ds) (λ ds v. function_of f n s ds (ending (letter_block_value v.0 ∷ map letter_block_value v.1.0) v.1.1.spot)) (λ ds v. function_of f n s ds (ending (block_value v.0 ∷ map block_value v.1.0) v.1.1.spot))
     (λ ds. alike_map (function_of f n s ds) blocks_alike)))))
 
 -- ---- modules

@@ -2,7 +2,7 @@ mod BackConstants
 mod BackDecimals
 mod BackFronts
 mod BackNumbers
-mod BackPieces
+mod BackStretches
 mod BackRanges
 mod BackSimple
 mod BackSimpleClear
@@ -20,7 +20,7 @@ mod SimpleDigits
 mod SimpleDrafts
 mod SimpleLoops
 mod SimpleNames
-mod SimplePieces
+mod SimpleStretches
 mod SimplePreamble
 mod SimplePush
 mod SimpleRest
@@ -39,7 +39,7 @@ pub mod LineLaws
 pub mod LineLoop
 pub mod ModuleLaws
 pub mod Whole
-pub mod PieceLaws
+pub mod StretchLaws
 pub mod Alike
 pub mod Given
 pub mod LetterInsts
@@ -48,3 +48,6 @@ mod DeclarationExamples
 pub mod LetterModule
 pub mod LetterAttributes
 mod LineExamples
+pub mod ModuleMarks
+pub mod ModuleFormed
+pub mod Within

@@ -1,6 +1,6 @@
 -- A line ends with a `return` word where it is a `return`.
 use Rattle.std.proofs.Common.{◌≡◌, ℕ, Bool, List, [], ◌∷◌, Option, Some, None, refl, inl, inr}
-use Rattle.grammar.specs.Rules.{Lexeme, Class, Rule, Empty, Many, Value, Derives, ends}
+use Rattle.grammar.specs.Rules.{Lexeme, Class, Rule, Empty, Many, Tree, Derives, ends}
 use Rattle.clif_words.specs.declared.class.Class as words
 use Rattle.clif_words.specs.declared.class.Class.TheVariants as classes
 use Rattle.clif_words.specs.Classes.{code}
@@ -19,7 +19,7 @@ use Rattle.clif_read.specs.LineValues.{Whole, Values, made_value, debug_tags_val
 use Rattle.clif_read.specs.Lines.{returns, is_return}
 use Rattle.clif_read.proofs.Ends.{Ends, never_ends, token_ends, either_ends, refused_ends, then_ends, also_ends}
 
-abbrev return_code : Class
+abbrev pub return_code : Class
 return_code = code classes.Return
 
 abbrev is_return_inst : RawInst → Bool
@@ -85,7 +85,7 @@ other_ends =
     either_ends (tagged_ends None)
     (either_ends (then_ends srcloc (λ x v. located_value x.spot v) (λ x. located_ends x.spot)) (plain_ends (classes.Value ∷ classes.Block ∷ []) None [] []))
 
-whole_ends : (r : Rule) (f : Value r → RawLine) → Ends return_code is_return_line r f → Ends return_code is_return r (λ v. Whole (f v))
+whole_ends : (r : Rule) (f : Tree r → RawLine) → Ends return_code is_return_line r f → Ends return_code is_return r (λ v. Whole (f v))
 whole_ends r f e = also_ends e is_return (λ v. Whole (f v)) (λ v. refl)
 
 pub line_ends : Ends return_code is_return line line_value
@@ -107,7 +107,7 @@ named_or_values_ends = record { so = go }
         (λ x. then_ends (Many (comma then value)) (λ vs v. Whole (raw_lines.Inst None [] (values_from (name x) vs) (made_value v)))
         (λ vs. whole_ends made (λ v. raw_lines.Inst None [] (values_from (name x) vs) (made_value v)) (made_ends None [] (values_from (name x) vs))))
 
-    go : (us : List Lexeme) (v : Value named_or_values) → Derives named_or_values us v → (before : Bool) → ends return_code before us ≡ is_return (named_or_values_value v)
+    go : (us : List Lexeme) (v : Tree named_or_values) → Derives named_or_values us v → (before : Bool) → ends return_code before us ≡ is_return (named_or_values_value v)
     go us (x, inl v) d before = alias.so us (x, v) d before
     go us (x, inr (vs, None)) d before = alone.so us (x, (vs, tt)) d before
     go us (x, inr (vs, Some v)) d before = results.so us (x, (vs, v)) d before

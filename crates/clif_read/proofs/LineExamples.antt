@@ -7,6 +7,7 @@ use Rattle.clif_words.specs.declared.class.Class.TheVariants as classes
 use Rattle.clif_words.specs.Classes.{code}
 use Rattle.clif_insts.specs.declared.raw.RawName.{RawName}
 use Rattle.clif_insts.specs.declared.raw.RawOperands.TheVariants as operands
+use Rattle.clif_insts.specs.Reading.{opcode}
 use Rattle.clif_insts.specs.InstValues.{raw}
 use Rattle.clif_read.specs.declared.raw.RawLine.{RawLine}
 use Rattle.clif_read.specs.declared.raw.RawLine.TheVariants as raw_lines
@@ -23,7 +24,7 @@ abbrev named : ℕ → ℕ → RawName
 named n spot = record { number = n; spot = spot }
 
 abbrev returned : ℕ → List RawName → RawLine
-returned spot values = raw_lines.Inst None [] [] (raw (named 0 spot) None (operands.Return values))
+returned spot values = raw_lines.Inst None [] [] (raw (opcode (word classes.Return 0 spot)) None (operands.Return values))
 
 -- `return v0, v1`
 own_values : some_lines (word classes.Return 0 0 ∷ word classes.Value 0 7 ∷ word classes.Comma 0 9 ∷ word classes.Value 1 11 ∷ []) ≡ Ok (returned 0 (named 0 7 ∷ named 1 11 ∷ []) ∷ [])
@@ -35,7 +36,7 @@ two_returns = refl
 
 -- `return v0 = nop`: the value is the result of the next line
 result_behind : some_lines (word classes.Return 0 0 ∷ word classes.Value 0 7 ∷ word classes.Equals 0 10 ∷ word classes.Nullary 0 12 ∷ [])
-    ≡ Ok (returned 0 [] ∷ raw_lines.Inst None [] (named 0 7 ∷ []) (raw (named 0 12) None operands.Nullary) ∷ [])
+    ≡ Ok (returned 0 [] ∷ raw_lines.Inst None [] (named 0 7 ∷ []) (raw (opcode (word classes.Nullary 0 12)) None operands.Nullary) ∷ [])
 result_behind = refl
 
 -- `return v0 -> v1`: the value is the alias of the next line

@@ -1,9 +1,9 @@
 -- The lines of a block are read as the grammar says.
 use Rattle.std.proofs.Common.{◌≡◌, ℕ, zero, suc, Bool, true, false, cond, List, [], ◌∷◌, ◌++◌, length, map, Option, Some, None, Ok, Err, refl, sym, ap, ◌∙◌, inl, inr, append_assoc}
 use Rattle.std.specs.Prelude.{◌⊎◌}
-use Rattle.grammar.specs.Rules.{Lexeme, Opt, Many, Value, ByFlag, Derives, Out, ends, used, heads, firsts, chain, by_flag, read, ◌>>=◌}
+use Rattle.grammar.specs.Rules.{Lexeme, Opt, Many, Tree, ByFlag, Derives, Out, ends, used, heads, firsts, chain, by_flag, read, ◌>>=◌}
 use Rattle.grammar.proofs.Chains.{used_is}
-use Rattle.grammar.proofs.Laws.{flag_firsts, sound, sound_flag}
+use Rattle.grammar.proofs.Exactness.{flag_firsts, sound, sound_flag}
 use Rattle.clif_words.specs.declared.class.Class.TheVariants as classes
 use Rattle.clif_words.specs.Classes.{code}
 use Rattle.clif_words.specs.Terminals.{◌then◌, ◌or◌, comma, arrow, greater, value}
@@ -120,16 +120,16 @@ line_or_values_is = alt_is named_or_values_is (map_is other_line_is Whole)
 -- ---- lines
 
 abbrev Part : Type 0
-Part = Value line ⊎ Value line_or_values
+Part = Tree line ⊎ Tree line_or_values
 
 abbrev part : Bool → List Lexeme → Out Part
 part after_return ts = by_flag (read line) (read line_or_values) after_return ts
 
-seen_left : (o : Out (Value line)) → seen line_value o ≡ seen part_value (o >>= λ x. Ok (inl x.0, x.1))
+seen_left : (o : Out (Tree line)) → seen line_value o ≡ seen part_value (o >>= λ x. Ok (inl x.0, x.1))
 seen_left (Ok x) = refl
 seen_left (Err e) = refl
 
-seen_right : (o : Out (Value line_or_values)) → seen line_or_values_value o ≡ seen part_value (o >>= λ x. Ok (inr x.0, x.1))
+seen_right : (o : Out (Tree line_or_values)) → seen line_or_values_value o ≡ seen part_value (o >>= λ x. Ok (inr x.0, x.1))
 seen_right (Ok x) = refl
 seen_right (Err e) = refl
 

@@ -54,27 +54,27 @@ more_blocks_is : (front : List RawBlock) → Is (Many block_rule) (λ vs. front 
 unfolding more_blocks_at
 more_blocks_is front = map_is (many_is block_is) (λ vs. front ++ vs)
 
-abbrev raw_function : ℕ → RawFuncName → RawSignature → List RawDecl → List RawBlock → RawFunction
-raw_function spot called sig ds bs = record { spot = spot; name = called; signature = sig; decls = ds; blocks = bs }
+abbrev raw_function : ℕ → RawFuncName → RawSignature → List RawDecl → List RawBlock → ℕ → RawFunction
+raw_function spot called sig ds bs end_spot = record { spot = spot; name = called; signature = sig; decls = ds; blocks = bs; end_spot = end_spot }
 
 function_is : Is function function_value function_at
 unfolding function_at
 function_is =
-    then_is (name_is classes.Function) (func_name then signature then left_brace then Many decl then block_rule then Many block_rule then right_brace) (λ word v. raw_function word.spot (func_name_value v.0) (signature_value v.1.0) (map decl_value v.1.1.1.0) (block_value v.1.1.1.1.0 ∷ map block_value v.1.1.1.1.1.0))
-    (λ word ts. func_name_at ts >>= λ called. signature_at called.1 >>= λ sig. name_at classes.LeftBrace sig.1 >>= λ left. decls_at left.1 >>= λ ds. block_at ds.1 >>= λ first. more_blocks_at (first.0 ∷ []) first.1 >>= λ bs. name_at classes.RightBrace bs.1 >>= λ right. Ok (raw_function word.spot called.0 sig.0 ds.0 bs.0, right.1))
-    (λ word. then_is func_name_is (signature then left_brace then Many decl then block_rule then Many block_rule then right_brace) (λ called v. raw_function word.spot called (signature_value v.0) (map decl_value v.1.1.0) (block_value v.1.1.1.0 ∷ map block_value v.1.1.1.1.0))
-    (λ called ts. signature_at ts >>= λ sig. name_at classes.LeftBrace sig.1 >>= λ left. decls_at left.1 >>= λ ds. block_at ds.1 >>= λ first. more_blocks_at (first.0 ∷ []) first.1 >>= λ bs. name_at classes.RightBrace bs.1 >>= λ right. Ok (raw_function word.spot called sig.0 ds.0 bs.0, right.1))
-    (λ called. then_is signature_is (left_brace then Many decl then block_rule then Many block_rule then right_brace) (λ sig v. raw_function word.spot called sig (map decl_value v.1.0) (block_value v.1.1.0 ∷ map block_value v.1.1.1.0))
-    (λ sig ts. name_at classes.LeftBrace ts >>= λ left. decls_at left.1 >>= λ ds. block_at ds.1 >>= λ first. more_blocks_at (first.0 ∷ []) first.1 >>= λ bs. name_at classes.RightBrace bs.1 >>= λ right. Ok (raw_function word.spot called sig ds.0 bs.0, right.1))
-    (λ sig. then_is (name_is classes.LeftBrace) (Many decl then block_rule then Many block_rule then right_brace) (λ left v. raw_function word.spot called sig (map decl_value v.0) (block_value v.1.0 ∷ map block_value v.1.1.0))
-    (λ left ts. decls_at ts >>= λ ds. block_at ds.1 >>= λ first. more_blocks_at (first.0 ∷ []) first.1 >>= λ bs. name_at classes.RightBrace bs.1 >>= λ right. Ok (raw_function word.spot called sig ds.0 bs.0, right.1))
-    (λ left. then_is decls_is (block_rule then Many block_rule then right_brace) (λ ds v. raw_function word.spot called sig ds (block_value v.0 ∷ map block_value v.1.0))
-    (λ ds ts. block_at ts >>= λ first. more_blocks_at (first.0 ∷ []) first.1 >>= λ bs. name_at classes.RightBrace bs.1 >>= λ right. Ok (raw_function word.spot called sig ds bs.0, right.1))
-    (λ ds. then_is block_is (Many block_rule then right_brace) (λ first v. raw_function word.spot called sig ds (first ∷ map block_value v.0))
-    (λ first ts. more_blocks_at (first ∷ []) ts >>= λ bs. name_at classes.RightBrace bs.1 >>= λ right. Ok (raw_function word.spot called sig ds bs.0, right.1))
-    (λ first. then_is (more_blocks_is (first ∷ [])) right_brace (λ bs v. raw_function word.spot called sig ds bs)
-    (λ bs ts. name_at classes.RightBrace ts >>= λ right. Ok (raw_function word.spot called sig ds bs, right.1))
-    (λ bs. map_is (name_is classes.RightBrace) (λ right. raw_function word.spot called sig ds bs))))))))
+    then_is (name_is classes.Function) (func_name then signature then left_brace then Many decl then block_rule then Many block_rule then right_brace) (λ word v. raw_function word.spot (func_name_value v.0) (signature_value v.1.0) (map decl_value v.1.1.1.0) (block_value v.1.1.1.1.0 ∷ map block_value v.1.1.1.1.1.0) v.1.1.1.1.1.1.spot)
+    (λ word ts. func_name_at ts >>= λ called. signature_at called.1 >>= λ sig. name_at classes.LeftBrace sig.1 >>= λ left. decls_at left.1 >>= λ ds. block_at ds.1 >>= λ first. more_blocks_at (first.0 ∷ []) first.1 >>= λ bs. name_at classes.RightBrace bs.1 >>= λ right. Ok (raw_function word.spot called.0 sig.0 ds.0 bs.0 right.0.spot, right.1))
+    (λ word. then_is func_name_is (signature then left_brace then Many decl then block_rule then Many block_rule then right_brace) (λ called v. raw_function word.spot called (signature_value v.0) (map decl_value v.1.1.0) (block_value v.1.1.1.0 ∷ map block_value v.1.1.1.1.0) v.1.1.1.1.1.spot)
+    (λ called ts. signature_at ts >>= λ sig. name_at classes.LeftBrace sig.1 >>= λ left. decls_at left.1 >>= λ ds. block_at ds.1 >>= λ first. more_blocks_at (first.0 ∷ []) first.1 >>= λ bs. name_at classes.RightBrace bs.1 >>= λ right. Ok (raw_function word.spot called sig.0 ds.0 bs.0 right.0.spot, right.1))
+    (λ called. then_is signature_is (left_brace then Many decl then block_rule then Many block_rule then right_brace) (λ sig v. raw_function word.spot called sig (map decl_value v.1.0) (block_value v.1.1.0 ∷ map block_value v.1.1.1.0) v.1.1.1.1.spot)
+    (λ sig ts. name_at classes.LeftBrace ts >>= λ left. decls_at left.1 >>= λ ds. block_at ds.1 >>= λ first. more_blocks_at (first.0 ∷ []) first.1 >>= λ bs. name_at classes.RightBrace bs.1 >>= λ right. Ok (raw_function word.spot called sig ds.0 bs.0 right.0.spot, right.1))
+    (λ sig. then_is (name_is classes.LeftBrace) (Many decl then block_rule then Many block_rule then right_brace) (λ left v. raw_function word.spot called sig (map decl_value v.0) (block_value v.1.0 ∷ map block_value v.1.1.0) v.1.1.1.spot)
+    (λ left ts. decls_at ts >>= λ ds. block_at ds.1 >>= λ first. more_blocks_at (first.0 ∷ []) first.1 >>= λ bs. name_at classes.RightBrace bs.1 >>= λ right. Ok (raw_function word.spot called sig ds.0 bs.0 right.0.spot, right.1))
+    (λ left. then_is decls_is (block_rule then Many block_rule then right_brace) (λ ds v. raw_function word.spot called sig ds (block_value v.0 ∷ map block_value v.1.0) v.1.1.spot)
+    (λ ds ts. block_at ts >>= λ first. more_blocks_at (first.0 ∷ []) first.1 >>= λ bs. name_at classes.RightBrace bs.1 >>= λ right. Ok (raw_function word.spot called sig ds bs.0 right.0.spot, right.1))
+    (λ ds. then_is block_is (Many block_rule then right_brace) (λ first v. raw_function word.spot called sig ds (first ∷ map block_value v.0) v.1.spot)
+    (λ first ts. more_blocks_at (first ∷ []) ts >>= λ bs. name_at classes.RightBrace bs.1 >>= λ right. Ok (raw_function word.spot called sig ds bs.0 right.0.spot, right.1))
+    (λ first. then_is (more_blocks_is (first ∷ [])) right_brace (λ bs v. raw_function word.spot called sig ds bs v.spot)
+    (λ bs ts. name_at classes.RightBrace ts >>= λ right. Ok (raw_function word.spot called sig ds bs right.0.spot, right.1))
+    (λ bs. map_is (name_is classes.RightBrace) (λ right. raw_function word.spot called sig ds bs right.spot))))))))
 
 pub functions_is : Is (Many function) (map function_value) functions_at
 unfolding functions_at

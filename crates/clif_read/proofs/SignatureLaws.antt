@@ -1,6 +1,6 @@
 -- Signatures are read as their rule of the grammar says.
 use Rattle.std.proofs.Common.{List, [], Option, Some, None, Ok}
-use Rattle.grammar.specs.Rules.{Lexeme, Rule, Opt, Value, Out, ◌>>=◌}
+use Rattle.grammar.specs.Rules.{Lexeme, Rule, Opt, Tree, Out, ◌>>=◌}
 use Rattle.ir_core.specs.declared.signatures.Ty.{Ty}
 use Rattle.ir_core.specs.declared.signatures.Conv.{Conv}
 use Rattle.ir_core.specs.declared.signatures.Conv.TheVariants as convs
@@ -63,7 +63,7 @@ raw_signature ps rs c = record { params = ps; results = rs; conv = c }
 abbrev behind_params : Rule
 behind_params = right_paren then Opt (arrow then params) then Opt convention
 
-abbrev with_params : List RawParam → Value behind_params → RawSignature
+abbrev with_params : List RawParam → Tree behind_params → RawSignature
 with_params ps v = raw_signature ps (perhaps [] (λ w. params_value w.1) v.1.0) (perhaps None (λ w. Some (convention_value w)) v.1.1)
 
 abbrev behind_params_at : List RawParam → List Lexeme → Out RawSignature

@@ -13,10 +13,10 @@ use Rattle.clif_lex.specs.declared.spans.TokenKind.{TokenKind}
 use Rattle.clif_lex.specs.declared.spans.TokenKind.TheVariants as kind
 use Rattle.clif_lex.specs.Bytes.{is_blank, is_letter, is_word_byte, first}
 use Rattle.clif_lex.specs.Lexing.{◌>>=◌, is_header_word, is_preamble, token, token_at, tokens_from, tokens_of, word_at}
-use Rattle.clif_lex.specs.Pieces.{IsPiece}
+use Rattle.clif_lex.specs.Stretches.{IsStretch}
 use Rattle.clif_lex.specs.Spans.{spelling}
-use Rattle.grammar.specs.Rules.{Lexeme, Value, Derives}
-use Rattle.grammar.proofs.Laws.{front}
+use Rattle.grammar.specs.Rules.{Lexeme, Tree, Derives}
+use Rattle.grammar.proofs.Exactness.{front}
 use Rattle.clif_read.specs.SimpleClasses.{code}
 use Rattle.clif_read.specs.SimpleGrammar.{module_rule}
 use Rattle.clif_read.specs.SimpleWords.{word, lexeme_in, lexeme_as, lexemes, is_comment}
@@ -190,13 +190,13 @@ unfolding lexeme_in
 safe_function text t h = safe_class t.kind (spelling text t) t.start h
 
 -- the first token of functions is one
-first_class : (x : Lexeme) (xs : List Lexeme) (tree : Value module_rule) → Derives module_rule (x ∷ xs) tree → x.class ≡ 0
+first_class : (x : Lexeme) (xs : List Lexeme) (tree : Tree module_rule) → Derives module_rule (x ∷ xs) tree → x.class ≡ 0
 first_class x xs tree d = elim (front module_rule (x ∷ xs) tree d) [
   | inl none ↦ absurd (let k = none.0 in cc)
   | inr h ↦ elim (eqb_tells 0 x.class) [ inl t ↦ sym t.1 | inr f ↦ absurd (let k = rw f.0 at h in cc) ]
 ]
 
-functions_safe : (text : List ℕ) (ts : List Token) (tree : Value module_rule) → Derives module_rule (lexemes text ts) tree → begins_safely text ts ≡ true
+functions_safe : (text : List ℕ) (ts : List Token) (tree : Tree module_rule) → Derives module_rule (lexemes text ts) tree → begins_safely text ts ≡ true
 functions_safe text [] tree d = refl
 functions_safe text (t ∷ ts) tree d = elim (cases_Bool (is_comment t.kind)) [
   | inl comment ↦ rw comment (functions_safe text ts tree (rw comment at d))
@@ -204,6 +204,6 @@ functions_safe text (t ∷ ts) tree d = elim (cases_Bool (is_comment t.kind)) [
 ]
 
 -- where the tokens of the whole text are functions, they are the text's, though no Header was looked for
-pub whole_text : (text : List ℕ) (ts : List Token) (tree : Value module_rule) → IsPiece text false 0 (length text) ts → Derives module_rule (lexemes text ts) tree → tokens_of text ≡ Ok ts
-whole_text text ts tree piece d =
-    tokens_alike text 0 0 text ts refl (rw (take_all (length text) text (omega arith)) at piece.lexed) (functions_safe text ts tree d)
+pub whole_text : (text : List ℕ) (ts : List Token) (tree : Tree module_rule) → IsStretch text false 0 (length text) ts → Derives module_rule (lexemes text ts) tree → tokens_of text ≡ Ok ts
+whole_text text ts tree stretch d =
+    tokens_alike text 0 0 text ts refl (rw (take_all (length text) text (omega arith)) at stretch.lexed) (functions_safe text ts tree d)

@@ -1,7 +1,7 @@
 -- Each reading is its rule's.
 use Rattle.std.proofs.Common.{ℕ, ◌+◌, List, [], ◌∷◌, ◌++◌, map, length, Some, ap, ◌∙◌}
 use Rattle.std.proofs.lemmas.List.{length-map}
-use Rattle.grammar.specs.Rules.{Lexeme, Rule, Tok, Seq, Opt, Many, Value, heads, firsts}
+use Rattle.grammar.specs.Rules.{Lexeme, Rule, Tok, Seq, Opt, Many, Tree, heads, firsts}
 use Rattle.clif_read.specs.declared.simple.written.Assignment.{Assignment}
 use Rattle.clif_read.specs.declared.simple.written.Computation.{Computation}
 use Rattle.clif_read.specs.declared.simple.written.Computation.TheVariants.{Iconst, Iadd}

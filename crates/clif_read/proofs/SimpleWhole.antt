@@ -2,9 +2,9 @@
 use Rattle.std.proofs.Common.{◌≡◌, ℕ, ◌<◌, Bool, true, false, cond, List, [], ◌∷◌, ◌++◌, map, length, Option, Some, None, Result, Ok, Err, refl, sym, ap, subst, ◌∙◌}
 use Rattle.std.specs.Prelude.{is_some, MatchOption, IfOk, IfErr}
 use Rattle.std.proofs.lemmas.List.{append-nil}
-use Rattle.grammar.specs.Rules.{Lexeme, Value, Derives, heads, heads_any}
+use Rattle.grammar.specs.Rules.{Lexeme, Tree, Derives, heads, heads_any}
 use Rattle.grammar.specs.Rules as rules
-use Rattle.grammar.proofs.Laws.{sound, complete}
+use Rattle.grammar.proofs.Exactness.{sound, complete}
 use Rattle.clif_lex.specs.declared.spans.Token.{Token}
 use Rattle.ir_core.specs.Module.{Module}
 use Rattle.clif_read.specs.declared.simple.errors.SimpleErr.{SimpleErr}
@@ -72,17 +72,17 @@ pub means_reads : (text : List ℕ) (tokens : List Token) (m : Module) → Means
 means_reads text tokens m h =
     let ts = lexemes text tokens in
     let all : rules.read module_rule ts ≡ Ok (h.tree, []) = ap (rules.read module_rule) (sym (append-nil ts)) ∙ complete module_rule refl ts h.tree [] h.derived refl in
-    module_seen ts ∙ ap (λ (z : rules.Out (Value module_rule)). finish (seen functions z)) all ∙ rw (h.fits, h.same) refl
+    module_seen ts ∙ ap (λ (z : rules.Out (Tree module_rule)). finish (seen functions z)) all ∙ rw (h.fits, h.same) refl
 
 -- what is read is a simple text
 pub reads_means : (text : List ℕ) (tokens : List Token) (m : Module) → module_at (lexemes text tokens) ≡ Some m → Means text tokens m
 reads_means text tokens m h = go (rules.read module_rule (lexemes text tokens)) refl (sym (module_seen (lexemes text tokens)) ∙ h)
   where
-    fit : (tree : Value module_rule) → Derives module_rule (lexemes text tokens) tree → (b : Bool) → functions_fit [] (functions tree) ≡ b → cond {A = Option Module} b (Some (map meaning (functions tree))) None ≡ Some m → Means text tokens m
+    fit : (tree : Tree module_rule) → Derives module_rule (lexemes text tokens) tree → (b : Bool) → functions_fit [] (functions tree) ≡ b → cond {A = Option Module} b (Some (map meaning (functions tree))) None ≡ Some m → Means text tokens m
     fit tree d true e h = record { tree = tree; derived = d; fits = e; same = (let k : map meaning (functions tree) ≡ m = cc in sym k) }
     fit tree d false e h = absurd cc
 
-    go : (o : rules.Out (Value module_rule)) → rules.read module_rule (lexemes text tokens) ≡ o → finish (seen functions o) ≡ Some m → Means text tokens m
+    go : (o : rules.Out (Tree module_rule)) → rules.read module_rule (lexemes text tokens) ≡ o → finish (seen functions o) ≡ Some m → Means text tokens m
     go (Ok (tree, [])) e h =
         let s = sound module_rule (lexemes text tokens) (tree, []) e in
         let same : lexemes text tokens ≡ s.0 = s.1 ∙ append-nil s.0 in

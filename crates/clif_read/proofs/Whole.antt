@@ -1,8 +1,8 @@
 -- The whole of a text, in the words of the grammar.
 use Rattle.std.proofs.Common.{◌≡◌, ℕ, cond, List, [], ◌∷◌, ◌++◌, Ok, Err, refl, sym, ap, subst, ◌∙◌}
 use Rattle.std.proofs.lemmas.List.{append-nil}
-use Rattle.grammar.specs.Rules.{Lexeme, Kind, Syntax, UnknownOpcode, Unsupported, Value, Answers, Out, read, read_all, heads_any, ◌>>=◌}
-use Rattle.grammar.proofs.Laws.{complete}
+use Rattle.grammar.specs.Rules.{Lexeme, Kind, Syntax, UnknownOpcode, Unsupported, Tree, Answers, Out, read, read_all, heads_any, ◌>>=◌}
+use Rattle.grammar.proofs.Exactness.{complete}
 use Rattle.grammar.proofs.Exact.{exact}
 use Rattle.clif_insts.specs.declared.stop.Stop.{Stop}
 use Rattle.clif_insts.specs.declared.stop.Stop.TheVariants as stops
@@ -16,10 +16,10 @@ use Rattle.clif_read.specs.Modules.{whole_module_at}
 use Rattle.clif_read.specs.Texts.{IsModule, NoModule, Broken, Stopped, error_at}
 use Rattle.clif_read.proofs.ModuleLaws.{module_is}
 
-abbrev to_end : Out (Value module_rule) → Out (Value module_rule)
+abbrev to_end : Out (Tree module_rule) → Out (Tree module_rule)
 to_end o = o >>= λ x. cond (heads_any x.1) (Err (Syntax, x.1)) (Ok x)
 
-ok_err : (v : Value module_rule) (e : Kind × List Lexeme) → (let o : Out (Value module_rule) = Ok (v, []) in o) ≡ Err e → ⊥
+ok_err : (v : Tree module_rule) (e : Kind × List Lexeme) → (let o : Out (Tree module_rule) = Ok (v, []) in o) ≡ Err e → ⊥
 ok_err v e h = absurd cc
 
 no_module : (ts : List Lexeme) (e : Kind × List Lexeme) → to_end (read module_rule ts) ≡ Err e → NoModule ts
@@ -43,7 +43,7 @@ Says ts end (Err e) = Broken ts end e.0 (spot_or end e.1)
 abbrev whole : Out RawModule → Out RawModule
 whole o = o >>= λ m. cond (heads_any m.1) (Err (Syntax, m.1)) (Ok m)
 
-says_read : (ts : List Lexeme) (end : ℕ) (o : Out (Value module_rule)) → read module_rule ts ≡ o → Says ts end (whole (seen module_value o))
+says_read : (ts : List Lexeme) (end : ℕ) (o : Out (Tree module_rule)) → read module_rule ts ≡ o → Says ts end (whole (seen module_value o))
 says_read ts end (Ok (v, [])) h =
     let all : read_all module_rule ts ≡ Ok v = rw h refl in
     let a = subst (Answers module_rule ts) all (exact module_rule refl ts) in

@@ -27,10 +27,12 @@ begins_purpose = classes.Vmctx ∷ classes.Sret ∷ []
 -- an attribute of each pair at most, after one of the other pair
 unfoldable pub opt_purpose_at : RawAttribute → List Lexeme → Out (List RawAttribute)
 opt_purpose_at first ts =
-    if heads (codes_of begins_purpose) ts then (purpose_at ts >>= λ x. Ok (first ∷ x.0 ∷ [], x.1)) else Ok (first ∷ [], ts)
+    if heads (codes_of begins_purpose) ts
+    then (purpose_at ts >>= λ x. Ok (first ∷ x.0 ∷ [], x.1)) else Ok (first ∷ [], ts)
 
 unfoldable pub opt_ext_at : RawAttribute → List Lexeme → Out (List RawAttribute)
-opt_ext_at first ts = if next_is classes.Ext ts then (ext_at ts >>= λ x. Ok (first ∷ x.0 ∷ [], x.1)) else Ok (first ∷ [], ts)
+opt_ext_at first ts =
+    if next_is classes.Ext ts then (ext_at ts >>= λ x. Ok (first ∷ x.0 ∷ [], x.1)) else Ok (first ∷ [], ts)
 
 unfoldable pub ext_first_at : List Lexeme → Out (List RawAttribute)
 ext_first_at ts = do

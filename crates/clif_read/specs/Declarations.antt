@@ -68,7 +68,8 @@ sig_decl_at ts = do
 
 -- whether there is `colocated`
 unfoldable pub colocated_at : List Lexeme → Out Bool
-colocated_at ts = if next_is classes.Colocated ts then (name_at classes.Colocated ts >>= λ x. Ok (true, x.1)) else Ok (false, ts)
+colocated_at ts =
+    if next_is classes.Colocated ts then (name_at classes.Colocated ts >>= λ x. Ok (true, x.1)) else Ok (false, ts)
 
 unfoldable pub callee_sig_at : List Lexeme → Out RawCalleeSig
 callee_sig_at ts =

@@ -1,6 +1,7 @@
--- The attributes of a parameter by the letter of the EBNF: { "uext" | "sext" | "vmctx" | "sret" }, where at most one of `uext` and `sext` stands, and at most one of `vmctx` and `sret`.
+-- The attributes of a parameter by the letter of the EBNF: { "uext" | "sext" | "vmctx" | "sret" }, where at most one of
+-- `uext` and `sext` stands, and at most one of `vmctx` and `sret`.
 use Rattle.std.specs.Prelude.{◌≡◌, Bool, true, false, not, ◌≤◌, List, [], ◌++◌, map, count_by}
-use Rattle.grammar.specs.Rules.{Lexeme, Rule, Opt, Many, Value, Begins}
+use Rattle.grammar.specs.Rules.{Lexeme, Rule, Opt, Many, Tree, Begins}
 use Rattle.clif_words.specs.Terminals.{◌then◌, ◌or◌, ext}
 use Rattle.clif_insts.specs.Grammar.{any_type}
 use Rattle.clif_insts.specs.Values.{◌otherwise◌, perhaps}
@@ -14,7 +15,7 @@ use Rattle.clif_read.specs.DeclarationValues.{ext_value, purpose_value, attribut
 abbrev pub letter_attributes : Rule
 letter_attributes = Many (ext or purpose)
 
-abbrev pub letter_value : Value letter_attributes → List RawAttribute
+abbrev pub letter_value : Tree letter_attributes → List RawAttribute
 letter_value v = map (ext_value otherwise purpose_value) v
 
 abbrev pub is_ext : RawAttribute → Bool

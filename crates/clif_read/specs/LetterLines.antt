@@ -2,7 +2,7 @@
 -- line = [ Srcloc ] vN Arrow vN
 --      | [ Srcloc ] [ "<" tag { "," tag } ">" ] [ vN { "," vN } "=" ] inst
 use Rattle.std.specs.Prelude.{ℕ, List, [], map, Option, Some, None}
-use Rattle.grammar.specs.Rules.{Rule, Opt, Many, Value}
+use Rattle.grammar.specs.Rules.{Rule, Opt, Many, Tree}
 use Rattle.clif_insts.specs.declared.raw.RawName.{RawName}
 use Rattle.clif_words.specs.Terminals.{◌then◌, ◌or◌, srcloc, value, arrow, equals}
 use Rattle.clif_insts.specs.Grammar.{commas, whole_inst}
@@ -31,23 +31,23 @@ abbrev pub letter_lines : Rule
 letter_lines = Many letter_line
 
 -- where a location stands
-abbrev pub location : Value (Opt srcloc) → Option ℕ
+abbrev pub location : Tree (Opt srcloc) → Option ℕ
 location = perhaps None (λ x. Some x.spot)
 
-abbrev pub results_value : Value (Opt results) → List RawName
+abbrev pub results_value : Tree (Opt results) → List RawName
 results_value = perhaps [] (λ v. commas_value value name v.0)
 
-abbrev pub tags_value : Value (Opt debug_tags) → List RawTag
+abbrev pub tags_value : Tree (Opt debug_tags) → List RawTag
 tags_value = perhaps [] debug_tags_value
 
-abbrev pub alias_line_value : Value alias_line → RawLine
+abbrev pub alias_line_value : Tree alias_line → RawLine
 alias_line_value v = raw_lines.Alias (location v.0) (name v.1.0) (name v.1.1.1)
 
-abbrev pub inst_line_value : Value inst_line → RawLine
+abbrev pub inst_line_value : Tree inst_line → RawLine
 inst_line_value v = raw_lines.Inst (location v.0) (tags_value v.1.0) (results_value v.1.1.0) (whole_value v.1.1.1)
 
-abbrev pub letter_line_value : Value letter_line → RawLine
+abbrev pub letter_line_value : Tree letter_line → RawLine
 letter_line_value = alias_line_value otherwise inst_line_value
 
-abbrev pub letter_lines_value : Value letter_lines → List RawLine
+abbrev pub letter_lines_value : Tree letter_lines → List RawLine
 letter_lines_value = map letter_line_value

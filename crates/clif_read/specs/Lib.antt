@@ -5,7 +5,7 @@ pub mod SimpleDrafts
 pub mod SimpleGrammar
 pub mod SimpleModule
 pub mod SimpleNumbers
-pub mod SimplePieces
+pub mod SimpleStretches
 pub mod SimpleReading
 pub mod SimpleWords
 pub mod ModuleGrammar
@@ -20,8 +20,10 @@ pub mod Tags
 pub mod Lines
 pub mod Modules
 pub mod Texts
-pub mod Pieces
+pub mod Stretches
 pub mod Alike
 pub mod LetterLines
 pub mod LetterModule
 pub mod LetterAttributes
+pub mod Marks
+pub mod Formed

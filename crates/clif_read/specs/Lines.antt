@@ -1,5 +1,6 @@
 -- The lines of a block, read from left to right.
-use Rattle.std.specs.Prelude.{ℕ, zero, suc, Bool, true, false, if◌then◌else◌, List, [], ◌∷◌, ◌++◌, length, Option, Some, None, Result, Ok}
+use Rattle.std.specs.Prelude.{ℕ, zero, suc, Bool, true, false, if◌then◌else◌, List, [], ◌∷◌, ◌++◌, length, Option, Some}
+use Rattle.std.specs.Prelude.{None, Result, Ok}
 use Rattle.grammar.specs.Rules.{Lexeme, Out, heads, firsts, ◌>>=◌}
 use Rattle.clif_words.specs.declared.class.Class.TheVariants as classes
 use Rattle.clif_insts.specs.declared.opening.Opening.{Opening}
@@ -62,7 +63,9 @@ tagged_results_at location tags ts = do
 unfoldable pub tagged_at : Option ℕ → List Lexeme → Out RawLine
 tagged_at location ts = do
   tags ← debug_tags_at ts
-  if next_is classes.Value tags.1 then tagged_results_at location tags.0 tags.1 else plain_at AfterTags location tags.0 tags.1
+  if next_is classes.Value tags.1
+      then tagged_results_at location tags.0 tags.1
+      else plain_at AfterTags location tags.0 tags.1
 
 -- a line behind its source location
 unfoldable pub located_at : ℕ → List Lexeme → Out RawLine
@@ -75,7 +78,8 @@ located_at spot ts =
 unfoldable pub other_line_at : List Lexeme → Out RawLine
 other_line_at ts =
     if next_is classes.Less ts then tagged_at None ts
-    else if next_is classes.Srcloc ts then (name_at classes.Srcloc ts >>= λ location. located_at location.0.spot location.1)
+    else if next_is classes.Srcloc ts
+    then (name_at classes.Srcloc ts >>= λ location. located_at location.0.spot location.1)
     else plain_at LineStart None [] ts
 
 -- values, and perhaps the instruction of which they are the results
@@ -94,7 +98,9 @@ values_or_results_at first ts = do
 unfoldable pub named_or_values_at : List Lexeme → Out LinePart
 named_or_values_at ts = do
   first ← name_at classes.Value ts
-  if next_is classes.Arrow first.1 then (alias_at None first.0 first.1 >>= λ l. Ok (Whole l.0, l.1)) else values_or_results_at first.0 first.1
+  if next_is classes.Arrow first.1
+      then (alias_at None first.0 first.1 >>= λ l. Ok (Whole l.0, l.1))
+      else values_or_results_at first.0 first.1
 
 -- a line, or behind a `return` its values
 unfoldable pub line_at : Bool → List Lexeme → Out LinePart
@@ -139,7 +145,8 @@ Adds before after now result given = Gives (λ flag. (after, flag)) now result (
 unfoldable pub more_lines_at : ℕ → List RawLine → Bool → List Lexeme → Out (List RawLine)
 more_lines_at zero before after_return ts = Ok (before, ts)
 more_lines_at (suc n) before after_return ts =
-    if heads (firsts line) ts then (line_at after_return ts >>= λ part. more_lines_at n (add_part before part.0) (is_return part.0) part.1)
+    if heads (firsts line) ts
+    then (line_at after_return ts >>= λ part. more_lines_at n (add_part before part.0) (is_return part.0) part.1)
     else Ok (before, ts)
 
 unfoldable pub lines_at : List Lexeme → Out (List RawLine)

@@ -4,7 +4,10 @@ use Rattle.std.specs.Prelude.{◌≡◌, true, [], ◌∷◌, refl}
 use Rattle.grammar.specs.Rules.{Rule, Opt, Many, Chain, Unsupported, good}
 use Rattle.clif_words.specs.declared.class.Class.TheVariants as classes
 use Rattle.clif_words.specs.Classes.{code}
-use Rattle.clif_words.specs.Terminals.{◌then◌, ◌or◌, refused, header, function_word, name, user_name, srcloc, left_paren, right_paren, left_brace, right_brace, comma, colon, equals, arrow, less, greater, conv, cold, ext, vmctx, sret, explicit_slot, align, colocated, value, block, slot, sig, callee}
+use Rattle.clif_words.specs.Terminals.{◌then◌, ◌or◌, refused, header, function_word, name, user_name, srcloc}
+use Rattle.clif_words.specs.Terminals.{left_paren, right_paren, left_brace, right_brace, comma, colon, equals, arrow}
+use Rattle.clif_words.specs.Terminals.{less, greater, conv, cold, ext, vmctx, sret, explicit_slot, align, colocated}
+use Rattle.clif_words.specs.Terminals.{value, block, slot, sig, callee}
 use Rattle.clif_insts.specs.Grammar.{commas, number, any_type, inst}
 
 -- ---- signatures and declarations
@@ -101,7 +104,9 @@ abbrev pub block_rule : Rule
 block_rule = block then Opt block_params then Opt cold then colon then lines
 
 abbrev pub function : Rule
-function = function_word then func_name then signature then left_brace then Many decl then block_rule then Many block_rule then right_brace
+function =
+    function_word then func_name then signature then left_brace then Many decl then block_rule then Many block_rule
+    then right_brace
 
 abbrev pub module_rule : Rule
 module_rule = Many header then Many function

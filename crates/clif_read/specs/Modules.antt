@@ -43,7 +43,17 @@ function_at ts = do
   first ← block_at decls.1
   blocks ← more_blocks_at (first.0 ∷ []) first.1
   right ← name_at classes.RightBrace blocks.1
-  Ok (record { spot = word.0.spot; name = name.0; signature = signature.0; decls = decls.0; blocks = blocks.0 }, right.1)
+  Ok (
+    record {
+      spot = word.0.spot;
+      name = name.0;
+      signature = signature.0;
+      decls = decls.0;
+      blocks = blocks.0;
+      end_spot = right.0.spot;
+    },
+    right.1,
+  )
 
 unfoldable pub functions_at : List Lexeme → Out (List RawFunction)
 functions_at ts = with_front [] (each function_at (code classes.Function ∷ []) (length ts) ts)

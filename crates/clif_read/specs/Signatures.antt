@@ -62,7 +62,8 @@ abbrev pub begins_convention : List Class
 begins_convention = classes.Conv ∷ classes.Cold ∷ []
 
 unfoldable pub opt_convention_at : List Lexeme → Out (Option Conv)
-opt_convention_at ts = if heads (codes_of begins_convention) ts then (convention_at ts >>= λ c. Ok (Some c.0, c.1)) else Ok (None, ts)
+opt_convention_at ts =
+    if heads (codes_of begins_convention) ts then (convention_at ts >>= λ c. Ok (Some c.0, c.1)) else Ok (None, ts)
 
 unfoldable pub signature_at : List Lexeme → Out RawSignature
 signature_at ts = do

@@ -8,4 +8,6 @@ use Rattle.clif_read.specs.SimpleGrammar.{OneBlock}
 use Rattle.clif_read.specs.SimpleModule.{function_fits, most_functions}
 
 abbrev pub may_add : Module → OneBlock → Bool
-may_add ms f = function_fits f && not (is_some (position_from (λ g. same_name g.name (Text f.name)) 0 ms)) && not (length ms == most_functions)
+may_add ms f =
+    function_fits f && not (is_some (position_from (λ g. same_name g.name (Text f.name)) 0 ms))
+    && not (length ms == most_functions)

@@ -1,10 +1,10 @@
--- Reading back: the canonical text of a module that a simple text means is itself a simple text, which means that module
--- and nothing else.
+-- Reading back: the canonical text of a module that a simple text means is itself a simple text, which means that
+-- module and nothing else.
 use Rattle.std.specs.Prelude.{◌≡◌, List, Ok}
 use Rattle.clif_lex.specs.declared.spans.Token.{Token}
 use Rattle.clif_lex.specs.Lexing.{tokens_of}
 use Rattle.ir_core.specs.Module.{Module}
-use Rattle.ir_core.specs.Text.{text_of}
+use Rattle.ir_text.specs.Text.{text_of}
 use Rattle.clif_read.specs.SimpleModule.{Means}
 
 -- the canonical text of a module is a simple text that means this module alone

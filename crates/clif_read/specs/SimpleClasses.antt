@@ -1,7 +1,10 @@
 -- What the grammar of simple texts tells apart, numbered as the grammar wants it.
 use Rattle.std.specs.Prelude.{ℕ}
 use Rattle.clif_read.specs.declared.simple.lexemes.Class.{Class}
-use Rattle.clif_read.specs.declared.simple.lexemes.Class.TheVariants.{Function, Name, LeftParen, RightParen, LeftBrace, RightBrace, Comma, Colon, Equals, Dot, Arrow, I64, Fast, Block, Value, Number, Iconst, Iadd, Return, Other}
+use Rattle.clif_read.specs.declared.simple.lexemes.Class.TheVariants.{Function, Name, LeftParen, RightParen, LeftBrace}
+use Rattle.clif_read.specs.declared.simple.lexemes.Class.TheVariants.{RightBrace, Comma, Colon, Equals, Dot, Arrow, I64}
+use Rattle.clif_read.specs.declared.simple.lexemes.Class.TheVariants.{Fast, Block, Value, Number, Iconst, Iadd, Return}
+use Rattle.clif_read.specs.declared.simple.lexemes.Class.TheVariants.{Other}
 
 abbrev pub code : Class → ℕ
 code Function = 0

@@ -1,8 +1,9 @@
--- The grammar of simple texts, and what their trees say. A simple text is the part of CLIF that has functions of one block
--- over `i64`, with `iconst`, `iadd` and a `return` at the end; its rules are those of CLIF's grammar, each cut down to this part.
+-- The grammar of simple texts, and what their trees say. A simple text is the part of CLIF that has functions of one
+-- block over `i64`, with `iconst`, `iadd` and a `return` at the end; its rules are those of CLIF's grammar, each cut
+-- down to this part.
 use Rattle.std.specs.Prelude.{ℕ, ◌+◌, List, [], ◌∷◌, map, length, Some, None}
 use Rattle.std.proofs.Common.{inl, inr}
-use Rattle.grammar.specs.Rules.{Rule, Tok, Seq, Alt, Opt, Many, Value}
+use Rattle.grammar.specs.Rules.{Rule, Tok, Seq, Alt, Opt, Many, Tree}
 use Rattle.clif_read.specs.declared.simple.lexemes.Class.{Class}
 use Rattle.clif_read.specs.declared.simple.lexemes.Class.TheVariants as class
 use Rattle.clif_read.specs.declared.simple.written.Assignment.{Assignment}
@@ -32,7 +33,9 @@ params_rule = commas (one class.I64)
 
 -- signature = "(" [ params ] ")" [ "->" params ] [ "fast" ]
 abbrev pub signature_rule : Rule
-signature_rule = one class.LeftParen then Opt params_rule then one class.RightParen then Opt (one class.Arrow then params_rule) then Opt (one class.Fast)
+signature_rule =
+    one class.LeftParen then Opt params_rule then one class.RightParen then Opt (one class.Arrow then params_rule)
+    then Opt (one class.Fast)
 
 -- bparam = vN ":" "i64"
 abbrev pub block_param_rule : Rule
@@ -63,7 +66,9 @@ return_rule = one class.Return then Opt (commas (one class.Value))
 
 -- function = "function" name signature "{" head { line } return "}"
 abbrev pub function_rule : Rule
-function_rule = one class.Function then one class.Name then signature_rule then one class.LeftBrace then head_rule then Many line_rule then return_rule then one class.RightBrace
+function_rule =
+    one class.Function then one class.Name then signature_rule then one class.LeftBrace then head_rule
+    then Many line_rule then return_rule then one class.RightBrace
 
 -- module = { function }
 abbrev pub module_rule : Rule
@@ -80,40 +85,40 @@ pub record OneBlock : Type 0 where
   pub lines : List Assignment
   pub returned : List ℕ
 
-abbrev pub count : Value params_rule → ℕ
+abbrev pub count : Tree params_rule → ℕ
 count v = 1 + length v.1
 
-abbrev pub params_count : Value (Opt params_rule) → ℕ
+abbrev pub params_count : Tree (Opt params_rule) → ℕ
 params_count None = 0
 params_count (Some v) = count v
 
-abbrev pub results_count : Value (Opt (one class.Arrow then params_rule)) → ℕ
+abbrev pub results_count : Tree (Opt (one class.Arrow then params_rule)) → ℕ
 results_count None = 0
 results_count (Some v) = count v.1
 
-abbrev pub block_param : Value block_param_rule → ℕ
+abbrev pub block_param : Tree block_param_rule → ℕ
 block_param v = v.0.number
 
-abbrev pub block_param_list : Value (Opt (commas block_param_rule)) → List ℕ
+abbrev pub block_param_list : Tree (Opt (commas block_param_rule)) → List ℕ
 block_param_list None = []
 block_param_list (Some v) = block_param v.0 ∷ map (λ x. block_param x.1) v.1
 
-abbrev pub block_params : Value (Opt block_params_rule) → List ℕ
+abbrev pub block_params : Tree (Opt block_params_rule) → List ℕ
 block_params None = []
 block_params (Some v) = block_param_list v.1.0
 
-abbrev pub computation : Value (iconst_rule or iadd_rule) → Computation
+abbrev pub computation : Tree (iconst_rule or iadd_rule) → Computation
 computation (inl v) = Iconst v.1.1.1.amount
 computation (inr v) = Iadd v.1.0.number v.1.1.1.number
 
-abbrev pub line : Value line_rule → Assignment
+abbrev pub line : Tree line_rule → Assignment
 line v = record { result = v.0.number; computation = computation v.1.1 }
 
-abbrev pub value_list : Value (Opt (commas (one class.Value))) → List ℕ
+abbrev pub value_list : Tree (Opt (commas (one class.Value))) → List ℕ
 value_list None = []
 value_list (Some v) = v.0.number ∷ map (λ x. x.1.number) v.1
 
-abbrev pub function : Value function_rule → OneBlock
+abbrev pub function : Tree function_rule → OneBlock
 function v = record {
   name = v.1.0.name;
   params = params_count v.1.1.0.1.0;

@@ -1,6 +1,7 @@
 -- Which texts of the grammar are simple texts, and the module that each means. Values are numbered from 0 in order of
 -- definition, the block's parameters first; the block has the number 0.
-use Rattle.std.specs.Prelude.{◌≡◌, ℕ, ◌+◌, Bool, true, not, ◌&&◌, ◌==◌, nat_eq, nat_le, List, [], ◌∷◌, ◌++◌, map, length, replicate, position, unwrap_or, is_some, Option, Some, None, Ok}
+use Rattle.std.specs.Prelude.{◌≡◌, ℕ, ◌+◌, Bool, true, not, ◌&&◌, ◌==◌, nat_eq, nat_le, List, [], ◌∷◌, ◌++◌, map}
+use Rattle.std.specs.Prelude.{length, replicate, position, unwrap_or, is_some, Option, Some, None, Ok}
 use Rattle.std.specs.List.{list_all, list_any, enumerate_from}
 use Rattle.clk_num.specs.Numbers.{fits, wrapped}
 use Rattle.clk_num.specs.declared.op.Op.TheVariants as op
@@ -18,7 +19,7 @@ use Rattle.ir_core.specs.declared.signatures.Param.{Param}
 use Rattle.ir_core.specs.declared.signatures.Sig.{Sig}
 use Rattle.ir_core.specs.Module.{Instruction, Plain, Const, Pure, Return, Line, Function, Module}
 use Rattle.ir_core.specs.Lookup.{same_bytes}
-use Rattle.grammar.specs.Rules.{Value, Derives}
+use Rattle.grammar.specs.Rules.{Tree, Derives}
 use Rattle.clif_read.specs.declared.simple.written.Assignment.{Assignment}
 use Rattle.clif_read.specs.declared.simple.written.Computation.{Computation}
 use Rattle.clif_read.specs.declared.simple.written.Computation.TheVariants.{Iconst, Iadd}
@@ -73,11 +74,13 @@ words f = f.block_params ++ map result_of f.lines
 
 -- value words differ, and each value is defined before it is used
 abbrev pub block_fits : OneBlock → Bool
-block_fits f = params_differ [] f.block_params && lines_fit f.block_params f.lines && list_all (is_defined (words f)) f.returned
+block_fits f =
+    params_differ [] f.block_params && lines_fit f.block_params f.lines && list_all (is_defined (words f)) f.returned
 
 -- a block has as many parameters as its function, which returns as many values as it has results and is not too large
 unfoldable pub function_fits : OneBlock → Bool
-function_fits f = length f.block_params == f.params && length f.returned == f.results && nat_le (size f) most_size && block_fits f
+function_fits f =
+    length f.block_params == f.params && length f.returned == f.results && nat_le (size f) most_size && block_fits f
 
 -- names differ
 abbrev pub is_named : List ℕ → OneBlock → Bool
@@ -88,7 +91,8 @@ most_functions = 65536
 
 -- after some functions, one more may stand: it fits, has a name of its own, and there are not too many
 abbrev pub may_follow : List OneBlock → OneBlock → Bool
-may_follow before f = function_fits f && not (list_any (is_named f.name) before) && not (length before == most_functions)
+may_follow before f =
+    function_fits f && not (list_any (is_named f.name) before) && not (length before == most_functions)
 
 abbrev pub functions_fit : List OneBlock → List OneBlock → Bool
 functions_fit before [] = true
@@ -110,7 +114,8 @@ controlling (Iadd a b) = Some I64
 
 -- a line after the words that are defined before it: its result has the next number
 abbrev pub line_after : List ℕ → Assignment → Line
-line_after ws l = record { inst = instruction ws l.computation; ty = controlling l.computation; results = length ws ∷ []; tags = [] }
+line_after ws l =
+    record { inst = instruction ws l.computation; ty = controlling l.computation; results = length ws ∷ []; tags = [] }
 
 abbrev pub lines_after : List ℕ → List Assignment → List Line
 lines_after ws [] = []
@@ -134,7 +139,16 @@ signature f = record { params = replicate f.params i64_param; results = replicat
 
 -- a function whose one block has these parameters and lines
 abbrev pub of_one_block : FuncName → Sig → List (ℕ × Ty) → List ℕ → List Line → Function
-of_one_block name sig types params lines = record { name = name; sig = sig; slots = []; sigs = []; callees = []; types = types; blocks = record { number = 0; params = params; lines = lines } ∷ [] }
+of_one_block name sig types params lines =
+    record {
+      name = name;
+      sig = sig;
+      slots = [];
+      sigs = [];
+      callees = [];
+      types = types;
+      blocks = record { number = 0; params = params; lines = lines } ∷ [];
+    }
 
 abbrev pub lines : OneBlock → List Line
 lines f = lines_after f.block_params f.lines ++ return_line (words f) f.returned ∷ []
@@ -145,12 +159,12 @@ meaning f =
 
 -- ---- texts
 
-abbrev pub functions : Value module_rule → List OneBlock
+abbrev pub functions : Tree module_rule → List OneBlock
 functions tree = map function tree
 
 -- The tokens are those of a simple text that means this module.
 pub record Means (text : List ℕ) (tokens : List Token) (m : Module) : Type 0 where
-  pub tree : Value module_rule
+  pub tree : Tree module_rule
   pub derived : Derives module_rule (lexemes text tokens) tree
   pub fits : functions_fit [] (functions tree) ≡ true
   pub same : m ≡ map meaning (functions tree)

@@ -1,5 +1,6 @@
 -- Reading from left to right by the next token: a value and the tokens behind it, if there is one.
-use Rattle.std.specs.Prelude.{◌≡◌, ℕ, zero, suc, ◌+◌, ◌==◌, if◌then◌else◌, List, [], ◌∷◌, ◌++◌, length, map, Option, Some, None, Result, Ok, Err}
+use Rattle.std.specs.Prelude.{◌≡◌, ℕ, zero, suc, ◌+◌, ◌==◌, if◌then◌else◌, List, [], ◌∷◌, ◌++◌, length, map, Option}
+use Rattle.std.specs.Prelude.{Some, None, Result, Ok, Err}
 use Rattle.grammar.specs.Rules.{Lexeme, heads, heads_any}
 use Rattle.clif_read.specs.declared.simple.errors.SimpleErr.{SimpleErr}
 use Rattle.clif_read.specs.declared.simple.errors.SimpleErr.TheVariants.{NotSimple, NoMemory}
@@ -25,7 +26,15 @@ abbrev pub token_at : Source → ℕ → Lexeme
 token_at source at = lexeme_at source.text.now source.tokens.now at
 
 abbrev pub one_block : Written → OneBlock
-one_block w = record { name = w.name.now; params = w.params; results = w.results; block_params = w.block_params.items; lines = w.lines.items; returned = w.returned.items }
+one_block w =
+    record {
+      name = w.name.now;
+      params = w.params;
+      results = w.results;
+      block_params = w.block_params.items;
+      lines = w.lines.items;
+      returned = w.returned.items;
+    }
 
 abbrev pub Out : Type 0 → Type 0
 Out A = Option (A × List Lexeme)
@@ -51,7 +60,8 @@ token c (x ∷ xs) = if x.class == c then Some (x, xs) else None
 -- as long as the next token is of one of the classes, at most n times
 unfoldable pub each : {A : Type 0} → (List Lexeme → Out A) → List ℕ → ℕ → List Lexeme → Out (List A)
 each p cs zero ts = Some ([], ts)
-each p cs (suc n) ts = if heads cs ts then (p ts >>= λ x. each p cs n x.1 >>= λ y. Some (x.0 ∷ y.0, y.1)) else Some ([], ts)
+each p cs (suc n) ts =
+    if heads cs ts then (p ts >>= λ x. each p cs n x.1 >>= λ y. Some (x.0 ∷ y.0, y.1)) else Some ([], ts)
 
 -- what was read before, and what is still read
 abbrev pub with_front : {A : Type 0} → List A → Out (List A) → Out (List A)
@@ -203,11 +213,15 @@ function_at ts = do
   ls ← lines_at h.1
   r ← return_at ls.1
   e ← token (code class.RightBrace) r.1
-  Some (record { name = n.0.name; params = s.0.0; results = s.0.1; block_params = h.0; lines = ls.0; returned = r.0 }, e.1)
+  Some (
+    record { name = n.0.name; params = s.0.0; results = s.0.1; block_params = h.0; lines = ls.0; returned = r.0 },
+    e.1,
+  )
 
 -- the module of functions that were read, where no token is left
 abbrev pub finish : Out (List OneBlock) → Option Module
-finish given = given >>= λ x. if heads_any x.1 then None else (if functions_fit [] x.0 then Some (map meaning x.0) else None)
+finish given =
+    given >>= λ x. if heads_any x.1 then None else (if functions_fit [] x.0 then Some (map meaning x.0) else None)
 
 unfoldable pub module_at : List Lexeme → Option Module
 module_at ts = finish (each function_at (only class.Function) (length ts) ts)

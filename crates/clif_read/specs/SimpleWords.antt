@@ -1,5 +1,6 @@
 -- The tokens of simple texts: what each is, and which number it has. A comment is none of them.
-use Rattle.std.specs.Prelude.{ℕ, Bool, false, true, not, ◌&&◌, ◌==◌, nat_le, if◌then◌else◌, List, [], ◌∷◌, length, take, drop, slice_index, slice_get, nat_lt, codes, Option, Some, None, pos}
+use Rattle.std.specs.Prelude.{ℕ, Bool, false, true, not, ◌&&◌, ◌==◌, nat_le, if◌then◌else◌, List, [], ◌∷◌, length, take}
+use Rattle.std.specs.Prelude.{drop, slice_index, slice_get, nat_lt, codes, Option, Some, None, pos}
 use Rattle.std.specs.List.{list_all}
 use Rattle.std.specs.Str.{bytes_eq}
 use Rattle.std.specs.Char.{is_ascii_digit}
@@ -11,7 +12,10 @@ use Rattle.clif_lex.specs.Numbers.{spelled_number}
 use Rattle.clif_lex.specs.Spans.{spelling}
 use Rattle.grammar.specs.Rules.{Lexeme}
 use Rattle.clif_read.specs.declared.simple.lexemes.Class.{Class}
-use Rattle.clif_read.specs.declared.simple.lexemes.Class.TheVariants.{Function, Name, LeftParen, RightParen, LeftBrace, RightBrace, Comma, Colon, Equals, Dot, Arrow, I64, Fast, Block, Value, Number, Iconst, Iadd, Return, Other}
+use Rattle.clif_read.specs.declared.simple.lexemes.Class.TheVariants.{Function, Name, LeftParen, RightParen, LeftBrace}
+use Rattle.clif_read.specs.declared.simple.lexemes.Class.TheVariants.{RightBrace, Comma, Colon, Equals, Dot, Arrow, I64}
+use Rattle.clif_read.specs.declared.simple.lexemes.Class.TheVariants.{Fast, Block, Value, Number, Iconst, Iadd, Return}
+use Rattle.clif_read.specs.declared.simple.lexemes.Class.TheVariants.{Other}
 use Rattle.clif_read.specs.SimpleClasses.{code}
 
 -- entities have numbers up to this one
@@ -26,7 +30,9 @@ is_shortest (d ∷ e ∷ ds) = not (d == 48)
 
 -- the number of an entity that the digits behind `v` or `block` write
 unfoldable pub entity_number : List ℕ → Option ℕ
-entity_number ds = if is_shortest ds && list_all is_ascii_digit ds && nat_le (digits_value 10 ds) last_number then Some (digits_value 10 ds) else None
+entity_number ds =
+    if is_shortest ds && list_all is_ascii_digit ds
+    && nat_le (digits_value 10 ds) last_number then Some (digits_value 10 ds) else None
 
 -- a word that is no entity
 abbrev pub plain_word : List ℕ → Class

@@ -11,7 +11,8 @@ use Rattle.clif_read.specs.declared.raw.RawTag.TheVariants as tag_kinds
 
 unfoldable pub debug_tag_at : List Lexeme → Out RawTag
 debug_tag_at ts =
-    if heads (codes_of (classes.Unsigned ∷ classes.Signed ∷ [])) ts then (number_at ts >>= λ n. Ok (tag_kinds.User n.0, n.1))
+    if heads (codes_of (classes.Unsigned ∷ classes.Signed ∷ [])) ts
+    then (number_at ts >>= λ n. Ok (tag_kinds.User n.0, n.1))
     else (name_at classes.Slot ts >>= λ x. Ok (tag_kinds.Slot x.0, x.1))
 
 unfoldable pub comma_tag_at : List Lexeme → Out RawTag

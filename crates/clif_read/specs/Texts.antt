@@ -1,6 +1,6 @@
 -- What a text is read as: the one module that it is, or where and why it is none.
 use Rattle.std.specs.Prelude.{◌≡◌, ℕ, List}
-use Rattle.grammar.specs.Rules.{Lexeme, Kind, Value, Cut, Derives, Begins, StopsAt}
+use Rattle.grammar.specs.Rules.{Lexeme, Kind, Tree, Cut, Derives, Begins, StopsAt}
 use Rattle.grammar.specs.Rules as rules
 use Rattle.clif_lex.specs.declared.faults.TextErr.{TextErr}
 use Rattle.clif_lex.specs.declared.faults.TextErr.TheVariants as errors
@@ -14,15 +14,19 @@ use Rattle.clif_read.specs.ModuleValues.{module_value}
 
 -- the tokens are this module, and are read in no other way
 abbrev pub IsModule : List Lexeme → RawModule → Type 0
-IsModule ts m = (v : Value module_rule) × Derives module_rule ts v × (m ≡ module_value v) × ((w : Value module_rule) → Derives module_rule ts w → w ≡ v)
+IsModule ts m =
+    (v : Tree module_rule) × Derives module_rule ts v × (m ≡ module_value v)
+    × ((w : Tree module_rule) → Derives module_rule ts w → w ≡ v)
 
 abbrev pub NoModule : List Lexeme → Type 0
-NoModule ts = (v : Value module_rule) → Derives module_rule ts v → ⊥
+NoModule ts = (v : Tree module_rule) → Derives module_rule ts v → ⊥
 
--- The tokens before the spot begin a module. With the next they begin none, or there is no next, and then the spot is the end.
--- The kind is that of the words that the place refuses, and Syntax elsewhere.
+-- The tokens before the spot begin a module. With the next they begin none, or there is no next, and then the spot is
+-- the end. The kind is that of the words that the place refuses, and Syntax elsewhere.
 abbrev pub Broken : List Lexeme → ℕ → Kind → ℕ → Type 0
-Broken ts end kind spot = NoModule ts × Cut ts (λ us rest. Begins module_rule us × StopsAt module_rule us kind rest × (spot ≡ spot_or end rest))
+Broken ts end kind spot =
+    NoModule ts
+    × Cut ts (λ us rest. Begins module_rule us × StopsAt module_rule us kind rest × (spot ≡ spot_or end rest))
 
 -- why the tokens are no module; no other kind is answered
 abbrev pub Stopped : List Lexeme → ℕ → TextErr → Type 0

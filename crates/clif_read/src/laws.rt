@@ -1,4 +1,5 @@
-//! Laws that speak of the definitions alone. Each is a function that does nothing, so that a caller has the law by a call.
+//! Laws that speak of the definitions alone. Each is a function that does nothing, so that a caller has the law by a
+//! call.
 
 ghost use Rattle.std.specs.Prelude.{◌≡◌, ℕ, List, Ok};
 ghost use Rattle.grammar.specs.Rules.{Lexeme, Answers, read, read_all};
@@ -19,11 +20,13 @@ ghost use Rattle.clif_read.specs.LetterModule.{letter_module, letter_module_valu
 
 /// The canonical text of a module that a simple text means is a simple text, and means that module alone.
 pub fn simple_text_reads_back()
-    ensures { (text : List ℕ) (tokens : List Token) (m : Module) → tokens_of text ≡ Ok tokens → Means text tokens m → ReadsBack m }
+    ensures { (text : List ℕ) (tokens : List Token) (m : Module) → tokens_of text ≡ Ok tokens → Means text tokens m
+        → ReadsBack m }
 {}
 
-/// The lines of a block are those of the EBNF, to the letter: the same texts, which mean the same, and the same beginnings.
-/// The grammar reads the values of a `return` behind it, and takes what begins with a value as one rule, so that the next token always says which way to go.
+/// The lines of a block are those of the EBNF, to the letter: the same texts, which mean the same, and the same
+/// beginnings. The grammar reads the values of a `return` behind it, and takes what begins with a value as one rule, so
+/// that the next token always says which way to go.
 pub fn lines_by_the_letter()
     ensures { Alike letter_lines lines letter_lines_value lines_value }
 {}
@@ -33,7 +36,9 @@ pub fn module_by_the_letter()
     ensures { Alike letter_module module_rule letter_module_value module_value }
 {}
 
-/// The attributes of a parameter are those of the EBNF, to the letter: any number of the four words in any order, of `uext` and `sext` at most one and of `vmctx` and `sret` at most one. The same texts with the same attributes, and the same beginnings.
+/// The attributes of a parameter are those of the EBNF, to the letter: any number of the four words in any order, of
+/// `uext` and `sext` at most one and of `vmctx` and `sret` at most one. The same texts with the same attributes, and
+/// the same beginnings.
 pub fn attributes_by_the_letter()
     ensures { SameAttributes }
 {}

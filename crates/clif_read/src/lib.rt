@@ -9,9 +9,6 @@ mod heads;
 pub mod laws;
 mod lines;
 mod modules;
-#[cfg(test)]
-mod piece_tests;
-mod pieces;
 mod ranges;
 mod raw;
 mod room;
@@ -19,15 +16,19 @@ mod shares;
 mod sharing;
 mod signatures;
 mod simple;
+#[cfg(test)]
+mod stretch_tests;
+mod stretches;
 mod tags;
 #[cfg(test)]
 mod tests;
 mod texts;
 
-pub use pieces::read_text;
 pub use raw::{
     RawAttribute, RawBlock, RawBlockParam, RawCalleeSig, RawDecl, RawFuncName, RawFunction,
     RawLine, RawModule, RawParam, RawSignature, RawTag,
 };
 pub use shares::read_raw;
 pub use simple::{SimpleErr, read_simple, read_simple_text};
+pub use stretches::{read_text, read_text_alone};
+pub use texts::read_raw_alone;

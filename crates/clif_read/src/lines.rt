@@ -64,7 +64,8 @@ fn alias(
     location: Option<usize>,
     alias: RawName,
 ) -> Result<bool, Stop>
-    ensures is { spec.Adds lines.old.items lines.new.items reader.new result (spec.whole (spec.alias_at location alias reader.old)) }
+    ensures is { spec.Adds lines.old.items lines.new.items reader.new result
+        (spec.whole (spec.alias_at location alias reader.old)) }
     ensures shorter { IfOk result (λ _. length reader.new < length reader.old) }
 {
     reader.take(Class::Arrow)?;
@@ -87,7 +88,8 @@ fn results(
     location: Option<usize>,
     first: RawName,
 ) -> Result<bool, Stop>
-    ensures is { spec.Adds lines.old.items lines.new.items reader.new result (spec.whole (spec.results_at location first reader.old)) }
+    ensures is { spec.Adds lines.old.items lines.new.items reader.new result
+        (spec.whole (spec.results_at location first reader.old)) }
     ensures shorter { IfOk result (λ _. length reader.new < length reader.old) }
 {
     let results = more_names(alloc, reader, first)?;
@@ -111,7 +113,8 @@ fn named(
     lines: &mut Vec<RawLine>,
     location: Option<usize>,
 ) -> Result<bool, Stop>
-    ensures is { spec.Adds lines.old.items lines.new.items reader.new result (spec.whole (spec.named_at location reader.old)) }
+    ensures is { spec.Adds lines.old.items lines.new.items reader.new result
+        (spec.whole (spec.named_at location reader.old)) }
     ensures shorter { IfOk result (λ _. length reader.new < length reader.old) }
 {
     let first = reader.take(Class::Value)?;
@@ -132,7 +135,8 @@ fn plain(
     location: Option<usize>,
     tags: List<RawTag>,
 ) -> Result<bool, Stop>
-    ensures is { spec.Adds lines.old.items lines.new.items reader.new result (spec.whole (spec.plain_at opening location tags reader.old)) }
+    ensures is { spec.Adds lines.old.items lines.new.items reader.new result
+        (spec.whole (spec.plain_at opening location tags reader.old)) }
     ensures shorter { IfOk result (λ _. length reader.new < length reader.old) }
 {
     let inst = any_inst(alloc, reader, opening)?;
@@ -156,7 +160,8 @@ fn tagged_results(
     location: Option<usize>,
     tags: List<RawTag>,
 ) -> Result<bool, Stop>
-    ensures is { spec.Adds lines.old.items lines.new.items reader.new result (spec.whole (spec.tagged_results_at location tags reader.old)) }
+    ensures is { spec.Adds lines.old.items lines.new.items reader.new result
+        (spec.whole (spec.tagged_results_at location tags reader.old)) }
     ensures shorter { IfOk result (λ _. length reader.new < length reader.old) }
 {
     let first = reader.take(Class::Value)?;
@@ -181,7 +186,8 @@ fn tagged(
     lines: &mut Vec<RawLine>,
     location: Option<usize>,
 ) -> Result<bool, Stop>
-    ensures is { spec.Adds lines.old.items lines.new.items reader.new result (spec.whole (spec.tagged_at location reader.old)) }
+    ensures is { spec.Adds lines.old.items lines.new.items reader.new result
+        (spec.whole (spec.tagged_at location reader.old)) }
     ensures shorter { IfOk result (λ _. length reader.new < length reader.old) }
 {
     let tags = List::from_vec(debug_tags(alloc, reader)?);
@@ -200,7 +206,8 @@ fn located(
     lines: &mut Vec<RawLine>,
     spot: usize,
 ) -> Result<bool, Stop>
-    ensures is { spec.Adds lines.old.items lines.new.items reader.new result (spec.whole (spec.located_at spot reader.old)) }
+    ensures is { spec.Adds lines.old.items lines.new.items reader.new result
+        (spec.whole (spec.located_at spot reader.old)) }
     ensures shorter { IfOk result (λ _. length reader.new < length reader.old) }
 {
     if reader.next_is(Class::Value) {
@@ -220,7 +227,8 @@ fn other_line(
     reader: &mut Reader<'_>,
     lines: &mut Vec<RawLine>,
 ) -> Result<bool, Stop>
-    ensures is { spec.Adds lines.old.items lines.new.items reader.new result (spec.whole (spec.other_line_at reader.old)) }
+    ensures is { spec.Adds lines.old.items lines.new.items reader.new result
+        (spec.whole (spec.other_line_at reader.old)) }
     ensures shorter { IfOk result (λ _. length reader.new < length reader.old) }
 {
     if reader.next_is(Class::Less) {
@@ -270,7 +278,8 @@ fn values_or_results(
     lines: &mut Vec<RawLine>,
     first: RawName,
 ) -> Result<bool, Stop>
-    ensures is { spec.Adds lines.old.items lines.new.items reader.new result (spec.values_or_results_at first reader.old) }
+    ensures is { spec.Adds lines.old.items lines.new.items reader.new result
+        (spec.values_or_results_at first reader.old) }
     ensures shorter { IfOk result (λ _. length reader.new ≤ length reader.old) }
 {
     let front = one_item(alloc, first)?;
@@ -296,7 +305,8 @@ fn named_or_values(
     }
 }
 
-/// Puts a line behind the others, or behind a `return` its values into it. Tells whether the next line may be values: this one is a `return`.
+/// Puts a line behind the others, or behind a `return` its values into it. Tells whether the next line may be values:
+/// this one is a `return`.
 #[tactic(auto, unfolding(crate::specs::Lines::line_at))]
 fn line(
     alloc: Global,

@@ -3,7 +3,7 @@
 ghost use Rattle.std.specs.Prelude.{◌<◌, ◌≤◌, length, IfOk, IfSome};
 ghost use Rattle.clif_insts.specs.Reading.{Gives, same};
 ghost use Rattle.clif_read.specs.Modules as spec;
-ghost use Rattle.clif_read.specs.Pieces.{Functions};
+ghost use Rattle.clif_read.specs.Stretches.{Functions};
 
 use crate::declarations::{decls, func_name};
 use crate::heads::{block_params, headers};
@@ -91,13 +91,14 @@ fn function(alloc: Global, reader: &mut Reader<'_>) -> Result<RawFunction, Stop>
     let first = block(alloc, reader)?;
     let front = one_item(alloc, first)?;
     let blocks = more_blocks(alloc, reader, front)?;
-    reader.take(Class::RightBrace)?;
+    let brace = reader.take(Class::RightBrace)?;
     Ok(RawFunction {
         spot: word.spot,
         name,
         signature,
         decls: List::from_vec(decls),
         blocks: List::from_vec(blocks),
+        end_spot: brace.spot,
     })
 }
 

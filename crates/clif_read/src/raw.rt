@@ -1,5 +1,5 @@
-//! Modules as the grammar reads them, with names that are not looked up yet.
-//! Each type stands for a rule of the grammar and has a field for each of its parts; a spot is the first byte of a word or number.
+//! Modules as the grammar reads them, with names that are not looked up yet. Each type stands for a rule of the grammar
+//! and has a field for each of its parts; a spot is the first byte of a word or number.
 
 use clif_insts::{RawInst, RawName, RawNames, RawNumber};
 use ir_core::{Conv, List, Ty};
@@ -36,6 +36,21 @@ pub enum RawFuncName {
     Text { name: List<u8>, spot: usize },
     /// `u0:1`
     User { space: RawName, number: RawNumber },
+}
+
+impl RawFuncName {
+    ghost use Rattle.std.specs.Prelude.{◌≡◌};
+    ghost use Rattle.clif_read.specs.Marks.{name_spot};
+
+    /// The name's first byte.
+    pub fn spot(&self) -> usize
+        ensures { result ≡ name_spot self.now }
+    {
+        match self {
+            RawFuncName::Text { spot, .. } => *spot,
+            RawFuncName::User { space, .. } => space.spot,
+        }
+    }
 }
 
 /// The signature of a callee: one that is declared, or its own.
@@ -118,6 +133,8 @@ pub struct RawFunction {
     pub signature: RawSignature,
     pub decls: List<RawDecl>,
     pub blocks: List<RawBlock>,
+    /// The spot of the `}`.
+    pub end_spot: usize,
 }
 
 /// A module: the spots of its header lines, and its functions in the order of the text.

@@ -1,22 +1,24 @@
 //! Modules read from the list of a text's tokens, by several workers at once.
 
 ghost use Rattle.std.specs.Prelude.{◌≡◌, ◌<◌, length, slice_range, Ok, IfOk, IfErr, IfSome};
+ghost use Rattle.clif_lex.specs.Faults.{StandsWithin};
 ghost use Rattle.clif_lex.specs.Lexing.{tokens_of};
 ghost use Rattle.clif_words.specs.Lexemes.{lexemes};
-ghost use Rattle.clif_read.specs.Pieces.{AreListed, IsShare};
+ghost use Rattle.clif_read.specs.Formed.{IsFormed};
+ghost use Rattle.clif_read.specs.Stretches.{AreListed, IsShare};
 ghost use Rattle.clif_read.specs.Texts.{IsModule, Stopped};
 
 use crate::modules::{all_functions, whole_module};
-use crate::pieces::extended;
 use crate::raw::{RawFunction, RawModule};
 use crate::sharing::{Ranges, read_shares};
-use crate::texts::read_alone;
+use crate::stretches::extended;
+use crate::texts::read_raw_alone;
 use clif_insts::Reader;
 use clif_lex::{TextErr, Tokens};
 use std::alloc::Global;
 use std::thread::Threads;
 
-/// How many tokens a piece takes at least.
+/// How many tokens a stretch takes at least.
 const PIECE: usize = 16_384;
 
 /// The next place of a range of tokens at which the word `function` stands, or the range's end.
@@ -35,10 +37,11 @@ fn next_function(text: &[u8], tokens: &Tokens, from: usize, end: usize) -> usize
     at
 }
 
-/// Where a piece of a range of tokens ends: behind so many tokens and one more at the next function, or at the range's end.
+/// Where a stretch of a range of tokens ends: behind so many tokens and one more at the next function, or at the
+/// range's end.
 fn share_end(text: &[u8], tokens: &Tokens, from: usize, end: usize, size: usize) -> usize
     requires { IsShare text.now tokens.now from end }
-    ensures piece { IsShare text.now tokens.now from result }
+    ensures stretch { IsShare text.now tokens.now from result }
     ensures rest { IsShare text.now tokens.now result end }
     ensures forward { from < end → from < result }
 {
@@ -58,13 +61,14 @@ struct TokenRanges<'t> {
 impl<'t> Ranges for TokenRanges<'t> {
     ghost range = { λ ranges from to. IsShare ranges.text.now ranges.tokens.now from to };
 
-    ghost stand = { λ ranges from to functions. IsShare ranges.text.now ranges.tokens.now from to × AreListed ranges.text.now ranges.tokens.now from to functions };
+    ghost stand = { λ ranges from to functions. IsShare ranges.text.now ranges.tokens.now from to
+        × AreListed ranges.text.now ranges.tokens.now from to functions };
 
-    fn piece_end(&self, from: usize, end: usize, size: usize) -> usize {
+    fn stretch_end(&self, from: usize, end: usize, size: usize) -> usize {
         share_end(self.text, self.tokens, from, end, size)
     }
 
-    fn read_piece(&self, alloc: Global, from: usize, end: usize) -> Option<Vec<RawFunction>> {
+    fn read_stretch(&self, alloc: Global, from: usize, end: usize) -> Option<Vec<RawFunction>> {
         let mut reader = Reader::between(self.text, self.tokens, from, end);
         all_functions(alloc, &mut reader)
     }
@@ -84,7 +88,8 @@ fn read_front(alloc: Global, text: &[u8], tokens: &Tokens, end: usize) -> Option
     }
 }
 
-/// The module that a text is, from the text's tokens, read by so many workers at once. None where it is none, or cannot be read so.
+/// The module that a text is, from the text's tokens, read by so many workers at once. None where it is none, or cannot
+/// be read so.
 pub(crate) fn read_in_shares<R: Threads + Sync>(
     rt: &R,
     alloc: Global,
@@ -104,7 +109,7 @@ pub(crate) fn read_in_shares<R: Threads + Sync>(
     extended(front, rest)
 }
 
-/// As `read_raw`, by pieces of so many tokens.
+/// As `read_raw`, by stretches of so many tokens.
 pub(crate) fn read_raw_by<R: Threads + Sync>(
     rt: &R,
     alloc: Global,
@@ -119,7 +124,7 @@ pub(crate) fn read_raw_by<R: Threads + Sync>(
 {
     match read_in_shares(rt, alloc, text, tokens, workers, size) {
         Some(found) => Ok(found),
-        None => read_alone(alloc, text, tokens),
+        None => read_raw_alone(alloc, text, tokens),
     }
 }
 
@@ -128,8 +133,8 @@ pub(crate) fn read_raw_by<R: Threads + Sync>(
 ///
 /// # Errors
 ///
-/// At the first token with which the text begins no module, or at its end:
-/// `UnknownOpcode` at a word in the place of an opcode, `Unsupported` at a word of CLIF that is left out here, else `Syntax`.
+/// At the first token with which the text begins no module, or at its end: `UnknownOpcode` at a word in the place of an
+/// opcode, `Unsupported` at a word of CLIF that is left out here, else `Syntax`.
 pub fn read_raw<R: Threads + Sync>(
     rt: &R,
     alloc: Global,
@@ -140,9 +145,11 @@ pub fn read_raw<R: Threads + Sync>(
     requires whole { tokens_of text.now ≡ Ok tokens.now }
     ensures found { IfOk result (λ m. IsModule (lexemes text.now tokens.now) m) }
     ensures stop { IfErr result (λ e. Stopped (lexemes text.now tokens.now) (length text.now) e) }
+    ensures formed { IfOk result (λ m. IsFormed (length text.now) m) }
+    ensures within { IfErr result (λ e. StandsWithin (length text.now) e) }
 {
     if workers <= 1 || tokens.len() / 2 < PIECE {
-        return read_alone(alloc, text, tokens);
+        return read_raw_alone(alloc, text, tokens);
     }
     read_raw_by(rt, alloc, text, tokens, workers, PIECE)
 }

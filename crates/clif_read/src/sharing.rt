@@ -1,9 +1,9 @@
-//! Ranges read piece by piece, by several workers at once.
+//! Ranges read stretch by stretch, by several workers at once.
 
 ghost use Rattle.std.specs.Prelude.{◌≡◌, ◌<◌, ◌≤◌, ◌++◌, ℕ, List, IfSome};
 ghost use Rattle.std.specs.Thread.{IsSync};
 ghost use Rattle.clif_read.specs.declared.raw.RawFunction.{RawFunction};
-ghost use Rattle.clif_read.specs.Pieces.{Follow};
+ghost use Rattle.clif_read.specs.Stretches.{Follow};
 
 use crate::raw::RawFunction;
 use crate::room::make_room;
@@ -18,15 +18,15 @@ pub(crate) trait Ranges: Sync {
     /// From the first place to the second stand these functions, and nothing else.
     ghost stand: { Self → ℕ → ℕ → List RawFunction → Type 0 };
 
-    /// Where a piece of a range ends.
-    fn piece_end(&self, from: usize, end: usize, size: usize) -> usize
+    /// Where a stretch of a range ends.
+    fn stretch_end(&self, from: usize, end: usize, size: usize) -> usize
         requires { range self.now from «end» }
-        ensures piece { range self.now from result }
+        ensures stretch { range self.now from result }
         ensures rest { range self.now result «end» }
         ensures forward { from < «end» → from < result };
 
-    /// The functions of one piece. None where anything else stands there, or memory runs out.
-    fn read_piece(&self, alloc: Global, from: usize, end: usize) -> Option<Vec<RawFunction>>
+    /// The functions of one stretch. None where anything else stands there, or memory runs out.
+    fn read_stretch(&self, alloc: Global, from: usize, end: usize) -> Option<Vec<RawFunction>>
         requires { range self.now from «end» }
         ensures { IfSome result (λ found. Follow (stand self.now) from «end» found.items) };
 
@@ -47,7 +47,7 @@ pub(crate) fn joined(
     }
 }
 
-/// The functions of a range, read piece by piece. None where anything else stands there, or memory runs out.
+/// The functions of a range, read stretch by stretch. None where anything else stands there, or memory runs out.
 fn read_range<P: Ranges>(
     alloc: Global,
     ranges: &P,
@@ -60,17 +60,18 @@ fn read_range<P: Ranges>(
 {
     let mut found = Vec::new(alloc);
     let mut at = from;
-    'pieces: while at < end {
-        let next = ranges.piece_end(at, end, size);
+    'stretches: while at < end {
+        let next = ranges.stretch_end(at, end, size);
         make_room(alloc);
-        let more = ranges.read_piece(alloc, at, next)?;
+        let more = ranges.read_stretch(alloc, at, next)?;
         found = joined(found, more)?;
         at = next;
     }
     Some(found)
 }
 
-/// The functions of a range, read by so many workers at once. None where anything else stands there, or memory runs out.
+/// The functions of a range, read by so many workers at once. None where anything else stands there, or memory runs
+/// out.
 #[cycle(shares)]
 pub(crate) fn read_shares<R: Threads + Sync, P: Ranges>(
     rt: &R,
@@ -90,7 +91,7 @@ pub(crate) fn read_shares<R: Threads + Sync, P: Ranges>(
     let few = workers / 2;
     let others = workers - few;
     let share = (end - from) / workers;
-    let middle = ranges.piece_end(from, end, share.saturating_mul(few));
+    let middle = ranges.stretch_end(from, end, share.saturating_mul(few));
     let low = || -> Option<Vec<RawFunction>>
         requires { IsSync R.row × IsSync P.row × P.range ranges.now from middle }
         ensures { IfSome result (λ found. Follow (P.stand ranges.entry.now) from middle found.items) }

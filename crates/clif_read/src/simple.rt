@@ -11,9 +11,9 @@ mod building;
 mod errors;
 mod lexemes;
 mod numbers;
-mod pieces;
 mod rules;
 mod source;
+mod stretches;
 #[cfg(test)]
 mod tests;
 mod texts;

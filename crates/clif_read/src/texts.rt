@@ -1,8 +1,10 @@
 //! The module of a text.
 
 ghost use Rattle.std.specs.Prelude.{◌≡◌, length, Ok, IfOk, IfErr};
+ghost use Rattle.clif_lex.specs.Faults.{StandsWithin};
 ghost use Rattle.clif_lex.specs.Lexing.{tokens_of};
 ghost use Rattle.clif_words.specs.Lexemes.{lexemes};
+ghost use Rattle.clif_read.specs.Formed.{IsFormed};
 ghost use Rattle.clif_read.specs.Texts.{IsModule, Stopped};
 ghost use Rattle.clif_read.specs.Texts as spec;
 
@@ -25,11 +27,17 @@ fn error_at(stop: Stop, spot: usize) -> TextErr
     TextErr::Fault { kind, spot }
 }
 
-/// The module that a text is, from the text's tokens, read by the calling thread alone; or the error that `read_raw` gives.
-pub(crate) fn read_alone(alloc: Global, text: &[u8], tokens: &Tokens) -> Result<RawModule, TextErr>
+/// The module that a text is, from the text's tokens, read by the calling thread alone.
+///
+/// # Errors
+///
+/// Those of `read_raw`.
+pub fn read_raw_alone(alloc: Global, text: &[u8], tokens: &Tokens) -> Result<RawModule, TextErr>
     requires whole { tokens_of text.now ≡ Ok tokens.now }
     ensures found { IfOk result (λ m. IsModule (lexemes text.now tokens.now) m) }
     ensures stop { IfErr result (λ e. Stopped (lexemes text.now tokens.now) (length text.now) e) }
+    ensures formed { IfOk result (λ m. IsFormed (length text.now) m) }
+    ensures within { IfErr result (λ e. StandsWithin (length text.now) e) }
 {
     let mut reader = Reader::new(text, tokens, 0);
     let read = whole_module(alloc, &mut reader);

@@ -3,3 +3,5 @@ pub mod Tags
 mod Printed
 mod Places
 mod Values
+pub mod TextTokens
+pub mod Codes

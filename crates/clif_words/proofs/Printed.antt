@@ -7,9 +7,9 @@ use Rattle.clk_num.specs.declared.op.Op.TheVariants as ops
 use Rattle.ir_core.specs.declared.instructions.Access.TheVariants as access
 use Rattle.ir_core.specs.Module.{CallTarget, Instruction}
 use Rattle.ir_core.specs.Module as insts
-use Rattle.ir_core.specs.Pieces.{spelled, ◌▹◌, space, comma}
-use Rattle.ir_core.specs.Text.{op_suffix, suffix_if, condition, operands, value, constant, extending_suffix, flags, address}
-use Rattle.ir_core.specs.Words.{op_word}
+use Rattle.ir_text.specs.TextTree.{spelled, ◌▹◌, space, comma}
+use Rattle.ir_text.specs.TextInstructions.{op_suffix, suffix_if, condition, operands, value, constant, extending_suffix, flags, address}
+use Rattle.ir_text.specs.Words.{op_word}
 use Rattle.clif_words.specs.declared.opcodes.Opcode.{Opcode}
 use Rattle.clif_words.specs.declared.opcodes.Opcode.TheVariants as opcodes
 use Rattle.clif_words.specs.Opcodes.{word}
@@ -152,12 +152,12 @@ printed_word (insts.Plain (insts.PureImm op x d)) o e n s = begins o (op_word op
 printed_word (insts.Plain (insts.Load (access.Full t) f p offset)) o e n s = front o opcodes.Load _ e refl
 printed_word (insts.Plain (insts.Load (access.Uload t bytes) f p offset)) o e n s =
     let w = sized_word (codes "uload") opcodes.Uload8 opcodes.Uload16 opcodes.Uload32 o bytes (rw at_8 refl) (rw at_16 refl) (rw at_32 refl) e in
-    begins o (codes "uload" ++ decimal (8 * bytes)) _ (spelled (extending_suffix t bytes) ++ spelled (space ▹ flags f ▹ address n p offset)) w
-    (append_assoc (codes "uload" ++ decimal (8 * bytes)) (spelled (extending_suffix t bytes)) (spelled (space ▹ flags f ▹ address n p offset)))
+    begins o (codes "uload" ++ decimal (8 * bytes)) _ (spelled (extending_suffix s t bytes) ++ spelled (space ▹ flags f ▹ address n p offset)) w
+    (append_assoc (codes "uload" ++ decimal (8 * bytes)) (spelled (extending_suffix s t bytes)) (spelled (space ▹ flags f ▹ address n p offset)))
 printed_word (insts.Plain (insts.Load (access.Sload t bytes) f p offset)) o e n s =
     let w = sized_word (codes "sload") opcodes.Sload8 opcodes.Sload16 opcodes.Sload32 o bytes (rw at_8 refl) (rw at_16 refl) (rw at_32 refl) e in
-    begins o (codes "sload" ++ decimal (8 * bytes)) _ (spelled (extending_suffix t bytes) ++ spelled (space ▹ flags f ▹ address n p offset)) w
-    (append_assoc (codes "sload" ++ decimal (8 * bytes)) (spelled (extending_suffix t bytes)) (spelled (space ▹ flags f ▹ address n p offset)))
+    begins o (codes "sload" ++ decimal (8 * bytes)) _ (spelled (extending_suffix s t bytes) ++ spelled (space ▹ flags f ▹ address n p offset)) w
+    (append_assoc (codes "sload" ++ decimal (8 * bytes)) (spelled (extending_suffix s t bytes)) (spelled (space ▹ flags f ▹ address n p offset)))
 printed_word (insts.Plain (insts.Store None f x p offset)) o e n s = front o opcodes.Store _ e refl
 printed_word (insts.Plain (insts.Store (Some bytes) f x p offset)) o e n s =
     let w = sized_word (codes "istore") opcodes.Istore8 opcodes.Istore16 opcodes.Istore32 o bytes (rw at_8 refl) (rw at_16 refl) (rw at_32 refl) e in
@@ -177,5 +177,5 @@ printed_word (insts.Call (insts.Direct callee) args) o e n s = front o opcodes.C
 printed_word (insts.Call (insts.Indirect sig p) args) o e n s = front o opcodes.CallIndirect _ e refl
 printed_word (insts.ReturnCall (insts.Direct callee) args) o e n s = front o opcodes.ReturnCall _ e refl
 printed_word (insts.ReturnCall (insts.Indirect sig p) args) o e n s = front o opcodes.ReturnCallIndirect _ e refl
-printed_word (insts.TryCall (insts.Direct callee) sig args normal table) o e n s = front o opcodes.TryCall _ e refl
-printed_word (insts.TryCall (insts.Indirect sig2 p) sig args normal table) o e n s = front o opcodes.TryCallIndirect _ e refl
+printed_word (insts.TryCall (insts.TryDirect callee) sig args normal table) o e n s = front o opcodes.TryCall _ e refl
+printed_word (insts.TryCall (insts.TryIndirect p) sig args normal table) o e n s = front o opcodes.TryCallIndirect _ e refl

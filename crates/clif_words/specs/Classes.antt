@@ -1,7 +1,18 @@
 -- The classes of tokens as the grammar counts them. No definition but this one uses the numbers.
 use Rattle.std.specs.Prelude.{ℕ}
 use Rattle.clif_words.specs.declared.class.Class.{Class}
-use Rattle.clif_words.specs.declared.class.Class.TheVariants.{Header, Name, Unsigned, Signed, Srcloc, Arrow, LeftParen, RightParen, LeftBrace, RightBrace, LeftBracket, RightBracket, Comma, Colon, Equals, Dot, Less, Greater, Function, Conv, Cold, Ty, TyI64, RefusedType, Ext, Vmctx, Sret, ExplicitSlot, Align, Colocated, RefusedDecl, Default, Context, Flag, Little, Big, TrapCode, Condition, Value, Block, Slot, Sig, Callee, Tag, Ret, Exn, UserName, UserTrap, Other, Iconst, Binary, Unary, Icmp, Select, Convert, BinaryImm, IcmpImm, Load, LoadWide, Store, StackLoad, StackStore, FuncAddr, Nullary, Jump, Brif, BrTable, Return, Trap, TrapIf, Call, TryCall, CallIndirect, TryCallIndirect, RefusedOpcode}
+use Rattle.clif_words.specs.declared.class.Class.TheVariants.{Header, Name, Unsigned, Signed, Srcloc, Arrow, LeftParen}
+use Rattle.clif_words.specs.declared.class.Class.TheVariants.{RightParen, LeftBrace, RightBrace, LeftBracket}
+use Rattle.clif_words.specs.declared.class.Class.TheVariants.{RightBracket, Comma, Colon, Equals, Dot, Less, Greater}
+use Rattle.clif_words.specs.declared.class.Class.TheVariants.{Function, Conv, Cold, Ty, TyI64, RefusedType, Ext, Vmctx}
+use Rattle.clif_words.specs.declared.class.Class.TheVariants.{Sret, ExplicitSlot, Align, Colocated, RefusedDecl}
+use Rattle.clif_words.specs.declared.class.Class.TheVariants.{Default, Context, Flag, Little, Big, TrapCode, Condition}
+use Rattle.clif_words.specs.declared.class.Class.TheVariants.{Value, Block, Slot, Sig, Callee, Tag, Ret, Exn, UserName}
+use Rattle.clif_words.specs.declared.class.Class.TheVariants.{UserTrap, Other, Iconst, Binary, Unary, Icmp, Select}
+use Rattle.clif_words.specs.declared.class.Class.TheVariants.{Convert, BinaryImm, IcmpImm, Load, LoadWide, Store}
+use Rattle.clif_words.specs.declared.class.Class.TheVariants.{StackLoad, StackStore, FuncAddr, Nullary, Jump, Brif}
+use Rattle.clif_words.specs.declared.class.Class.TheVariants.{BrTable, Return, Trap, TrapIf, Call, TryCall}
+use Rattle.clif_words.specs.declared.class.Class.TheVariants.{CallIndirect, TryCallIndirect, RefusedOpcode}
 
 abbrev pub code : Class → ℕ
 code Header = 0

@@ -1,5 +1,6 @@
 -- The tokens of a text as the grammar sees them. Comments are passed over.
-use Rattle.std.specs.Prelude.{ℕ, ◌==◌, Bool, true, false, if◌then◌else◌, List, [], ◌∷◌, drop, ℤ, pos, Option, Some, None, ◌≡◌}
+use Rattle.std.specs.Prelude.{ℕ, ◌==◌, Bool, true, false, if◌then◌else◌, List, [], ◌∷◌, drop, ℤ, pos, Option, Some}
+use Rattle.std.specs.Prelude.{None, ◌≡◌}
 use Rattle.grammar.specs.Rules.{Lexeme}
 use Rattle.clif_lex.specs.declared.spans.TokenKind.{TokenKind}
 use Rattle.clif_lex.specs.declared.spans.TokenKind.TheVariants as kinds
@@ -8,7 +9,9 @@ use Rattle.clif_lex.specs.Bytes.{first, is_sign}
 use Rattle.clif_lex.specs.Numbers.{spelled_number}
 use Rattle.clif_lex.specs.Spans.{spelling}
 use Rattle.clif_words.specs.declared.class.Class.{Class}
-use Rattle.clif_words.specs.declared.class.Class.TheVariants.{Header, Name, Unsigned, Signed, Srcloc, Arrow, Other, LeftParen, RightParen, LeftBrace, RightBrace, LeftBracket, RightBracket, Comma, Colon, Equals, Dot, Less, Greater}
+use Rattle.clif_words.specs.declared.class.Class.TheVariants.{Header, Name, Unsigned, Signed, Srcloc, Arrow, Other}
+use Rattle.clif_words.specs.declared.class.Class.TheVariants.{LeftParen, RightParen, LeftBrace, RightBrace, LeftBracket}
+use Rattle.clif_words.specs.declared.class.Class.TheVariants.{RightBracket, Comma, Colon, Equals, Dot, Less, Greater}
 use Rattle.clif_words.specs.declared.items.Meaning.{Meaning}
 use Rattle.clif_words.specs.Classes.{code}
 use Rattle.clif_words.specs.Words.{means, word_meaning}

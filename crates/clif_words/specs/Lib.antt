@@ -4,4 +4,6 @@ pub mod Words
 pub mod Lexemes
 pub mod Terminals
 pub mod Opcodes
+pub mod OpcodeForms
 pub mod Printed
+pub mod TextTokens

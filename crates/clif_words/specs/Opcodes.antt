@@ -1,11 +1,23 @@
 -- The opcodes in the order of the table, and how each is spelled.
-use Rattle.std.specs.Prelude.{ℕ, ◌+◌, List, [], ◌∷◌, codes}
+use Rattle.std.specs.Prelude.{ℕ, ◌+◌, List, [], ◌∷◌, codes, slice_get, Option, Some, None}
 use Rattle.clk_num.specs.declared.op.Cc.TheVariants as cc
 use Rattle.clk_num.specs.declared.op.Op.TheVariants as ops
 use Rattle.clk_num.specs.declared.width.Width.TheVariants as widths
-use Rattle.ir_core.specs.Words.{op_word}
+use Rattle.ir_text.specs.Words.{op_word}
 use Rattle.clif_words.specs.declared.opcodes.Opcode.{Opcode}
-use Rattle.clif_words.specs.declared.opcodes.Opcode.TheVariants.{Iconst, Iadd, Isub, Imul, Band, Bor, Bxor, Smin, Smax, Umin, Umax, Umulhi, Smulhi, Udiv, Urem, Sdiv, Srem, Ishl, Ushr, Sshr, Rotl, Rotr, UaddOverflow, SaddOverflow, UsubOverflow, SsubOverflow, Iconcat, Ineg, Bnot, Iabs, Clz, Ctz, Popcnt, Bitrev, Bswap, Isplit, Icmp, Select, Uextend, Sextend, Ireduce, IaddImm, ImulImm, BandImm, BorImm, BxorImm, IshlImm, UshrImm, SshrImm, IcmpImm, Load, Uload8, Sload8, Uload16, Sload16, Uload32, Sload32, Store, Istore8, Istore16, Istore32, StackLoad, StackStore, FuncAddr, Nop, SequencePoint, Jump, Brif, BrTable, Return, Trap, Trapz, Trapnz, Call, ReturnCall, TryCall, CallIndirect, ReturnCallIndirect, TryCallIndirect}
+use Rattle.clif_words.specs.declared.opcodes.Opcode.TheVariants.{Iconst, Iadd, Isub, Imul, Band, Bor, Bxor, Smin, Smax}
+use Rattle.clif_words.specs.declared.opcodes.Opcode.TheVariants.{Umin, Umax, Umulhi, Smulhi, Udiv, Urem, Sdiv, Srem}
+use Rattle.clif_words.specs.declared.opcodes.Opcode.TheVariants.{Ishl, Ushr, Sshr, Rotl, Rotr, UaddOverflow}
+use Rattle.clif_words.specs.declared.opcodes.Opcode.TheVariants.{SaddOverflow, UsubOverflow, SsubOverflow, Iconcat}
+use Rattle.clif_words.specs.declared.opcodes.Opcode.TheVariants.{Ineg, Bnot, Iabs, Clz, Ctz, Popcnt, Bitrev, Bswap}
+use Rattle.clif_words.specs.declared.opcodes.Opcode.TheVariants.{Isplit, Icmp, Select, Uextend, Sextend, Ireduce}
+use Rattle.clif_words.specs.declared.opcodes.Opcode.TheVariants.{IaddImm, ImulImm, BandImm, BorImm, BxorImm, IshlImm}
+use Rattle.clif_words.specs.declared.opcodes.Opcode.TheVariants.{UshrImm, SshrImm, IcmpImm, Load, Uload8, Sload8}
+use Rattle.clif_words.specs.declared.opcodes.Opcode.TheVariants.{Uload16, Sload16, Uload32, Sload32, Store, Istore8}
+use Rattle.clif_words.specs.declared.opcodes.Opcode.TheVariants.{Istore16, Istore32, StackLoad, StackStore, FuncAddr}
+use Rattle.clif_words.specs.declared.opcodes.Opcode.TheVariants.{Nop, SequencePoint, Jump, Brif, BrTable, Return, Trap}
+use Rattle.clif_words.specs.declared.opcodes.Opcode.TheVariants.{Trapz, Trapnz, Call, ReturnCall, TryCall, CallIndirect}
+use Rattle.clif_words.specs.declared.opcodes.Opcode.TheVariants.{ReturnCallIndirect, TryCallIndirect}
 use Rattle.clif_words.specs.declared.opcodes.OpcodeRow.{OpcodeRow}
 use Rattle.clif_words.specs.Table.{Row, imm_word}
 
@@ -20,6 +32,15 @@ all_opcodes =
     Istore8 ∷ Istore16 ∷ Istore32 ∷ StackLoad ∷ StackStore ∷ FuncAddr ∷ Nop ∷ SequencePoint ∷ Jump ∷ Brif ∷
     BrTable ∷ Return ∷ Trap ∷ Trapz ∷ Trapnz ∷ Call ∷ ReturnCall ∷ TryCall ∷ CallIndirect ∷
     ReturnCallIndirect ∷ TryCallIndirect ∷ []
+
+-- the opcode at a place, and `nop` where there is none
+abbrev pub or_nop : Option Opcode → Opcode
+or_nop (Some opcode) = opcode
+or_nop None = Nop
+
+-- the opcode that a word with this number is
+unfoldable pub opcode_of : ℕ → Opcode
+opcode_of n = or_nop (slice_get all_opcodes n)
 
 abbrev pub word : Opcode → List ℕ
 word Iconst = codes "iconst"

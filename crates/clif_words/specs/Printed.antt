@@ -7,11 +7,23 @@ use Rattle.ir_core.specs.declared.instructions.Access.TheVariants as access
 use Rattle.ir_core.specs.declared.signatures.Ty.{Ty}
 use Rattle.ir_core.specs.Module.{Simple, Branch, CallTarget, Instruction}
 use Rattle.ir_core.specs.Module as insts
-use Rattle.ir_core.specs.Numbering.{Numbering}
-use Rattle.ir_core.specs.Pieces.{spelled}
-use Rattle.ir_core.specs.Text.{instruction}
+use Rattle.ir_text.specs.Numbering.{Numbering}
+use Rattle.ir_text.specs.TextTree.{spelled}
+use Rattle.ir_text.specs.TextInstructions.{instruction}
 use Rattle.clif_words.specs.declared.opcodes.Opcode.{Opcode}
-use Rattle.clif_words.specs.declared.opcodes.Opcode.TheVariants.{Iconst, Iadd, Isub, Imul, Band, Bor, Bxor, Smin, Smax, Umin, Umax, Umulhi, Smulhi, Udiv, Urem, Sdiv, Srem, Ishl, Ushr, Sshr, Rotl, Rotr, UaddOverflow, SaddOverflow, UsubOverflow, SsubOverflow, Iconcat, Ineg, Bnot, Iabs, Clz, Ctz, Popcnt, Bitrev, Bswap, Isplit, Icmp, Select, Uextend, Sextend, Ireduce, IaddImm, ImulImm, BandImm, BorImm, BxorImm, IshlImm, UshrImm, SshrImm, IcmpImm, Load, Uload8, Sload8, Uload16, Sload16, Uload32, Sload32, Store, Istore8, Istore16, Istore32, StackLoad, StackStore, FuncAddr, Nop, SequencePoint, Jump, Brif, BrTable, Return, Trap, Trapz, Trapnz, Call, ReturnCall, TryCall, CallIndirect, ReturnCallIndirect, TryCallIndirect}
+use Rattle.clif_words.specs.declared.opcodes.Opcode.TheVariants.{Iconst, Iadd, Isub, Imul, Band, Bor, Bxor, Smin, Smax}
+use Rattle.clif_words.specs.declared.opcodes.Opcode.TheVariants.{Umin, Umax, Umulhi, Smulhi, Udiv, Urem, Sdiv, Srem}
+use Rattle.clif_words.specs.declared.opcodes.Opcode.TheVariants.{Ishl, Ushr, Sshr, Rotl, Rotr, UaddOverflow}
+use Rattle.clif_words.specs.declared.opcodes.Opcode.TheVariants.{SaddOverflow, UsubOverflow, SsubOverflow, Iconcat}
+use Rattle.clif_words.specs.declared.opcodes.Opcode.TheVariants.{Ineg, Bnot, Iabs, Clz, Ctz, Popcnt, Bitrev, Bswap}
+use Rattle.clif_words.specs.declared.opcodes.Opcode.TheVariants.{Isplit, Icmp, Select, Uextend, Sextend, Ireduce}
+use Rattle.clif_words.specs.declared.opcodes.Opcode.TheVariants.{IaddImm, ImulImm, BandImm, BorImm, BxorImm, IshlImm}
+use Rattle.clif_words.specs.declared.opcodes.Opcode.TheVariants.{UshrImm, SshrImm, IcmpImm, Load, Uload8, Sload8}
+use Rattle.clif_words.specs.declared.opcodes.Opcode.TheVariants.{Uload16, Sload16, Uload32, Sload32, Store, Istore8}
+use Rattle.clif_words.specs.declared.opcodes.Opcode.TheVariants.{Istore16, Istore32, StackLoad, StackStore, FuncAddr}
+use Rattle.clif_words.specs.declared.opcodes.Opcode.TheVariants.{Nop, SequencePoint, Jump, Brif, BrTable, Return, Trap}
+use Rattle.clif_words.specs.declared.opcodes.Opcode.TheVariants.{Trapz, Trapnz, Call, ReturnCall, TryCall, CallIndirect}
+use Rattle.clif_words.specs.declared.opcodes.Opcode.TheVariants.{ReturnCallIndirect, TryCallIndirect}
 use Rattle.clif_words.specs.Opcodes.{word}
 
 -- of an operation on values
@@ -72,7 +84,8 @@ immediate_opcode op = None
 
 -- of an access of 1, 2 or 4 bytes
 abbrev pub by_bytes : (one two four : Opcode) → ℕ → Option Opcode
-by_bytes one two four bytes = if bytes == 1 then Some one else if bytes == 2 then Some two else if bytes == 4 then Some four else None
+by_bytes one two four bytes =
+    if bytes == 1 then Some one else if bytes == 2 then Some two else if bytes == 4 then Some four else None
 
 abbrev pub load_opcode : Access → Option Opcode
 load_opcode (access.Full t) = Some Load
@@ -113,8 +126,11 @@ opcode_of insts.SequencePoint = Some SequencePoint
 opcode_of (insts.Return vs) = Some Return
 opcode_of (insts.Call to args) = Some (call_opcode Call CallIndirect to)
 opcode_of (insts.ReturnCall to args) = Some (call_opcode ReturnCall ReturnCallIndirect to)
-opcode_of (insts.TryCall to sig args normal table) = Some (call_opcode TryCall TryCallIndirect to)
+opcode_of (insts.TryCall to sig args normal table) =
+    Some (call_opcode TryCall TryCallIndirect (insts.call_target to sig))
 
 -- the canonical text of an instruction begins with the word of its opcode
 abbrev pub BeginsWithWord : Instruction → Type 0
-BeginsWithWord i = (o : Opcode) → opcode_of i ≡ Some o → (n : Numbering) (s : Option Ty) → (rest : List ℕ) × (spelled (instruction n s i) ≡ word o ++ rest)
+BeginsWithWord i =
+    (o : Opcode) → opcode_of i ≡ Some o → (n : Numbering) (s : Option Ty)
+    → (rest : List ℕ) × (spelled (instruction n s i) ≡ word o ++ rest)

@@ -6,9 +6,16 @@ use Rattle.clk_num.specs.declared.op.Op.TheVariants as ops
 use Rattle.clk_num.specs.declared.width.Width.TheVariants as widths
 use Rattle.ir_core.specs.declared.signatures.Conv.TheVariants as conv
 use Rattle.ir_core.specs.declared.signatures.Ty.TheVariants as ty
-use Rattle.ir_core.specs.Words.{op_word, condition_word, type_word, convention_word}
+use Rattle.ir_text.specs.Words.{op_word, condition_word, type_word, convention_word}
 use Rattle.clif_words.specs.declared.class.Class.{Class}
-use Rattle.clif_words.specs.declared.class.Class.TheVariants.{Align, Big, Binary, BinaryImm, BrTable, Brif, Call, CallIndirect, Cold, Colocated, Condition, Context, Conv, Convert, Default, ExplicitSlot, Ext, Flag, FuncAddr, Function, Icmp, IcmpImm, Iconst, Jump, Little, Load, LoadWide, Nullary, RefusedDecl, RefusedOpcode, RefusedType, Return, Select, Sret, StackLoad, StackStore, Store, Trap, TrapCode, TrapIf, TryCall, TryCallIndirect, Ty, TyI64, Unary, Vmctx}
+use Rattle.clif_words.specs.declared.class.Class.TheVariants.{Align, Big, Binary, BinaryImm, BrTable, Brif, Call}
+use Rattle.clif_words.specs.declared.class.Class.TheVariants.{CallIndirect, Cold, Colocated, Condition, Context, Conv}
+use Rattle.clif_words.specs.declared.class.Class.TheVariants.{Convert, Default, ExplicitSlot, Ext, Flag, FuncAddr}
+use Rattle.clif_words.specs.declared.class.Class.TheVariants.{Function, Icmp, IcmpImm, Iconst, Jump, Little, Load}
+use Rattle.clif_words.specs.declared.class.Class.TheVariants.{LoadWide, Nullary, RefusedDecl, RefusedOpcode}
+use Rattle.clif_words.specs.declared.class.Class.TheVariants.{RefusedType, Return, Select, Sret, StackLoad, StackStore}
+use Rattle.clif_words.specs.declared.class.Class.TheVariants.{Store, Trap, TrapCode, TrapIf, TryCall, TryCallIndirect}
+use Rattle.clif_words.specs.declared.class.Class.TheVariants.{Ty, TyI64, Unary, Vmctx}
 
 -- a word, its class, and which of the words of the class it is
 pub record Row : Type 0 where
@@ -51,7 +58,8 @@ opcodes =
     -- `op[.T] x, y`
     group Binary (
     op_word ops.Iadd ∷ op_word ops.Isub ∷ op_word ops.Imul ∷ op_word ops.Band ∷ op_word ops.Bor ∷ op_word ops.Bxor ∷
-    op_word ops.Smin ∷ op_word ops.Smax ∷ op_word ops.Umin ∷ op_word ops.Umax ∷ op_word ops.Umulhi ∷ op_word ops.Smulhi ∷
+    op_word ops.Smin ∷ op_word ops.Smax ∷ op_word ops.Umin ∷ op_word ops.Umax ∷ op_word ops.Umulhi
+    ∷ op_word ops.Smulhi ∷
     op_word ops.Udiv ∷ op_word ops.Urem ∷ op_word ops.Sdiv ∷ op_word ops.Srem ∷ op_word ops.Ishl ∷ op_word ops.Ushr ∷
     op_word ops.Sshr ∷ op_word ops.Rotl ∷ op_word ops.Rotr ∷ op_word ops.UaddOverflow ∷ op_word ops.SaddOverflow ∷
     op_word ops.UsubOverflow ∷ op_word ops.SsubOverflow ∷ op_word ops.Iconcat ∷ []) ∷
@@ -153,7 +161,8 @@ other_words =
     -- `function`
     group Function (codes "function" ∷ []) ∷
     -- a calling convention but `cold`
-    group Conv (convention_word conv.Fast ∷ convention_word conv.Tail ∷ convention_word conv.SystemV ∷ convention_word conv.WindowsFastcall ∷ convention_word conv.AppleAarch64 ∷
+    group Conv (convention_word conv.Fast ∷ convention_word conv.Tail ∷ convention_word conv.SystemV
+    ∷ convention_word conv.WindowsFastcall ∷ convention_word conv.AppleAarch64 ∷
     convention_word conv.Probestack ∷ convention_word conv.Winch ∷ []) ∷
     -- `cold`
     group Cold (convention_word conv.Cold ∷ []) ∷
@@ -182,7 +191,8 @@ other_words =
     -- `context`
     group Context (codes "context" ∷ []) ∷
     -- a memory flag but `little`, `big` and `vmctx`
-    group Flag (codes "notrap" ∷ codes "aligned" ∷ codes "readonly" ∷ codes "can_move" ∷ codes "heap" ∷ codes "table" ∷ []) ∷
+    group Flag (codes "notrap" ∷ codes "aligned" ∷ codes "readonly" ∷ codes "can_move" ∷ codes "heap" ∷ codes "table"
+    ∷ []) ∷
     -- `little`
     group Little (codes "little" ∷ []) ∷
     -- `big`
@@ -190,7 +200,8 @@ other_words =
     -- a trap code but `userN`
     group TrapCode (codes "stk_ovf" ∷ codes "int_ovf" ∷ codes "heap_oob" ∷ codes "int_divz" ∷ codes "bad_toint" ∷ []) ∷
     -- a condition of `icmp`
-    group Condition (condition_word cc.Eq ∷ condition_word cc.Ne ∷ condition_word cc.Slt ∷ condition_word cc.Sge ∷ condition_word cc.Sgt ∷ condition_word cc.Sle ∷ condition_word cc.Ult ∷ condition_word cc.Uge ∷
+    group Condition (condition_word cc.Eq ∷ condition_word cc.Ne ∷ condition_word cc.Slt ∷ condition_word cc.Sge
+    ∷ condition_word cc.Sgt ∷ condition_word cc.Sle ∷ condition_word cc.Ult ∷ condition_word cc.Uge ∷
     condition_word cc.Ugt ∷ condition_word cc.Ule ∷ []) ∷
     []
 

@@ -1,11 +1,13 @@
 -- What a word is to the grammar: a word with a meaning of its own, or a word with a number behind it, as `v7`.
-use Rattle.std.specs.Prelude.{ℕ, ◌+◌, ◌*◌, ◌-◌, ◌==◌, ◌&&◌, ◌||◌, ◌^◌, not, nat_lt, Bool, false, if◌then◌else◌, List, [], ◌∷◌, length, take, drop, codes, Option, Some, None, is_some}
+use Rattle.std.specs.Prelude.{ℕ, ◌+◌, ◌*◌, ◌-◌, ◌==◌, ◌&&◌, ◌||◌, ◌^◌, not, nat_lt, Bool, false, if◌then◌else◌, List}
+use Rattle.std.specs.Prelude.{[], ◌∷◌, length, take, drop, codes, Option, Some, None, is_some}
 use Rattle.std.specs.Str.{bytes_eq}
 use Rattle.std.specs.List.{prefix_len, suffix_len}
 use Rattle.std.specs.Char.{is_ascii_digit, digit_value}
 use Rattle.clif_lex.specs.Bytes.{first}
 use Rattle.clif_words.specs.declared.class.Class.{Class}
-use Rattle.clif_words.specs.declared.class.Class.TheVariants.{Block, Callee, Exn, Other, RefusedDecl, RefusedType, Ret, Sig, Slot, Tag, UserName, UserTrap, Value}
+use Rattle.clif_words.specs.declared.class.Class.TheVariants.{Block, Callee, Exn, Other, RefusedDecl, RefusedType, Ret}
+use Rattle.clif_words.specs.declared.class.Class.TheVariants.{Sig, Slot, Tag, UserName, UserTrap, Value}
 use Rattle.clif_words.specs.declared.words.Entry.{Entry}
 use Rattle.clif_words.specs.declared.items.Meaning.{Meaning}
 use Rattle.clif_words.specs.Table.{Row, group, rows, numbered_each, all_words}
@@ -40,7 +42,9 @@ stems = numbered_each (
 
 -- words that begin another declaration where a number follows them, which may have leading zeros
 unfoldable pub refused_stems : List Row
-refused_stems = rows RefusedDecl 0 (codes "gv" ∷ codes "dss" ∷ codes "dt" ∷ codes "const" ∷ codes "heap" ∷ codes "table" ∷ codes "userextname" ∷ [])
+refused_stems =
+    rows RefusedDecl 0 (codes "gv" ∷ codes "dss" ∷ codes "dt" ∷ codes "const" ∷ codes "heap" ∷ codes "table"
+    ∷ codes "userextname" ∷ [])
 
 unfoldable pub is_refused : List ℕ → Bool
 is_refused stem = is_some (look_up refused_stems stem)
@@ -70,7 +74,8 @@ entity_number ds = if nat_lt (decimal_after 0 ds) (2 ^ 64) then decimal_after 0 
 
 -- digits and `x`
 abbrev pub is_digits_x : List ℕ → Bool
-is_digits_x text = let count = prefix_len is_ascii_digit text in not (count == 0) && bytes_eq (drop count text) (codes "x")
+is_digits_x text = let count =
+    prefix_len is_ascii_digit text in not (count == 0) && bytes_eq (drop count text) (codes "x")
 
 -- `i` or `f`, digits, `x`, digits: the type of a vector, where the digits at its end are left out
 unfoldable pub is_lanes : List ℕ → Bool

@@ -3,12 +3,11 @@
 
 mod class;
 mod items;
-mod laws;
+pub mod laws;
 mod opcodes;
 mod words;
 
 pub use class::Class;
 pub use items::{Meaning, token_meaning, word_meaning};
-pub use laws::printed_words;
-pub use opcodes::{OPCODES, Opcode, OpcodeRow, opcode_at, opcode_rows};
+pub use opcodes::{OPCODES, Opcode, OpcodeRow, opcode_at, opcode_of, opcode_rows};
 pub use words::Entry;

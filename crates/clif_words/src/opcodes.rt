@@ -186,7 +186,8 @@ pub const OPCODES: [OpcodeRow; 79] = [
     ),
 ];
 
-/// The table of opcodes. Its rows are those by which the reader knows the words of opcodes, and a row's number is its place.
+/// The table of opcodes. Its rows are those by which the reader knows the words of opcodes, and a row's number is its
+/// place.
 pub fn opcode_rows() -> &'static [OpcodeRow]
     ensures words { spec.rows_from 0 result.now ≡ table.numbered_through 0 table.opcodes }
     ensures opcodes { map (λ (row : OpcodeRow). row.1) result.now ≡ spec.all_opcodes }
@@ -195,12 +196,24 @@ pub fn opcode_rows() -> &'static [OpcodeRow]
     &OPCODES
 }
 
-/// The opcode with this number.
+/// The opcode with this number, if there is one.
 pub fn opcode_at(number: u64) -> Option<Opcode>
     ensures { result ≡ slice_get spec.all_opcodes number }
 {
     match opcode_rows().get(number as usize) {
         Some(row) => Some(row.1),
         None => None,
+    }
+}
+
+/// The opcode that a word with this number is. No word has a number past the table; there it is `nop`.
+#[tactic(auto, unfolding(crate::specs::Opcodes::opcode_of))]
+#[inline]
+pub fn opcode_of(number: u64) -> Opcode
+    ensures { result ≡ spec.opcode_of number }
+{
+    match opcode_at(number) {
+        Some(opcode) => opcode,
+        None => Opcode::Nop,
     }
 }

@@ -1,4 +1,5 @@
--- What the words of the command line ask for: the first is the program's name, and behind it the one word `inline` may stand.
+-- What the words of the command line ask for: the first is the program's name, and behind it the one word `inline` may
+-- stand.
 use Rattle.std.specs.Prelude.{ℕ, Bool, false, List, [], ◌∷◌, codes}
 use Rattle.std.specs.Str.{bytes_eq}
 

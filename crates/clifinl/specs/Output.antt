@@ -6,7 +6,7 @@ use Rattle.clif_lex.specs.declared.faults.TextKind.TheVariants.{Syntax}
 use Rattle.clif_read.specs.SimpleBack.{ReadsBack}
 use Rattle.clif_read.specs.SimpleModule.{Reads}
 use Rattle.ir_core.specs.Module.{Module}
-use Rattle.ir_core.specs.Text.{text_of}
+use Rattle.ir_text.specs.Text.{text_of}
 use Rattle.clifinl.specs.declared.status.Status.{Status}
 use Rattle.clifinl.specs.declared.status.Status.TheVariants.{Refused}
 use Rattle.clifinl.specs.declared.status.Refusal.TheVariants as refusal
@@ -29,14 +29,18 @@ GivesTooMany before after = (bytes : List ℕ) × Consumes before after bytes ×
 abbrev pub ReadsNone : Option (List ℕ) → Option (List ℕ) → Type 0
 ReadsNone before after = (bytes : List ℕ) × ReadsWhole before after bytes × ((m : Module) → Reads bytes m → ⊥)
 
--- all was read, and the text of the module that it means was appended: a text that reads back as this module and as nothing
--- else
+-- all was read, and the text of the module that it means was appended: a text that reads back as this module and as
+-- nothing else
 abbrev pub ReadsAndWrites : (before after written now : Option (List ℕ)) → Type 0
-ReadsAndWrites before after written now = (bytes : List ℕ) × (m : Module) × ReadsWhole before after bytes × Reads bytes m × Appends written now (text_of m) × ReadsBack m
+ReadsAndWrites before after written now =
+    (bytes : List ℕ) × (m : Module) × ReadsWhole before after bytes × Reads bytes m × Appends written now (text_of m)
+    × ReadsBack m
 
 -- the same, as far as the sink took the text
 abbrev pub ReadsAndWritesPart : (before after written now : Option (List ℕ)) → Type 0
-ReadsAndWritesPart before after written now = (bytes : List ℕ) × (m : Module) × ReadsWhole before after bytes × Reads bytes m × AppendsPrefix written now (text_of m)
+ReadsAndWritesPart before after written now =
+    (bytes : List ℕ) × (m : Module) × ReadsWhole before after bytes × Reads bytes m
+    × AppendsPrefix written now (text_of m)
 
 -- a text that is no simple one is refused at its beginning
 abbrev pub no_simple_text : Status

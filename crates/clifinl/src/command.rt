@@ -4,14 +4,15 @@ ghost use Rattle.clk_flow.specs.Faults.{Rose};
 ghost use Rattle.ir_core.specs.Module as ir;
 ghost use Rattle.clifinl.specs.Asked as asked;
 ghost use Rattle.clif_read.specs.SimpleModule.{Reads};
-ghost use Rattle.clifinl.specs.Output.{ReadsNone, ReadsAndWrites, ReadsAndWritesPart, GivesTooMany, most_bytes, no_simple_text, too_long};
+ghost use Rattle.clifinl.specs.Output.{ReadsNone, ReadsAndWrites, ReadsAndWritesPart, GivesTooMany, most_bytes};
+ghost use Rattle.clifinl.specs.Output.{no_simple_text, too_long};
 
 use crate::status::{Refusal, Status};
 use crate::words::asks_inline;
 use clif_lex::{Place, TextKind};
-use clif_print::{PrintErr, print_with};
 use clif_read::{SimpleErr, read_simple_text};
 use clk_flow::{Gate, ReadErr, Sink, Source, read_whole};
+use print_workers::{PrintErr, print_with};
 use std::alloc::Global;
 use std::mem::forget;
 use std::sync::Wait;
@@ -24,8 +25,8 @@ const LIMIT: usize = 67_108_864;
 const WORKERS: usize = 4;
 
 /// All that the program does, by the words of its command line: `inline` reads a module from `input` and writes the
-/// canonical text of the module with its calls inlined to `out`. Nothing is written to `err` yet, and nothing passes the
-/// gate.
+/// canonical text of the module with its calls inlined to `out`. Nothing is written to `err` yet, and nothing passes
+/// the gate.
 pub fn command<R: Threads + Wait + Sync, I: Source, O: Sink, E: Sink, G: Gate>(
     rt: &R,
     alloc: Global,
@@ -46,18 +47,25 @@ pub fn command<R: Threads + Wait + Sync, I: Source, O: Sink, E: Sink, G: Gate>(
     ensures write_fault { result ≡ Status.WriteFault → Rose (O.faults out.old) (O.faults out.new) }
     ensures refusals { (r : Refusal) → result ≡ Status.Refused r → (result ≡ no_simple_text) ⊎ (result ≡ too_long) }
 
-    // What was written: the text of the module that was read, a part of it where the sink failed, and nothing otherwise.
-    ensures done { result ≡ Status.Done → ReadsAndWrites (I.left input.old) (I.left input.new) (O.written out.old) (O.written out.new) }
-    ensures part { result ≡ Status.WriteFault → ReadsAndWritesPart (I.left input.old) (I.left input.new) (O.written out.old) (O.written out.new) }
+    // What was written: the text of the module that was read, a part of it where the sink failed, and nothing
+    // otherwise.
+    ensures done { result ≡ Status.Done
+        → ReadsAndWrites (I.left input.old) (I.left input.new) (O.written out.old) (O.written out.new) }
+    ensures part { result ≡ Status.WriteFault
+        → ReadsAndWritesPart (I.left input.old) (I.left input.new) (O.written out.old) (O.written out.new) }
     ensures nothing { (out.new ≡ out.old) ⊎ ((result ≡ Status.Done) ⊎ (result ≡ Status.WriteFault)) }
     ensures silent { err.new ≡ err.old }
 
     // Where the source tells its bytes, they decide, unless the outside fails or memory runs out.
-    ensures complete { asked.asks_inline (map string_bytes words.now) ≡ true → (bytes : List ℕ) → I.left input.old ≡ Some bytes → (m : ir.Module) → Reads bytes m → length bytes ≤ most_bytes
-        → (Rose (I.faults input.old) (I.faults input.new) → ⊥) → (Rose (O.faults out.old) (O.faults out.new) → ⊥) → (result ≡ Status.Done) ⊎ (result ≡ Status.NoMemory) }
-    ensures refuses_text { asked.asks_inline (map string_bytes words.now) ≡ true → (bytes : List ℕ) → I.left input.old ≡ Some bytes → length bytes ≤ most_bytes → ((m : ir.Module) → Reads bytes m → ⊥)
+    ensures complete { asked.asks_inline (map string_bytes words.now) ≡ true → (bytes : List ℕ)
+        → I.left input.old ≡ Some bytes → (m : ir.Module) → Reads bytes m → length bytes ≤ most_bytes
+        → (Rose (I.faults input.old) (I.faults input.new) → ⊥) → (Rose (O.faults out.old) (O.faults out.new) → ⊥)
+        → (result ≡ Status.Done) ⊎ (result ≡ Status.NoMemory) }
+    ensures refuses_text { asked.asks_inline (map string_bytes words.now) ≡ true → (bytes : List ℕ)
+        → I.left input.old ≡ Some bytes → length bytes ≤ most_bytes → ((m : ir.Module) → Reads bytes m → ⊥)
         → (result ≡ no_simple_text) ⊎ ((result ≡ Status.ReadFault) ⊎ (result ≡ Status.NoMemory)) }
-    ensures refuses_length { asked.asks_inline (map string_bytes words.now) ≡ true → (bytes : List ℕ) → I.left input.old ≡ Some bytes → most_bytes < length bytes
+    ensures refuses_length { asked.asks_inline (map string_bytes words.now) ≡ true → (bytes : List ℕ)
+        → I.left input.old ≡ Some bytes → most_bytes < length bytes
         → (result ≡ too_long) ⊎ ((result ≡ Status.ReadFault) ⊎ (result ≡ Status.NoMemory)) }
 {
     if !asks_inline(words) {

@@ -1,4 +1,5 @@
-//! What no clause says: that memory suffices for small texts, one outside row, and each call of the outside failing in turn.
+//! What no clause says: that memory suffices for small texts, one outside row, and each call of the outside failing in
+//! turn.
 use crate::{Refusal, Status, command};
 use clif_lex::{Place, TextKind};
 use clk_flow::{MemSink, MemSource, NoGate, NullSink};
@@ -6,11 +7,11 @@ use std::alloc::{AllocError, Global};
 use std::sync::Wait;
 use std::thread::Threads;
 
-const INPUT: &[u8] =
-    b"function %f(i64) -> i64 {\nblock3(v5: i64):\n    v7 = iconst.i64 0xffff_ffff_ffff_ffff\n    v2 = iadd v5, v7\n    return v2\n}\n";
+const INPUT: &[u8] = b"function %f(i64) -> i64 {\n\
+    block3(v5: i64):\n    v7 = iconst.i64 0xffff_ffff_ffff_ffff\n    v2 = iadd v5, v7\n    return v2\n}\n";
 
-const OUTPUT: &[u8] =
-    b"function %f(i64) -> i64 fast {\nblock0(v0: i64):\n    v1 = iconst.i64 -1\n    v2 = iadd v0, v1\n    return v2\n}\n";
+const OUTPUT: &[u8] = b"function %f(i64) -> i64 fast {\n\
+    block0(v0: i64):\n    v1 = iconst.i64 -1\n    v2 = iadd v0, v1\n    return v2\n}\n";
 
 fn ask(alloc: Global, word: &str) -> Result<Vec<String>, AllocError> {
     let mut words = Vec::new(alloc);
@@ -19,7 +20,8 @@ fn ask(alloc: Global, word: &str) -> Result<Vec<String>, AllocError> {
     Ok(words)
 }
 
-/// What a run over these bytes answers and writes: call number `fails` of the source fails, and the sink has so much room.
+/// What a run over these bytes answers and writes: call number `fails` of the source fails, and the sink has so much
+/// room.
 fn run<R: Threads + Wait + Sync>(
     rt: &R,
     alloc: Global,

@@ -1,6 +1,7 @@
 -- What sources and sinks in memory answer, call by call. The calls are numbered from 0, and the calls whose numbers are
 -- named beforehand fail: they move no byte, and raise the count of faults.
-use Rattle.std.specs.Prelude.{ℕ, ◌-◌, ◌==◌, nat_lt, min, Bool, ◌&&◌, ◌||◌, if◌then◌else◌, List, ◌++◌, length, take, drop, Result, Ok, Err}
+use Rattle.std.specs.Prelude.{ℕ, ◌-◌, ◌==◌, nat_lt, min, Bool, ◌&&◌, ◌||◌, if◌then◌else◌, List, ◌++◌, length, take}
+use Rattle.std.specs.Prelude.{drop, Result, Ok, Err}
 use Rattle.std.specs.List.{list_any}
 use Rattle.clk_flow.specs.declared.traits.Failed.{Failed}
 use Rattle.clk_flow.specs.Faults.{raised}

@@ -45,7 +45,8 @@ impl<R: Read> Source for StdSource<R> {
     }
 }
 
-/// A sink over a writer. Each error of the writer is a fault, and so is each write of a non-empty piece that takes nothing.
+/// A sink over a writer. Each error of the writer is a fault, and so is each write of a non-empty piece that takes
+/// nothing.
 #[derive(Drop)]
 pub struct StdSink<W: Write> {
     writer: W,

@@ -26,16 +26,23 @@ impl Model for MemSource {
 
     ghost Value = { SourceState };
 
-    ghost view = { λ s. record { left = drop s.start s.bytes.items; fails = s.fails.items; most = s.most; calls = s.calls; faults = s.faults } };
+    ghost view = { λ s. record {
+      left = drop s.start s.bytes.items;
+      fails = s.fails.items;
+      most = s.most;
+      calls = s.calls;
+      faults = s.faults;
+    } };
 
     ghost invariant = { λ s. (s.start ≤ vec_len s.bytes) × (0 < s.most) };
 }
 
 impl MemSource {
-    /// The source of these bytes. A call gives at most `most` of them, and at least one where there is one; a `most` of 0
-    /// counts as 1. The calls whose numbers, from 0, are in `fails` answer `Failed`.
+    /// The source of these bytes. A call gives at most `most` of them, and at least one where there is one; a `most` of
+    /// 0 counts as 1. The calls whose numbers, from 0, are in `fails` answer `Failed`.
     pub fn new(bytes: Vec<u8>, fails: Vec<u64>, most: usize) -> MemSource
-        ensures { result ≡ record { left = bytes.items; fails = fails.items; most = max most 1; calls = 0; faults = 0 } }
+        ensures { result
+            ≡ record { left = bytes.items; fails = fails.items; most = max most 1; calls = 0; faults = 0 } }
     {
         MemSource {
             bytes,
@@ -135,17 +142,24 @@ impl Model for MemSink {
 
     ghost Value = { SinkState };
 
-    ghost view = { λ s. record { written = s.bytes.items; fails = s.fails.items; room = s.room; calls = s.calls; faults = s.faults } };
+    ghost view = { λ s. record {
+      written = s.bytes.items;
+      fails = s.fails.items;
+      room = s.room;
+      calls = s.calls;
+      faults = s.faults;
+    } };
 
     ghost invariant = { λ s. (vec_len s.bytes ≤ s.room) × (s.room ≤ vec_capacity s.bytes) };
 }
 
 impl MemSink {
-    /// The sink with room for `room` bytes, which it reserves here: no later call takes memory. The calls whose numbers, from
-    /// 0, are in `fails` answer `Failed`, and so does a call on a non-empty piece where no room is left. A call takes at most
-    /// what is left of the room. Only `AllocError` refuses.
+    /// The sink with room for `room` bytes, which it reserves here: no later call takes memory. The calls whose
+    /// numbers, from 0, are in `fails` answer `Failed`, and so does a call on a non-empty piece where no room is left.
+    /// A call takes at most what is left of the room. Only `AllocError` refuses.
     pub fn new(alloc: Global, fails: Vec<u64>, room: usize) -> Result<MemSink, AllocError>
-        ensures { IfOk result (λ sink. sink ≡ record { written = []; fails = fails.items; room = room; calls = 0; faults = 0 }) }
+        ensures { IfOk result
+            (λ sink. sink ≡ record { written = []; fails = fails.items; room = room; calls = 0; faults = 0 }) }
     {
         let bytes = Vec::with_capacity(alloc, room)?;
         Ok(MemSink {

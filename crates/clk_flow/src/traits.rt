@@ -17,8 +17,8 @@ pub trait Source {
     /// How many faults there were.
     ghost faults: { Self → ℕ };
 
-    /// Takes the next bytes and puts them at the front of `into`: how many there are. `Ok(0)` for a non-empty `into` is the
-    /// end. `Failed` comes only where the count of faults rose in this call, and nothing was taken then.
+    /// Takes the next bytes and puts them at the front of `into`: how many there are. `Ok(0)` for a non-empty `into` is
+    /// the end. `Failed` comes only where the count of faults rose in this call, and nothing was taken then.
     fn take(&mut self, into: &mut [u8]) -> Result<usize, Failed>
         ensures bound { ReadsAtMost result into.new }
         ensures bytes { ReadConsumes (left self.old) (left self.new) result into.new }
@@ -33,8 +33,8 @@ pub trait Sink {
     /// How many faults there were.
     ghost faults: { Self → ℕ };
 
-    /// Appends the first bytes of `piece`: how many they are, at least 1 for a non-empty piece. `Failed` comes only where
-    /// the count of faults rose in this call, and nothing was appended then.
+    /// Appends the first bytes of `piece`: how many they are, at least 1 for a non-empty piece. `Failed` comes only
+    /// where the count of faults rose in this call, and nothing was appended then.
     fn give(&mut self, piece: &[u8]) -> Result<usize, Failed>
         ensures bound { WritesAtMost result piece.now }
         ensures some { IfOk result (λ count. 0 < length piece.now → 0 < count) }

@@ -22,8 +22,8 @@ pub enum ReadErr {
 /// The most bytes that are asked for at once.
 const CHUNK: usize = 65_536;
 
-/// All bytes of the source up to its end, where they are no more than `limit`. After a refusal the bytes that were taken
-/// are gone; they are at most `limit + 1`.
+/// All bytes of the source up to its end, where they are no more than `limit`. After a refusal the bytes that were
+/// taken are gone; they are at most `limit + 1`.
 pub fn read_whole<S: Source>(
     alloc: Global,
     source: &mut S,
@@ -36,7 +36,8 @@ pub fn read_whole<S: Source>(
         × Consumes (S.left source.old) (S.left source.new) bytes × (length bytes ≡ limit + 1)) }
     // Where the source tells what it has left: that is too long where it is longer than the limit, and nowhere else.
     ensures told_whole { IfOk result (λ v. IfSome (S.left source.old) (λ bytes. v.items ≡ bytes)) }
-    ensures told_long { IfErr result (λ e. e ≡ why.TooLong → IfSome (S.left source.old) (λ bytes. limit < length bytes)) }
+    ensures told_long { IfErr result
+        (λ e. e ≡ why.TooLong → IfSome (S.left source.old) (λ bytes. limit < length bytes)) }
     ensures gone { OnErr result (ConsumesAtMost (S.left source.old) (S.left source.new) (limit + 1)) }
     ensures later { S.faults source.old ≤ S.faults source.new }
 {

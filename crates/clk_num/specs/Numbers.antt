@@ -1,7 +1,8 @@
 -- Whole numbers modulo 2^w, as the CLIF reference takes the values of its integer types: a value of w bits is a natural
--- number below 2^w, and is read as unsigned (itself) or as signed (two's complement). Bits and bytes are counted from the
--- lowest, from 0.
-use Rattle.std.specs.Prelude.{ℕ, zero, suc, ◌+◌, ◌-◌, ◌*◌, ◌/◌, ◌%◌, ◌^◌, nat_lt, ◌==◌, ◌&&◌, Bool, if◌then◌else◌, ℤ, pos, negsuc, ◌-ℤ◌, neg_ℤ}
+-- number below 2^w, and is read as unsigned (itself) or as signed (two's complement). Bits and bytes are counted from
+-- the lowest, from 0.
+use Rattle.std.specs.Prelude.{ℕ, zero, suc, ◌+◌, ◌-◌, ◌*◌, ◌/◌, ◌%◌, ◌^◌, nat_lt, ◌==◌, ◌&&◌, Bool, if◌then◌else◌, ℤ}
+use Rattle.std.specs.Prelude.{pos, negsuc, ◌-ℤ◌, neg_ℤ}
 use Rattle.std.specs.Int.RustNames.{unsigned_abs, int_lt, int_le}
 
 -- ---- signed and unsigned

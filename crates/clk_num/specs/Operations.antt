@@ -1,17 +1,23 @@
--- What the operations of CLIF compute, opcode by opcode, over whole numbers: the results or the trap that the CLIF reference
--- gives. A value is its type and a natural number below 2^w, w the type's width in bits.
-use Rattle.std.specs.Prelude.{ℕ, ◌+◌, ◌-◌, ◌*◌, ◌/◌, ◌%◌, ◌^◌, min, max, Bool, not, nat_lt, nat_le, ◌==◌, ◌&&◌, if◌then◌else◌, ◌+ℤ◌, ◌-ℤ◌, ◌*ℤ◌, List, [], ◌∷◌, map, Option, Some, None}
+-- What the operations of CLIF compute, opcode by opcode, over whole numbers: the results or the trap that the CLIF
+-- reference gives. A value is its type and a natural number below 2^w, w the type's width in bits.
+use Rattle.std.specs.Prelude.{ℕ, ◌+◌, ◌-◌, ◌*◌, ◌/◌, ◌%◌, ◌^◌, min, max, Bool, not, nat_lt, nat_le, ◌==◌, ◌&&◌}
+use Rattle.std.specs.Prelude.{if◌then◌else◌, ◌+ℤ◌, ◌-ℤ◌, ◌*ℤ◌, List, [], ◌∷◌, map, Option, Some, None}
 use Rattle.std.specs.Int.RustNames.{unsigned_abs, int_lt, int_le}
 use Rattle.clk_num.specs.declared.op.Cc.{Cc}
 use Rattle.clk_num.specs.declared.op.Cc.TheVariants.{Eq, Ne, Slt, Sge, Sgt, Sle, Ult, Uge, Ugt, Ule}
 use Rattle.clk_num.specs.declared.op.Op.{Op}
-use Rattle.clk_num.specs.declared.op.Op.TheVariants.{Iadd, Isub, Imul, Band, Bor, Bxor, Smin, Smax, Umin, Umax, Umulhi, Smulhi, Udiv, Urem, Sdiv, Srem, Ineg, Bnot, Iabs, Clz, Ctz, Popcnt, Bitrev, Bswap, Ishl, Ushr, Sshr, Rotl, Rotr, Icmp, Select, Uextend, Sextend, Ireduce, UaddOverflow, SaddOverflow, UsubOverflow, SsubOverflow, Iconcat, Isplit}
+use Rattle.clk_num.specs.declared.op.Op.TheVariants.{Iadd, Isub, Imul, Band, Bor, Bxor, Smin, Smax, Umin, Umax, Umulhi}
+use Rattle.clk_num.specs.declared.op.Op.TheVariants.{Smulhi, Udiv, Urem, Sdiv, Srem, Ineg, Bnot, Iabs, Clz, Ctz, Popcnt}
+use Rattle.clk_num.specs.declared.op.Op.TheVariants.{Bitrev, Bswap, Ishl, Ushr, Sshr, Rotl, Rotr, Icmp, Select, Uextend}
+use Rattle.clk_num.specs.declared.op.Op.TheVariants.{Sextend, Ireduce, UaddOverflow, SaddOverflow, UsubOverflow}
+use Rattle.clk_num.specs.declared.op.Op.TheVariants.{SsubOverflow, Iconcat, Isplit}
 use Rattle.clk_num.specs.declared.op.TrapCode.{TrapCode}
 use Rattle.clk_num.specs.declared.op.TrapCode.TheVariants.{IntDivz, IntOvf}
 use Rattle.clk_num.specs.declared.width.Width.{Width}
 use Rattle.clk_num.specs.declared.width.Width.TheVariants.{W8}
 use Rattle.clk_num.specs.Width.{bits_of, double, half}
-use Rattle.clk_num.specs.Numbers.{signed, wrapped, fits_signed, floored, quotient, remainder, bit, byte, sum_below, with_bits, with_bytes, zeros_from_top, zeros_from_bottom}
+use Rattle.clk_num.specs.Numbers.{signed, wrapped, fits_signed, floored, quotient, remainder, bit, byte, sum_below}
+use Rattle.clk_num.specs.Numbers.{with_bits, with_bytes, zeros_from_top, zeros_from_bottom}
 use Rattle.clk_num.specs.Rows.{row}
 
 -- ---- values and what an operation gives
@@ -230,7 +236,8 @@ trap_or None e = e
 trap_or (Some code) e = Traps code
 
 abbrev pub division : (ℕ → ℕ → ℕ → Option TrapCode) → (ℕ → ℕ → ℕ → ℕ) → List DataValue → Evaluation
-division trap f (x ∷ y ∷ []) = trap_or (trap (bits_of x.width) x.value y.value) (one x.width (f (bits_of x.width) x.value y.value))
+division trap f (x ∷ y ∷ []) =
+    trap_or (trap (bits_of x.width) x.value y.value) (one x.width (f (bits_of x.width) x.value y.value))
 division trap f _ = NoRow
 
 -- whether it holds, as an i8
@@ -240,7 +247,8 @@ comparison test _ = NoRow
 
 -- the wrapped result, and whether it overflowed, as an i8
 abbrev pub overflowing : (ℕ → ℕ → ℕ → ℕ) → (ℕ → ℕ → ℕ → Bool) → List DataValue → Evaluation
-overflowing f test (x ∷ y ∷ []) = two x.width (f (bits_of x.width) x.value y.value) W8 (flag_of (test (bits_of x.width) x.value y.value))
+overflowing f test (x ∷ y ∷ []) =
+    two x.width (f (bits_of x.width) x.value y.value) W8 (flag_of (test (bits_of x.width) x.value y.value))
 overflowing f test _ = NoRow
 
 -- x where c is not 0, else y

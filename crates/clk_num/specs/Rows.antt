@@ -1,8 +1,12 @@
--- The types of the operations, as the CLIF reference gives them: for each opcode the types of its operands, and those of
--- its results.
+-- The types of the operations, as the CLIF reference gives them: for each opcode the types of its operands, and those
+-- of its results.
 use Rattle.std.specs.Prelude.{Bool, true, nat_le, if◌then◌else◌, Option, Some, None, List, [], ◌∷◌, IsSome}
 use Rattle.clk_num.specs.declared.op.Op.{Op}
-use Rattle.clk_num.specs.declared.op.Op.TheVariants.{Iadd, Isub, Imul, Band, Bor, Bxor, Smin, Smax, Umin, Umax, Umulhi, Smulhi, Udiv, Urem, Sdiv, Srem, Ineg, Bnot, Iabs, Clz, Ctz, Popcnt, Bitrev, Bswap, Ishl, Ushr, Sshr, Rotl, Rotr, Icmp, Select, Uextend, Sextend, Ireduce, UaddOverflow, SaddOverflow, UsubOverflow, SsubOverflow, Iconcat, Isplit}
+use Rattle.clk_num.specs.declared.op.Op.TheVariants.{Iadd, Isub, Imul, Band, Bor, Bxor, Smin, Smax, Umin, Umax, Umulhi}
+use Rattle.clk_num.specs.declared.op.Op.TheVariants.{Smulhi, Udiv, Urem, Sdiv, Srem, Ineg, Bnot, Iabs, Clz, Ctz, Popcnt}
+use Rattle.clk_num.specs.declared.op.Op.TheVariants.{Bitrev, Bswap, Ishl, Ushr, Sshr, Rotl, Rotr, Icmp, Select, Uextend}
+use Rattle.clk_num.specs.declared.op.Op.TheVariants.{Sextend, Ireduce, UaddOverflow, SaddOverflow, UsubOverflow}
+use Rattle.clk_num.specs.declared.op.Op.TheVariants.{SsubOverflow, Iconcat, Isplit}
 use Rattle.clk_num.specs.declared.width.Width.{Width}
 use Rattle.clk_num.specs.declared.width.Width.TheVariants.{W8}
 use Rattle.clk_num.specs.Width.{bits_of, same, narrower, double, half}

@@ -2,7 +2,8 @@
 ghost use Rattle.std.specs.Prelude.{◌≡◌, ◌≤◌};
 ghost use Rattle.clk_num.specs.Width.{bits_of};
 ghost use Rattle.clk_num.specs.Views.{data_of};
-ghost use Rattle.clk_num.specs.Operations.{value_of, iadd, isub, imul, ineg, iabs, smin, smax, umin, umax, umulhi, smulhi, uadd_overflows, sadd_overflows, usub_overflows, ssub_overflows};
+ghost use Rattle.clk_num.specs.Operations.{value_of, iadd, isub, imul, ineg, iabs, smin, smax, umin, umax, umulhi};
+ghost use Rattle.clk_num.specs.Operations.{smulhi, uadd_overflows, sadd_overflows, usub_overflows, ssub_overflows};
 
 use crate::bits::Bits;
 

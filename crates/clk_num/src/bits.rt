@@ -25,8 +25,8 @@ impl Bits {
         }
     }
 
-    /// The value that is this number read as signed or as unsigned. None exactly where the number is below the least signed
-    /// value or above the greatest unsigned one: at `W128` never.
+    /// The value that is this number read as signed or as unsigned. None exactly where the number is below the least
+    /// signed value or above the greatest unsigned one: at `W128` never.
     pub fn fit(width: Width, number: i128) -> Option<Bits>
         ensures answer { is_some result ≡ fits (bits_of width) number }
         ensures widest { width ≡ Width.W128 → IsSome result }

@@ -6,7 +6,7 @@ mod bits;
 mod bitwise;
 mod conversions;
 mod division;
-mod law;
+pub mod laws;
 mod op;
 mod operations;
 mod rows;
@@ -14,7 +14,6 @@ mod shifts;
 mod width;
 
 pub use bits::Bits;
-pub use law::{result_types, worked_examples};
 pub use op::{Cc, Op, TrapCode};
 pub use operations::{Evaled, eval};
 pub use rows::fits;

@@ -86,8 +86,8 @@ impl Tags {
     }
 }
 
-/// The tags of `outer`, then those of `inner`: the tags of an instruction of the inlined function, at a call site whose own
-/// tags are `outer`. Only `AllocError` refuses.
+/// The tags of `outer`, then those of `inner`: the tags of an instruction of the inlined function, at a call site whose
+/// own tags are `outer`. Only `AllocError` refuses.
 pub fn prefixed(alloc: Global, outer: &Tags, inner: &Tags) -> Result<Tags, AllocError>
     ensures { IfOk result (λ t. t ≡ outer.now ++ inner.now) }
 {

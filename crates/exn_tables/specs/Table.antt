@@ -1,5 +1,6 @@
 -- Which entries of an exception table take a tag: an entry with a tag takes the exceptions of that tag, and an entry
--- without one, written `default`, takes every exception. A table is tried in written order, and the first match is taken.
+-- without one, written `default`, takes every exception. A table is tried in written order, and the first match is
+-- taken.
 use Rattle.std.specs.Prelude.{◌≡◌, ℕ, ◌==◌, Bool, true}
 use Rattle.std.specs.Option.{option_map_or}
 use Rattle.exn_tables.specs.declared.table.Entry.{Entry}

@@ -3,10 +3,10 @@ use Rattle.std.proofs.Common.{◌≡◌, ℕ, zero, suc, ◌≤◌, Bool, true, 
 use Rattle.std.specs.Prelude.{◌⊎◌}
 use Rattle.std.proofs.lemmas.Bool.{eq-eqb}
 use Rattle.std.proofs.lemmas.List.{append-nil}
-use Rattle.grammar.specs.Rules.{Lexeme, Kind, Rule, Empty, Tok, Seq, Alt, Opt, Many, Refuse, Chain, Value, Each, Links, ByFlag, OnFlag, ends, Derives, Begins, heads, nullable, firsts, exts, disjoint, good, Out, ◌>>=◌, repeat, used, chain, by_flag, read}
+use Rattle.grammar.specs.Rules.{Lexeme, Kind, Rule, Empty, Tok, Seq, Alt, Opt, Many, Refuse, Chain, Tree, Each, Links, ByFlag, OnFlag, ends, Derives, Begins, heads, nullable, firsts, exts, disjoint, good, Out, ◌>>=◌, repeat, used, chain, by_flag, read}
 use Rattle.grammar.proofs.Sets.{both, not_true, heads_append, heads_some, disjoint_heads}
 use Rattle.grammar.proofs.Chains.{ends-append, front_chain, chain_step}
-use Rattle.grammar.proofs.Laws.{front_flag, flag_firsts, complete_flag, some_flag, free_flag, good_chain, sound, front, begins_front, Complete, complete, some_front}
+use Rattle.grammar.proofs.Exactness.{front_flag, flag_firsts, complete_flag, some_flag, free_flag, good_chain, sound, front, begins_front, Complete, complete, some_front}
 use Rattle.grammar.proofs.Stops.{stopped}
 
 abbrev Stop : Type 0
@@ -37,7 +37,7 @@ left_bind n (Ok x) f h g = g x h
 left_bind n (Err e) f h g = h
 
 -- what one more part does
-left_then : {A B : Type 0} (n : ℕ) (r : Rule) (a : A) (ts : List Lexeme) (f : Value r × List Lexeme → B) → length ts ≤ n → Left n (read r ts >>= λ y. Ok (f y, y.1))
+left_then : {A B : Type 0} (n : ℕ) (r : Rule) (a : A) (ts : List Lexeme) (f : Tree r × List Lexeme → B) → length ts ≤ n → Left n (read r ts >>= λ y. Ok (f y, y.1))
 left_then n r a ts f le = left_bind n (read r ts) (λ y. Ok (f y, y.1)) (left_more (length ts) n (read r ts) le (shrinks r ts)) (λ y h. h)
 
 left_repeat : (a : Rule) (m n : ℕ) (ts : List Lexeme) → length ts ≤ n → Left n (repeat (read a) (firsts a) m ts)
@@ -45,7 +45,7 @@ left_repeat a zero n ts le = le
 left_repeat a (suc m) n ts le = go (left_repeat a m n) (heads (firsts a) ts)
   where
     go : ((us : List Lexeme) → length us ≤ n → Left n (repeat (read a) (firsts a) m us))
-        → (b : Bool) → Left n (cond {A = Out (List (Value a))} b (read a ts >>= λ x. repeat (read a) (firsts a) m x.1 >>= λ y. Ok (x.0 ∷ y.0, y.1)) (Ok ([], ts)))
+        → (b : Bool) → Left n (cond {A = Out (List (Tree a))} b (read a ts >>= λ x. repeat (read a) (firsts a) m x.1 >>= λ y. Ok (x.0 ∷ y.0, y.1)) (Ok ([], ts)))
     go ih true =
         left_bind n (read a ts) (λ x. repeat (read a) (firsts a) m x.1 >>= λ y. Ok (x.0 ∷ y.0, y.1)) (left_more (length ts) n (read a ts) le (shrinks a ts))
         (λ x h. left_bind n (repeat (read a) (firsts a) m x.1) (λ y. Ok (x.0 ∷ y.0, y.1)) (ih x.1 h) (λ y k. k))
@@ -54,7 +54,7 @@ left_repeat a (suc m) n ts le = go (left_repeat a m n) (heads (firsts a) ts)
 abbrev pub Past : Rule → Type 0
 Past r = (ts : List Lexeme) (tail : List Lexeme) → Begins r ts → Left (length tail) (read r (ts ++ tail))
 
-pub derives_begins : (r : Rule) (ts : List Lexeme) (v : Value r) → Derives r ts v → Begins r ts
+pub derives_begins : (r : Rule) (ts : List Lexeme) (v : Tree r) → Derives r ts v → Begins r ts
 derives_begins Empty ts v d = d
 derives_begins (Tok c) ts x d = inr (x, d.0, d.1)
 derives_begins (Seq a b) ts v d = inr (d.0, d.1, d.2, ((v.0, d.3.0), derives_begins b d.1 v.1 d.3.1))
@@ -81,7 +81,7 @@ one_past a pa n ts tail h t =
     (λ x le. left_bind (length tail) (repeat (read a) (firsts a) n x.1) (λ y. Ok (x.0 ∷ y.0, y.1)) (left_repeat a n (length tail) x.1 le) (λ y k. k)))
 
 many_past : (a : Rule) → Complete a → Past a → nullable a ≡ false → disjoint (exts a) (firsts a) ≡ true
-    → (n : ℕ) (us ws tail : List Lexeme) (vs : List (Value a)) → length (us ++ ws) ≤ n → Each (Derives a) us vs → (ws ≡ []) ⊎ Begins a ws
+    → (n : ℕ) (us ws tail : List Lexeme) (vs : List (Tree a)) → length (us ++ ws) ≤ n → Each (Derives a) us vs → (ws ≡ []) ⊎ Begins a ws
     → Left (length tail) (repeat (read a) (firsts a) n ((us ++ ws) ++ tail))
 many_past a one pa some dis n us ws tail [] le d h =
     elim h [
@@ -131,7 +131,7 @@ left_chain a b c zero n f ts le = le
 left_chain a b c (suc m) n f ts le = go (left_chain a b c m n) (heads (flag_firsts a b f) ts)
   where
     go : ((g : Bool) (us : List Lexeme) → length us ≤ n → Left n (chain (by_flag (read a) (read b)) (flag_firsts a b) c g m us))
-        → (t : Bool) → Left n (cond {A = Out (List (Value a ⊎ Value b))} t (by_flag (read a) (read b) f ts >>= λ x. chain (by_flag (read a) (read b)) (flag_firsts a b) c (ends c f (used ts x.1)) m x.1 >>= λ y. Ok (x.0 ∷ y.0, y.1)) (Ok ([], ts)))
+        → (t : Bool) → Left n (cond {A = Out (List (Tree a ⊎ Tree b))} t (by_flag (read a) (read b) f ts >>= λ x. chain (by_flag (read a) (read b)) (flag_firsts a b) c (ends c f (used ts x.1)) m x.1 >>= λ y. Ok (x.0 ∷ y.0, y.1)) (Ok ([], ts)))
     go ih true =
         left_bind n (by_flag (read a) (read b) f ts) (λ x. chain (by_flag (read a) (read b)) (flag_firsts a b) c (ends c f (used ts x.1)) m x.1 >>= λ y. Ok (x.0 ∷ y.0, y.1)) (left_more (length ts) n (by_flag (read a) (read b) f ts) le (shrinks_flag a b f ts))
         (λ x h. left_bind n (chain (by_flag (read a) (read b)) (flag_firsts a b) c (ends c f (used ts x.1)) m x.1) (λ y. Ok (x.0 ∷ y.0, y.1)) (ih (ends c f (used ts x.1)) x.1 h) (λ y k. k))
@@ -145,7 +145,7 @@ begins_flag_front : (a b : Rule) (f : Bool) (ts : List Lexeme) → BF a b f ts �
 begins_flag_front a b f ts (inl h) = elim (begins_front a ts h.1) [ inl z ↦ inl z | inr z ↦ inr (rw h.0 z) ]
 begins_flag_front a b f ts (inr h) = elim (begins_front b ts h.1) [ inl z ↦ inl z | inr z ↦ inr (rw h.0 z) ]
 
-derives_flag_begins : (a b : Rule) (f : Bool) (ts : List Lexeme) (v : Value a ⊎ Value b) → ByFlag (Derives a) (Derives b) f ts v → BF a b f ts
+derives_flag_begins : (a b : Rule) (f : Bool) (ts : List Lexeme) (v : Tree a ⊎ Tree b) → ByFlag (Derives a) (Derives b) f ts v → BF a b f ts
 derives_flag_begins a b f ts (inl v) d = inl (d.0, derives_begins a ts v d.1)
 derives_flag_begins a b f ts (inr v) d = inr (d.0, derives_begins b ts v d.1)
 
@@ -159,7 +159,7 @@ link_past a b pa pb c n f ts tail h t =
 abbrev LastFlag : Rule → Rule → Bool → List Lexeme → Type 0
 LastFlag a b f ws = (ws ≡ []) ⊎ BF a b f ws
 
-rest_front : (a b : Rule) (c : ℕ) (f : Bool) (us ws : List Lexeme) (vs : List (Value a ⊎ Value b)) → Links (ByFlag (Derives a) (Derives b)) c f us vs → LastFlag a b (ends c f us) ws
+rest_front : (a b : Rule) (c : ℕ) (f : Bool) (us ws : List Lexeme) (vs : List (Tree a ⊎ Tree b)) → Links (ByFlag (Derives a) (Derives b)) c f us vs → LastFlag a b (ends c f us) ws
     → (us ++ ws ≡ []) ⊎ (heads (flag_firsts a b f) (us ++ ws) ≡ true)
 rest_front a b c f us ws vs d h =
     elim (front_chain (ByFlag (Derives a) (Derives b)) (flag_firsts a b) c (front_flag a b (front a) (front b)) f us vs d) [
@@ -174,7 +174,7 @@ rest_front a b c f us ws vs d h =
       | inr p ↦ inr (heads_append (flag_firsts a b f) us ws p)
     ]
 
-chain_past : (a b : Rule) → Complete a → Complete b → Past a → Past b → nullable a ≡ false → nullable b ≡ false → disjoint (exts a ++ exts b) (firsts a ++ firsts b) ≡ true → (c n : ℕ) (f : Bool) (us ws tail : List Lexeme) (vs : List (Value a ⊎ Value b))
+chain_past : (a b : Rule) → Complete a → Complete b → Past a → Past b → nullable a ≡ false → nullable b ≡ false → disjoint (exts a ++ exts b) (firsts a ++ firsts b) ≡ true → (c n : ℕ) (f : Bool) (us ws tail : List Lexeme) (vs : List (Tree a ⊎ Tree b))
     → length (us ++ ws) ≤ n → Links (ByFlag (Derives a) (Derives b)) c f us vs → LastFlag a b (ends c f us) ws
     → Left (length tail) (chain (by_flag (read a) (read b)) (flag_firsts a b) c f n ((us ++ ws) ++ tail))
 chain_past a b ca cb pa pb na nb dis c n f us ws tail [] le d h = last n le (subst (λ (l : List Lexeme). LastFlag a b (ends c f l) ws) d h)

@@ -1,9 +1,9 @@
 -- A token that its place refuses is refused as that kind.
 use Rattle.std.proofs.Common.{◌≡◌, ℕ, zero, suc, ◌<◌, Bool, true, false, not, ◌&&◌, cond, List, [], ◌∷◌, ◌++◌, length, Err, refl, sym, ap, ◌∙◌, arith, inl, inr, append_assoc, length-append}
-use Rattle.grammar.specs.Rules.{Lexeme, Kind, Rule, Empty, Tok, Seq, Alt, Opt, Many, Refuse, Chain, Value, Each, ByFlag, OnFlag, ends, Derives, Refuses, heads, nullable, firsts, exts, disjoint, good, repeat, chain, by_flag, read}
+use Rattle.grammar.specs.Rules.{Lexeme, Kind, Rule, Empty, Tok, Seq, Alt, Opt, Many, Refuse, Chain, Tree, Each, ByFlag, OnFlag, ends, Derives, Refuses, heads, nullable, firsts, exts, disjoint, good, repeat, chain, by_flag, read}
 use Rattle.grammar.proofs.Sets.{both, not_true, heads_left, heads_right, heads_append, heads_some, disjoint_heads}
 use Rattle.grammar.proofs.Chains.{front_chain, refused_chain}
-use Rattle.grammar.proofs.Laws.{front_flag, flag_firsts, complete_flag, some_flag, free_flag, good_chain, front, front_each, Complete, complete, some_front}
+use Rattle.grammar.proofs.Exactness.{front_flag, flag_firsts, complete_flag, some_flag, free_flag, good_chain, front, front_each, Complete, complete, some_front}
 
 pub refuses_front : (r : Rule) (ts : List Lexeme) (x : Lexeme) (k : Kind) (tail : List Lexeme) → Refuses r ts x k → heads (firsts r) (ts ++ x ∷ tail) ≡ true
 refuses_front Empty ts x k tail d = absurd d
@@ -40,7 +40,7 @@ abbrev pub Refusing : Rule → Type 0
 Refusing r = (ts : List Lexeme) (x : Lexeme) (k : Kind) (tail : List Lexeme) → Refuses r ts x k → read r (ts ++ x ∷ tail) ≡ Err (k, x ∷ tail)
 
 refused_each : (a : Rule) → Complete a → Refusing a → nullable a ≡ false → disjoint (exts a) (firsts a) ≡ true
-    → (n : ℕ) (us ws : List Lexeme) (vs : List (Value a)) (x : Lexeme) (k : Kind) (tail : List Lexeme) → length us < n → Each (Derives a) us vs → Refuses a ws x k
+    → (n : ℕ) (us ws : List Lexeme) (vs : List (Tree a)) (x : Lexeme) (k : Kind) (tail : List Lexeme) → length us < n → Each (Derives a) us vs → Refuses a ws x k
     → repeat (read a) (firsts a) n (us ++ (ws ++ x ∷ tail)) ≡ Err (k, x ∷ tail)
 refused_each a one ra some dis zero us ws vs x k tail le d h = absurd (omega arith)
 refused_each a one ra some dis (suc n) us ws [] x k tail le d h = rw (d, refuses_front a ws x k tail h, ra ws x k tail h) refl

@@ -1,10 +1,10 @@
 -- Where reading stops: behind a text that begins the rule, and before the first token with which it does not.
 use Rattle.std.proofs.Common.{◌≡◌, ℕ, zero, suc, ◌==◌, Bool, true, false, cond, List, [], ◌∷◌, ◌++◌, length, Some, None, Result, Ok, Err, refl, sym, ap, subst, ◌∙◌, inl, inr, append_assoc}
 use Rattle.std.specs.Prelude.{◌⊎◌}
-use Rattle.grammar.specs.Rules.{Lexeme, Kind, Syntax, Rule, Empty, Tok, Seq, Alt, Opt, Many, Refuse, Chain, Value, ByFlag, OnFlag, Derives, Begins, Refuses, member, heads, firsts, Out, ◌>>=◌, token, refusal, repeat, by_flag, read}
+use Rattle.grammar.specs.Rules.{Lexeme, Kind, Syntax, Rule, Empty, Tok, Seq, Alt, Opt, Many, Refuse, Chain, Tree, ByFlag, OnFlag, Derives, Begins, Refuses, member, heads, firsts, Out, ◌>>=◌, token, refusal, repeat, by_flag, read}
 use Rattle.grammar.proofs.Binds.{Stop, bind_err, ok_err, regroup}
 use Rattle.grammar.proofs.Chains.{stopped_chain}
-use Rattle.grammar.proofs.Laws.{sound_flag, flag_firsts, sound, Took}
+use Rattle.grammar.proofs.Exactness.{sound_flag, flag_firsts, sound, Took}
 
 abbrev failed : {A : Type 0} → Stop → Result A Stop
 failed e = Err e
@@ -32,7 +32,7 @@ stopped_each : (a : Rule) → ((ts : List Lexeme) (e : Stop) → read a ts ≡ E
 stopped_each a one zero ts e h = ok_err ([], ts) e h
 stopped_each a one (suc n) ts e h = go (stopped_each a one n) (heads (firsts a) ts) h
   where
-    more : (x : Value a × List Lexeme) → Took a ts x → Stopped (Many a) x.1 e → Stopped (Many a) ts e
+    more : (x : Tree a × List Lexeme) → Took a ts x → Stopped (Many a) x.1 e → Stopped (Many a) ts e
     more x s t =
         let m = t.2 in (
           s.0 ++ t.0,
@@ -42,14 +42,14 @@ stopped_each a one (suc n) ts e h = go (stopped_each a one n) (heads (firsts a) 
         )
 
     go : ((us : List Lexeme) (e : Stop) → repeat (read a) (firsts a) n us ≡ Err e → Stopped (Many a) us e)
-        → (b : Bool) → cond {A = Out (List (Value a))} b (read a ts >>= λ x. repeat (read a) (firsts a) n x.1 >>= λ y. Ok (x.0 ∷ y.0, y.1)) (Ok ([], ts)) ≡ Err e → Stopped (Many a) ts e
+        → (b : Bool) → cond {A = Out (List (Tree a))} b (read a ts >>= λ x. repeat (read a) (firsts a) n x.1 >>= λ y. Ok (x.0 ∷ y.0, y.1)) (Ok ([], ts)) ≡ Err e → Stopped (Many a) ts e
     go ih true h =
-        elim (bind_err {B = List (Value a) × List Lexeme} (read a ts) (λ x. repeat (read a) (firsts a) n x.1 >>= λ y. Ok (x.0 ∷ y.0, y.1)) e h) [
+        elim (bind_err {B = List (Tree a) × List Lexeme} (read a ts) (λ x. repeat (read a) (firsts a) n x.1 >>= λ y. Ok (x.0 ∷ y.0, y.1)) e h) [
           | inl p ↦
               let s = one ts e p in
               (s.0, s.1, ([], s.0, refl, (([], refl), inr s.2)), why_more a (Many a) s.0 s.0 e (λ y k w. ([], s.0, refl, (([], refl), w))) s.3)
           | inr p ↦
-              elim (bind_err {B = List (Value a) × List Lexeme} (repeat (read a) (firsts a) n p.0.1) (λ y. Ok (p.0.0 ∷ y.0, y.1)) e p.2) [
+              elim (bind_err {B = List (Tree a) × List Lexeme} (repeat (read a) (firsts a) n p.0.1) (λ y. Ok (p.0.0 ∷ y.0, y.1)) e p.2) [
                 | inl q ↦ more p.0 (sound a ts p.0 p.1) (ih p.0.1 e q)
                 | inr q ↦ ok_err (p.0.0 ∷ q.0.0, q.0.1) e q.2
               ]
@@ -98,12 +98,12 @@ why_b a b us e (inr h) = inr (h.0, h.1, h.2, inr (refl, h.3))
 stopped_flag : (a b : Rule) → ((ts : List Lexeme) (e : Stop) → read a ts ≡ Err e → Stopped a ts e) → ((ts : List Lexeme) (e : Stop) → read b ts ≡ Err e → Stopped b ts e)
     → (f : Bool) (ts : List Lexeme) (e : Stop) → by_flag (read a) (read b) f ts ≡ Err e → (us : List Lexeme) × (ts ≡ us ++ e.1) × BeginsFlag a b f us × WhyFlag a b f us e
 stopped_flag a b sa sb true ts e h =
-    elim (bind_err {B = (Value a ⊎ Value b) × List Lexeme} (read b ts) (λ x. Ok (inr x.0, x.1)) e h) [
+    elim (bind_err {B = (Tree a ⊎ Tree b) × List Lexeme} (read b ts) (λ x. Ok (inr x.0, x.1)) e h) [
       | inl p ↦ (let s = sb ts e p in (s.0, s.1, inr (refl, s.2), why_b a b s.0 e s.3))
       | inr p ↦ ok_err (inr p.0.0, p.0.1) e p.2
     ]
 stopped_flag a b sa sb false ts e h =
-    elim (bind_err {B = (Value a ⊎ Value b) × List Lexeme} (read a ts) (λ x. Ok (inl x.0, x.1)) e h) [
+    elim (bind_err {B = (Tree a ⊎ Tree b) × List Lexeme} (read a ts) (λ x. Ok (inl x.0, x.1)) e h) [
       | inl p ↦ (let s = sa ts e p in (s.0, s.1, inl (refl, s.2), why_a a b s.0 e s.3))
       | inr p ↦ ok_err (inl p.0.0, p.0.1) e p.2
     ]
@@ -112,10 +112,10 @@ pub stopped : (r : Rule) (ts : List Lexeme) (e : Stop) → read r ts ≡ Err e �
 stopped Empty ts e h = ok_err (let x : Unit {0} × List Lexeme = (tt, ts) in x) e h
 stopped (Tok c) ts e h = stopped_tok c ts e h
 stopped (Seq a b) ts e h =
-    elim (bind_err {B = Value (Seq a b) × List Lexeme} (read a ts) (λ x. read b x.1 >>= λ y. Ok ((x.0, y.0), y.1)) e h) [
+    elim (bind_err {B = Tree (Seq a b) × List Lexeme} (read a ts) (λ x. read b x.1 >>= λ y. Ok ((x.0, y.0), y.1)) e h) [
       | inl p ↦ (let s = stopped a ts e p in (s.0, s.1, inl s.2, why_more a (Seq a b) s.0 s.0 e (λ y k w. inl w) s.3))
       | inr p ↦
-          elim (bind_err {B = Value (Seq a b) × List Lexeme} (read b p.0.1) (λ y. Ok ((p.0.0, y.0), y.1)) e p.2) [
+          elim (bind_err {B = Tree (Seq a b) × List Lexeme} (read b p.0.1) (λ y. Ok ((p.0.0, y.0), y.1)) e p.2) [
             | inl q ↦ (
                 let s = sound a ts p.0 p.1 in
                 let t = stopped b p.0.1 e q in
@@ -127,23 +127,23 @@ stopped (Seq a b) ts e h =
 stopped (Alt a b) ts e h = go (stopped a ts) (stopped b ts) (heads (firsts a) ts) h
   where
     go : ((e : Stop) → read a ts ≡ Err e → Stopped a ts e) → ((e : Stop) → read b ts ≡ Err e → Stopped b ts e)
-        → (w : Bool) → cond {A = Out (Value (Alt a b))} w (read a ts >>= λ x. Ok (inl x.0, x.1)) (read b ts >>= λ x. Ok (inr x.0, x.1)) ≡ Err e → Stopped (Alt a b) ts e
+        → (w : Bool) → cond {A = Out (Tree (Alt a b))} w (read a ts >>= λ x. Ok (inl x.0, x.1)) (read b ts >>= λ x. Ok (inr x.0, x.1)) ≡ Err e → Stopped (Alt a b) ts e
     go f g true h =
-        elim (bind_err {B = Value (Alt a b) × List Lexeme} (read a ts) (λ x. Ok (inl x.0, x.1)) e h) [
+        elim (bind_err {B = Tree (Alt a b) × List Lexeme} (read a ts) (λ x. Ok (inl x.0, x.1)) e h) [
           | inl p ↦ (let s = f e p in (s.0, s.1, inl s.2, why_more a (Alt a b) s.0 s.0 e (λ y k w. inl w) s.3))
           | inr p ↦ ok_err (inl p.0.0, p.0.1) e p.2
         ]
     go f g false h =
-        elim (bind_err {B = Value (Alt a b) × List Lexeme} (read b ts) (λ x. Ok (inr x.0, x.1)) e h) [
+        elim (bind_err {B = Tree (Alt a b) × List Lexeme} (read b ts) (λ x. Ok (inr x.0, x.1)) e h) [
           | inl p ↦ (let s = g e p in (s.0, s.1, inr s.2, why_more b (Alt a b) s.0 s.0 e (λ y k w. inr w) s.3))
           | inr p ↦ ok_err (inr p.0.0, p.0.1) e p.2
         ]
 stopped (Opt a) ts e h = go (stopped a ts) (heads (firsts a) ts) h
   where
     go : ((e : Stop) → read a ts ≡ Err e → Stopped a ts e)
-        → (w : Bool) → cond {A = Out (Value (Opt a))} w (read a ts >>= λ x. Ok (Some x.0, x.1)) (Ok (None, ts)) ≡ Err e → Stopped (Opt a) ts e
+        → (w : Bool) → cond {A = Out (Tree (Opt a))} w (read a ts >>= λ x. Ok (Some x.0, x.1)) (Ok (None, ts)) ≡ Err e → Stopped (Opt a) ts e
     go f true h =
-        elim (bind_err {B = Value (Opt a) × List Lexeme} (read a ts) (λ x. Ok (Some x.0, x.1)) e h) [
+        elim (bind_err {B = Tree (Opt a) × List Lexeme} (read a ts) (λ x. Ok (Some x.0, x.1)) e h) [
           | inl p ↦ (let s = f e p in (s.0, s.1, inr s.2, why_more a (Opt a) s.0 s.0 e (λ y k w. w) s.3))
           | inr p ↦ ok_err (Some p.0.0, p.0.1) e p.2
         ]

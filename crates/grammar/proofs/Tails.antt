@@ -3,9 +3,9 @@ use Rattle.std.proofs.Common.{◌≡◌, ℕ, ◌==◌, ◌&&◌, ◌||◌, Bool
 use Rattle.std.specs.Prelude.{◌⊎◌}
 use Rattle.std.proofs.lemmas.Bool.{eq-eqb}
 use Rattle.std.proofs.lemmas.List.{append-nil}
-use Rattle.grammar.specs.Rules.{Lexeme, Rule, Empty, Tok, Seq, Alt, Opt, Many, Refuse, Chain, Value, Cut, Each, ends, nullable, heads, firsts, Derives, Begins}
+use Rattle.grammar.specs.Rules.{Lexeme, Rule, Empty, Tok, Seq, Alt, Opt, Many, Refuse, Chain, Tree, Cut, Each, ends, nullable, heads, firsts, Derives, Begins}
 use Rattle.grammar.proofs.Binds.{regroup}
-use Rattle.grammar.proofs.Laws.{front}
+use Rattle.grammar.proofs.Exactness.{front}
 use Rattle.grammar.proofs.Past.{derives_begins}
 use Rattle.grammar.proofs.Chains.{ends-append}
 use Rattle.grammar.proofs.Same.{Whole, Splits, SplitsBegun}
@@ -31,7 +31,7 @@ Quiet c us = (us ≡ []) ⊎ ((f : Bool) → ends c f us ≡ false)
 quiet_two : (c : ℕ) (ts us ws : List Lexeme) → ts ≡ us ++ ws → ((f : Bool) → ends c f ws ≡ false) → Quiet c ts
 quiet_two c ts us ws e h = inr (λ f. ap (ends c f) e ∙ ends-append c f us ws ∙ h (ends c f us))
 
-quiet_each : (c : ℕ) (a : Rule) → ((us : List Lexeme) (v : Value a) → Derives a us v → Quiet c us) → (ts : List Lexeme) (vs : List (Value a)) → Each (Derives a) ts vs → Quiet c ts
+quiet_each : (c : ℕ) (a : Rule) → ((us : List Lexeme) (v : Tree a) → Derives a us v → Quiet c us) → (ts : List Lexeme) (vs : List (Tree a)) → Each (Derives a) ts vs → Quiet c ts
 quiet_each c a q ts [] d = inl d
 quiet_each c a q ts (v ∷ vs) d =
     elim (quiet_each c a q d.1 vs d.3.1) [
@@ -39,7 +39,7 @@ quiet_each c a q ts (v ∷ vs) d =
       | inr z ↦ quiet_two c ts d.0 d.1 d.2 z
     ]
 
-pub quiet : (c : ℕ) (r : Rule) → may_end c r ≡ false → (us : List Lexeme) (v : Value r) → Derives r us v → Quiet c us
+pub quiet : (c : ℕ) (r : Rule) → may_end c r ≡ false → (us : List Lexeme) (v : Tree r) → Derives r us v → Quiet c us
 quiet c Empty m us v d = inl d
 quiet c (Tok d) m us x h = inr (λ f. rw (h.0, h.1) m)
 quiet c (Seq a b) m us v d =
@@ -118,7 +118,7 @@ tail_end c w = record {
     End : (List Lexeme → Type 0) → List Lexeme → Type 0
     End P ts = Cut ts (λ us vs. Whole (Tok c) us × ((f : Bool) → ends c f us ≡ true) × P vs)
 
-    whole : (ts : List Lexeme) (x : Lexeme) (o : Option (Value w)) → Derives (Seq (Tok c) (Opt w)) ts (x, o) → Whole (Tok c) ts ⊎ Cut ts (λ us vs. Whole (Tok c) us × ((f : Bool) → ends c f us ≡ true) × Whole w vs)
+    whole : (ts : List Lexeme) (x : Lexeme) (o : Option (Tree w)) → Derives (Seq (Tok c) (Opt w)) ts (x, o) → Whole (Tok c) ts ⊎ Cut ts (λ us vs. Whole (Tok c) us × ((f : Bool) → ends c f us ≡ true) × Whole w vs)
     whole ts x None d = inl (x, (let e : ts ≡ d.0 = d.2 ∙ ap (λ (l : List Lexeme). d.0 ++ l) d.3.1 ∙ append-nil d.0 in (e ∙ d.3.0.0, d.3.0.1)))
     whole ts x (Some v) d = inr (d.0, d.1, d.2, ((x, d.3.0), tok_ends c d.0 x d.3.0, (v, d.3.1)))
 
@@ -142,19 +142,19 @@ tail_alt c n1 a1 n2 a2 w s t = record {
   joined_b = λ us vs h e k. both_b us vs h.0 h.1 e k;
 }
   where
-    whole : (ts : List Lexeme) (v : Value n1 ⊎ Value n2) → Derives (Alt n1 n2) ts v → Whole (Alt a1 a2) ts ⊎ Cut ts (λ us vs. Whole (Alt a1 a2) us × ((f : Bool) → ends c f us ≡ true) × Whole w vs)
+    whole : (ts : List Lexeme) (v : Tree n1 ⊎ Tree n2) → Derives (Alt n1 n2) ts v → Whole (Alt a1 a2) ts ⊎ Cut ts (λ us vs. Whole (Alt a1 a2) us × ((f : Bool) → ends c f us ≡ true) × Whole w vs)
     whole ts (inl v) d = elim (s.split ts (v, d)) [ inl k ↦ inl (inl k.0, k.1) | inr k ↦ inr (k.0, k.1, k.2, ((inl k.3.0.0, k.3.0.1), k.3.1, k.3.2)) ]
     whole ts (inr v) d = elim (t.split ts (v, d)) [ inl k ↦ inl (inr k.0, k.1) | inr k ↦ inr (k.0, k.1, k.2, ((inr k.3.0.0, k.3.0.1), k.3.1, k.3.2)) ]
 
-    only : (ts : List Lexeme) (v : Value a1 ⊎ Value a2) → Derives (Alt a1 a2) ts v → Whole (Alt n1 n2) ts
+    only : (ts : List Lexeme) (v : Tree a1 ⊎ Tree a2) → Derives (Alt a1 a2) ts v → Whole (Alt n1 n2) ts
     only ts (inl v) d = let k = s.alone ts (v, d) in (inl k.0, k.1)
     only ts (inr v) d = let k = t.alone ts (v, d) in (inr k.0, k.1)
 
-    both : (us vs : List Lexeme) (v : Value a1 ⊎ Value a2) → Derives (Alt a1 a2) us v → ends c false us ≡ true → Whole w vs → Whole (Alt n1 n2) (us ++ vs)
+    both : (us vs : List Lexeme) (v : Tree a1 ⊎ Tree a2) → Derives (Alt a1 a2) us v → ends c false us ≡ true → Whole w vs → Whole (Alt n1 n2) (us ++ vs)
     both us vs (inl v) d e k = let j = s.joined us vs (v, d) e k in (inl j.0, j.1)
     both us vs (inr v) d e k = let j = t.joined us vs (v, d) e k in (inr j.0, j.1)
 
-    both_b : (us vs : List Lexeme) (v : Value a1 ⊎ Value a2) → Derives (Alt a1 a2) us v → ends c false us ≡ true → Begins w vs → Begins (Alt n1 n2) (us ++ vs)
+    both_b : (us vs : List Lexeme) (v : Tree a1 ⊎ Tree a2) → Derives (Alt a1 a2) us v → ends c false us ≡ true → Begins w vs → Begins (Alt n1 n2) (us ++ vs)
     both_b us vs (inl v) d e k = inl (s.joined_b us vs (v, d) e k)
     both_b us vs (inr v) d e k = inr (t.joined_b us vs (v, d) e k)
 
@@ -205,11 +205,11 @@ or_opt m e = record {
   begun_w = λ ts h. inl h;
 }
   where
-    cut : (ts : List Lexeme) (v : Value m) (o : Option (Value e)) → Derives (Seq m (Opt e)) ts (v, o) → Whole (Seq m e) ts ⊎ Whole m ts
+    cut : (ts : List Lexeme) (v : Tree m) (o : Option (Tree e)) → Derives (Seq m (Opt e)) ts (v, o) → Whole (Seq m e) ts ⊎ Whole m ts
     cut ts v None d = inr (v, (let q : ts ≡ d.0 = d.2 ∙ ap (λ (l : List Lexeme). d.0 ++ l) d.3.1 ∙ append-nil d.0 in subst (λ (l : List Lexeme). Derives m l v) (sym q) d.3.0))
     cut ts v (Some x) d = inl ((v, x), d)
 
-    cut_b : (ts : List Lexeme) → Cut ts (λ us ws. ((v : Value m) × Derives m us v) × ((ws ≡ []) ⊎ Begins e ws)) → Begins (Seq m e) ts ⊎ Begins m ts
+    cut_b : (ts : List Lexeme) → Cut ts (λ us ws. ((v : Tree m) × Derives m us v) × ((ws ≡ []) ⊎ Begins e ws)) → Begins (Seq m e) ts ⊎ Begins m ts
     cut_b ts h =
         elim h.3.1 [
           | inl z ↦ (let q : ts ≡ h.0 = h.2 ∙ ap (λ (l : List Lexeme). h.0 ++ l) z ∙ append-nil h.0 in inr (subst (Begins m) (sym q) (derives_begins m h.0 h.3.0.0 h.3.0.1)))
@@ -226,11 +226,11 @@ or_left b a w x s = record {
   begun_w = λ ts h. inl (s.begun_w ts h);
 }
   where
-    cut : (ts : List Lexeme) (v : Value b ⊎ Value x) → Derives (Alt b x) ts v → Whole (Alt a x) ts ⊎ Whole w ts
+    cut : (ts : List Lexeme) (v : Tree b ⊎ Tree x) → Derives (Alt b x) ts v → Whole (Alt a x) ts ⊎ Whole w ts
     cut ts (inl v) d = elim (s.second ts (v, d)) [ inl k ↦ inl (inl k.0, k.1) | inr k ↦ inr k ]
     cut ts (inr v) d = inl (inr v, d)
 
-    put : (ts : List Lexeme) (v : Value a ⊎ Value x) → Derives (Alt a x) ts v → Whole (Alt b x) ts
+    put : (ts : List Lexeme) (v : Tree a ⊎ Tree x) → Derives (Alt a x) ts v → Whole (Alt b x) ts
     put ts (inl v) d = let k = s.second_a ts (v, d) in (inl k.0, k.1)
     put ts (inr v) d = (inr v, d)
 
@@ -244,11 +244,11 @@ or_right b a w x s = record {
   begun_w = λ ts h. inr (s.begun_w ts h);
 }
   where
-    cut : (ts : List Lexeme) (v : Value x ⊎ Value b) → Derives (Alt x b) ts v → Whole (Alt x a) ts ⊎ Whole w ts
+    cut : (ts : List Lexeme) (v : Tree x ⊎ Tree b) → Derives (Alt x b) ts v → Whole (Alt x a) ts ⊎ Whole w ts
     cut ts (inl v) d = inl (inl v, d)
     cut ts (inr v) d = elim (s.second ts (v, d)) [ inl k ↦ inl (inr k.0, k.1) | inr k ↦ inr k ]
 
-    put : (ts : List Lexeme) (v : Value x ⊎ Value a) → Derives (Alt x a) ts v → Whole (Alt x b) ts
+    put : (ts : List Lexeme) (v : Tree x ⊎ Tree a) → Derives (Alt x a) ts v → Whole (Alt x b) ts
     put ts (inl v) d = (inl v, d)
     put ts (inr v) d = let k = s.second_a ts (v, d) in (inr k.0, k.1)
 

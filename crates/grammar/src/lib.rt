@@ -1,13 +1,7 @@
 //! Grammars as data, and the law that reading by the next token is exact.
 //!
-//! `specs/Rules.antt` has the rules, what they derive and what begins them.
-//! A grammar over them is one value, which a person compares with its EBNF, and whose texts have trees of a type of their own.
+//! `specs/Rules.antt` has the rules, what they derive and what begins them. A grammar over them is one value, which a
+//! person compares with its EBNF, and whose texts have trees of a type of their own.
 #![tactic(auto)]
 
-ghost use Rattle.std.specs.Prelude.{◌≡◌, List, true};
-ghost use Rattle.grammar.specs.Rules.{Lexeme, Rule, good, Answers, read_all};
-
-/// The law: where the next token of a rule always says which way to go, reading a list of tokens gives its one tree, or the first place where no text of the rule goes on.
-pub fn exact_reading()
-    ensures { (rule : Rule) → good rule ≡ true → (tokens : List Lexeme) → Answers rule tokens (read_all rule tokens) }
-{}
+pub mod laws;

@@ -1,37 +1,28 @@
-//! The splice: a call replaced by the body of its callee. It keeps what every run does.
+//! A call of a function replaced by the function's body.
 #![tactic(auto)]
 
-ghost use Rattle.inline_body.specs.Laws.{NumberingKeeps, NumberingKeepsRuns, SpliceKeeps, SpliceKeepsRuns};
+mod appending;
+mod blocks;
+mod copies;
+mod inserting;
+pub mod laws;
+mod lines;
+mod names;
+mod numbers;
+mod piece;
+mod placing;
+mod results;
+mod site;
+mod tables;
 
-mod acceptance;
-
-pub use acceptance::{
-    numbering_keeps_acceptance, numbering_keeps_writable, splice_stays_accepted,
-    splice_stays_writable,
-};
-
-/// A direct call of any kind, replaced by the body of its callee, keeps every outcome of a run that lacks nothing and reads
-/// no unwritten byte of a slot, with at most twice as many steps.
-pub fn splice_keeps_runs()
-    ensures { SpliceKeepsRuns }
-{}
-
-/// The outcomes of a module do not depend on the numbers of its values and blocks.
-pub fn numbering_keeps_runs()
-    ensures { NumberingKeepsRuns }
-{}
-
-/// In an accepted module a direct call of any kind, replaced by the body of its callee, keeps every outcome of every entry
-/// call whose run reads no unwritten byte of a slot, with at most twice as many steps, and adds none.
-pub fn splice_keeps()
-    ensures { SpliceKeeps }
-{
-    ir_core::accepted_never_sticks();
-}
-
-/// A module that is the same as an accepted one up to the numbers of values and blocks has the same outcomes.
-pub fn numbering_keeps()
-    ensures { NumberingKeeps }
-{
-    ir_core::accepted_never_sticks();
-}
+pub use appending::append_to_blocks;
+pub use blocks::{BlockLines, InlinedBlocks, inline_blocks};
+pub use copies::{copy_inst, copy_tags};
+pub use inserting::insert_blocks;
+pub use lines::{copy_lines, inline_lines, jump};
+pub use names::Names;
+pub use piece::{Piece, put_piece};
+pub use placing::put_body;
+pub use results::{NewResults, new_types, number_results, result_types};
+pub use site::{Opened, append_lines, open};
+pub use tables::number_blocks;

@@ -5,21 +5,21 @@ use Rattle.std.specs.Prelude.{slice_get, if◌then◌else◌}
 use Rattle.std.proofs.lemmas.Bool.{cases_eq}
 use Rattle.ir_core.specs.declared.names.FuncName.{FuncName}
 use Rattle.ir_core.specs.declared.declarations.Callee.{Callee}
-use Rattle.ir_core.specs.Module.{CallTarget, Direct, Indirect, Instruction, Plain, Branches, SequencePoint, Return, Call, ReturnCall, TryCall, Line, Block, Function, Module}
+use Rattle.ir_core.specs.Module.{CallTarget, Direct, Indirect, call_target, Instruction, Plain, Branches, SequencePoint, Return, Call, ReturnCall, TryCall, Line, Block, Function, Module}
 use Rattle.ir_core.specs.Lookup.{and_then, find_block, find_function}
 use Rattle.ir_core.specs.Lists.{In, Each}
-use Rattle.ir_core.specs.Splice.{sides, splice_with}
-use Rattle.ir_core.specs.Site.{named_callee, callee_of}
+use Rattle.ir_semantics.specs.Splice.{sides, splice_with}
+use Rattle.ir_core.specs.Uses.{named_callee, callee_of}
 use Rattle.ir_core.specs.Uses.{called_callees, callees_used}
-use Rattle.ir_core.specs.Whole.{LineWhole, BlockWhole, Whole, DifferentNames}
+use Rattle.ir_core.specs.WellFormed.{LineWellFormed, BlockWellFormed, WellFormed, DifferentNames}
 use Rattle.call_graph.specs.Reach.{called_name, or_nothing, names_in, called_names, calls_of, apart}
 use Rattle.call_graph.specs.Order.{names_of}
 use Rattle.call_graph.proofs.Ranks.{call_reaches, under_of, rank, rank_falls, rank_bound}
-use Rattle.inline_body.proofs.Local.{some_same}
-use Rattle.inline_body.proofs.Places.{find_hit, find_skip}
-use Rattle.inline_body.proofs.Functions.{cases_named, function_hit, function_skip, function_name}
+use Rattle.inline_outcomes.proofs.Local.{some_same}
+use Rattle.inline_outcomes.proofs.Places.{find_hit, find_skip}
+use Rattle.inline_outcomes.proofs.Functions.{cases_named, function_hit, function_skip, function_name}
 use Rattle.inline_pass.specs.Policy.{Policy, takes}
-use Rattle.inline_pass.specs.Sites.{Place, own_sites, moved, called}
+use Rattle.inline_pass.specs.Sites.{Place, own_sites, place_behind, called}
 use Rattle.inline_pass.specs.Finished.{inline_by, finish_by, body_of, finished_in, finished}
 use Rattle.inline_pass.specs.FinishedLaws.{FinishedEquation}
 use Rattle.inline_pass.proofs.Passing.{found, then_some}
@@ -64,7 +64,7 @@ target_used (Indirect s a) j n h e = cc
 callee_used : (i : Instruction) (j n : ℕ) → callee_of i ≡ Some j → Each (λ k. k < n) (callees_used i) → j < n
 callee_used (Call t args) j n h e = target_used t j n h e
 callee_used (ReturnCall t args) j n h e = target_used t j n h e
-callee_used (TryCall t sg args a u) j n h e = target_used t j n h e
+callee_used (TryCall t sg args a u) j n h e = target_used (call_target t sg) j n h e
 callee_used (Plain a) j n h e = cc
 callee_used (Branches a) j n h e = cc
 callee_used SequencePoint j n h e = cc
@@ -88,11 +88,11 @@ names_of_block f (b ∷ bs) n k y h i =
       | inr q ↦ in_right y (names_in f b.lines) (called_names f bs) (names_of_block f bs n k y (sym (find_skip n b bs q) ∙ h) i)
     ]
 
-pub own_text : (f : Function) → Whole f → (q : Place) → Names (called_names f f.blocks) f q
+pub own_text : (f : Function) → WellFormed f → (q : Place) → Names (called_names f f.blocks) f q
 own_text f w q =
     record {
       callee = λ k l j h get is.
-          let line = each_get (LineWhole f) k.lines q.1 l get (each_block (BlockWhole f) f.blocks q.0 k h w.lines) in
+          let line = each_get (LineWellFormed f) k.lines q.1 l get (each_block (BlockWellFormed f) f.blocks q.0 k h w.lines) in
           let c = get_at f.callees j (callee_used l.inst j (length f.callees) is line.callees) in
           let name : called_name f l ≡ Some c.0.name = ap (λ o. and_then o (λ z. and_then (slice_get f.callees z) (λ d. Some d.name))) is ∙ ap (λ o. and_then o (λ d. Some d.name)) c.1 in
           (c.0, c.1, names_of_block f f.blocks q.0 k c.0.name h (names_of_line f k.lines q.1 l c.0.name get name));
@@ -108,24 +108,24 @@ module _ (p : Policy) (bodies other : FuncName → Option Function) (names : Lis
   pub agree : (now : Place → Place) (ss : List Place) (b : Function) → ((q : Place) → Names names b (now q)) → inline_by bodies p now ss b ≡ inline_by other p now ss b
   agree now [] b t = refl
   agree now (s ∷ ss) b t =
-      by (and_then (called b (now s).0 (now s).1) bodies) refl (agree now ss b t) (λ b'. agree (λ q. moved (now s).0 (now s).1 (now q)) ss b') ∙ ap (λ o. elim o as (λ z. Function) [ None ↦ inline_by other p now ss b | Some g ↦ if takes p g (splice_with sides b (now s).0 (now s).1 g) then inline_by other p (λ q. moved (now s).0 (now s).1 (now q)) ss (splice_with sides b (now s).0 (now s).1 g) else inline_by other p now ss b ]) (same_called (called b (now s).0 (now s).1) (λ y h. name_in names b (now s) (t s) y h))
+      by (and_then (called b (now s).0 (now s).1) bodies) refl (agree now ss b t) (λ b'. agree (λ q. place_behind (now s).0 (now s).1 (now q)) ss b') ∙ ap (λ o. elim o as (λ z. Function) [ None ↦ inline_by other p now ss b | Some g ↦ if takes p g (splice_with sides b (now s).0 (now s).1 g) then inline_by other p (λ q. place_behind (now s).0 (now s).1 (now q)) ss (splice_with sides b (now s).0 (now s).1 g) else inline_by other p now ss b ]) (same_called (called b (now s).0 (now s).1) (λ y h. name_in names b (now s) (t s) y h))
     where
-      by : (o : Option Function) → and_then (called b (now s).0 (now s).1) bodies ≡ o → inline_by bodies p now ss b ≡ inline_by other p now ss b → ((b' : Function) → ((q : Place) → Names names b' (moved (now s).0 (now s).1 (now q))) → inline_by bodies p (λ q. moved (now s).0 (now s).1 (now q)) ss b' ≡ inline_by other p (λ q. moved (now s).0 (now s).1 (now q)) ss b') → Path Function (elim o [ None ↦ inline_by bodies p now ss b | Some g ↦ if takes p g (splice_with sides b (now s).0 (now s).1 g) then inline_by bodies p (λ q. moved (now s).0 (now s).1 (now q)) ss (splice_with sides b (now s).0 (now s).1 g) else inline_by bodies p now ss b ]) (elim o [ None ↦ inline_by other p now ss b | Some g ↦ if takes p g (splice_with sides b (now s).0 (now s).1 g) then inline_by other p (λ q. moved (now s).0 (now s).1 (now q)) ss (splice_with sides b (now s).0 (now s).1 g) else inline_by other p now ss b ])
+      by : (o : Option Function) → and_then (called b (now s).0 (now s).1) bodies ≡ o → inline_by bodies p now ss b ≡ inline_by other p now ss b → ((b' : Function) → ((q : Place) → Names names b' (place_behind (now s).0 (now s).1 (now q))) → inline_by bodies p (λ q. place_behind (now s).0 (now s).1 (now q)) ss b' ≡ inline_by other p (λ q. place_behind (now s).0 (now s).1 (now q)) ss b') → Path Function (elim o [ None ↦ inline_by bodies p now ss b | Some g ↦ if takes p g (splice_with sides b (now s).0 (now s).1 g) then inline_by bodies p (λ q. place_behind (now s).0 (now s).1 (now q)) ss (splice_with sides b (now s).0 (now s).1 g) else inline_by bodies p now ss b ]) (elim o [ None ↦ inline_by other p now ss b | Some g ↦ if takes p g (splice_with sides b (now s).0 (now s).1 g) then inline_by other p (λ q. place_behind (now s).0 (now s).1 (now q)) ss (splice_with sides b (now s).0 (now s).1 g) else inline_by other p now ss b ])
       by None e stay go = stay
       by (Some g) e stay go = choose (takes p g (splice_with sides b (now s).0 (now s).1 g))
         where
-          with_body : inline_by bodies p (λ q. moved (now s).0 (now s).1 (now q)) ss (splice_with sides b (now s).0 (now s).1 g) ≡ inline_by other p (λ q. moved (now s).0 (now s).1 (now q)) ss (splice_with sides b (now s).0 (now s).1 g)
+          with_body : inline_by bodies p (λ q. place_behind (now s).0 (now s).1 (now q)) ss (splice_with sides b (now s).0 (now s).1 g) ≡ inline_by other p (λ q. place_behind (now s).0 (now s).1 (now q)) ss (splice_with sides b (now s).0 (now s).1 g)
           with_body =
               let u = then_some (called b (now s).0 (now s).1) bodies g e in
               let d = found b (now s).0 (now s).1 u.0 u.1 in
               let is = splice_here b g (now s).0 (now s).1 d.block d.line d.found d.get in
-              go (splice_with sides b (now s).0 (now s).1 g) (λ q. subst (λ z. Names names z (moved (now s).0 (now s).1 (now q))) (sym is) (track b g (now s).0 (now s).1 d.block d.line d.found d.get names (now q) (t q)))
+              go (splice_with sides b (now s).0 (now s).1 g) (λ q. subst (λ z. Names names z (place_behind (now s).0 (now s).1 (now q))) (sym is) (track b g (now s).0 (now s).1 d.block d.line d.found d.get names (now q) (t q)))
 
-          choose : (c : Bool) → (if c then inline_by bodies p (λ q. moved (now s).0 (now s).1 (now q)) ss (splice_with sides b (now s).0 (now s).1 g) else inline_by bodies p now ss b) ≡ (if c then inline_by other p (λ q. moved (now s).0 (now s).1 (now q)) ss (splice_with sides b (now s).0 (now s).1 g) else inline_by other p now ss b)
+          choose : (c : Bool) → (if c then inline_by bodies p (λ q. place_behind (now s).0 (now s).1 (now q)) ss (splice_with sides b (now s).0 (now s).1 g) else inline_by bodies p now ss b) ≡ (if c then inline_by other p (λ q. place_behind (now s).0 (now s).1 (now q)) ss (splice_with sides b (now s).0 (now s).1 g) else inline_by other p now ss b)
           choose true = with_body
           choose false = stay
 
-pub finish_same : (p : Policy) (bodies other : FuncName → Option Function) (f : Function) → Whole f → ((y : FuncName) → In y (called_names f f.blocks) → bodies y ≡ other y) → finish_by bodies p f ≡ finish_by other p f
+pub finish_same : (p : Policy) (bodies other : FuncName → Option Function) (f : Function) → WellFormed f → ((y : FuncName) → In y (called_names f f.blocks) → bodies y ≡ other y) → finish_by bodies p f ≡ finish_by other p f
 finish_same p bodies other f w same = agree p bodies other (called_names f f.blocks) same (λ q. q) (own_sites f.blocks) f (λ q. own_text f w q)
 
 -- ---- enough turns
@@ -137,7 +137,7 @@ pub name_of_found : (m : Module) (x : FuncName) (f : Function) → find_function
 name_of_found [] x f h = cc
 name_of_found (k ∷ m) x f h = elim (cases_named k.name x) [ inl q ↦ inl (sym q) | inr q ↦ inr (name_of_found m x f (sym (function_skip x k m q) ∙ h)) ]
 
-module _ (p : Policy) (m : Module) (whole : Each Whole m) where
+module _ (p : Policy) (m : Module) (whole : Each WellFormed m) where
   turns : (n : ℕ) (f : Function) → FuncName → Option Function
   turns n f y = and_then (body_of m m f.name y) (λ g. Some (finished_in n p m g))
 
@@ -159,7 +159,7 @@ module _ (p : Policy) (m : Module) (whole : Each Whole m) where
   enough zero k f h a b = absurd (omega (arith, a))
   enough (suc n) zero f h a b = absurd (omega (arith, b))
   enough (suc n) (suc k) f h a b =
-      finish_same p (λ y. and_then (body_of m m f.name y) (λ g. Some (finished_in n p m g))) (λ y. and_then (body_of m m f.name y) (λ g. Some (finished_in k p m g))) f (each_function Whole m f.name f h whole) (same_turns n k f h (λ g q l. enough n k g q (omega (arith, a, l)) (omega (arith, b, l))))
+      finish_same p (λ y. and_then (body_of m m f.name y) (λ g. Some (finished_in n p m g))) (λ y. and_then (body_of m m f.name y) (λ g. Some (finished_in k p m g))) f (each_function WellFormed m f.name f h whole) (same_turns n k f h (λ g q l. enough n k g q (omega (arith, a, l)) (omega (arith, b, l))))
 
   pub equation : (f : Function) → find_function f.name m ≡ Some f → finished p m f ≡ finish_by (λ y. and_then (body_of m m f.name y) (λ g. Some (finished p m g))) p f
   equation f h =

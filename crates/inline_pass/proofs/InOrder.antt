@@ -6,22 +6,22 @@ use Rattle.ir_core.specs.declared.names.FuncName.{FuncName}
 use Rattle.ir_core.specs.Module.{Line, Block, Function, Module}
 use Rattle.ir_core.specs.Lookup.{and_then, same_name, find_block, find_function}
 use Rattle.ir_core.specs.Lists.{In}
-use Rattle.ir_core.specs.Splice.{sides, spliced, splice_with, replace}
-use Rattle.ir_core.specs.Whole.{Whole, DifferentNames, IsModule}
+use Rattle.ir_semantics.specs.Splice.{sides, spliced, splice_with, replace}
+use Rattle.ir_core.specs.WellFormed.{WellFormed, DifferentNames, IsModule}
 use Rattle.ir_core.proofs.Equal.{equal_name}
 use Rattle.call_graph.specs.Reach.{called_names, calls_of, apart}
 use Rattle.call_graph.specs.Order.{names_of, stands, CalleesBefore, BottomUp, bottom_up}
 use Rattle.call_graph.proofs.Standing.{stands_of, not_standing}
 use Rattle.call_graph.proofs.Placing.{order_is_bottom_up}
-use Rattle.inline_body.specs.Laws.{RunsKept}
-use Rattle.inline_body.proofs.Local.{some_same}
-use Rattle.inline_body.proofs.Functions.{cases_named, function_hit, function_skip, function_name}
-use Rattle.inline_body.proofs.Linking.{map_same}
+use Rattle.inline_outcomes.specs.Laws.{RunsKept}
+use Rattle.inline_outcomes.proofs.Local.{some_same}
+use Rattle.inline_outcomes.proofs.Functions.{cases_named, function_hit, function_skip, function_name}
+use Rattle.inline_outcomes.proofs.Linking.{map_same}
 use Rattle.inline_pass.specs.Policy.{Policy, takes}
-use Rattle.inline_pass.specs.Sites.{Place, own_sites, moved, called}
+use Rattle.inline_pass.specs.Sites.{Place, own_sites, place_behind, called}
 use Rattle.inline_pass.specs.Finished.{inline_by, body_of, finished_in, finished, passed}
 use Rattle.inline_pass.specs.Pass.{finish, pass_by, pass}
-use Rattle.inline_pass.specs.FinishedLaws.{PassIsFinished, OrderInUse, FinishedKeepRuns}
+use Rattle.inline_pass.specs.FinishedLaws.{PassIsFinished, OrderInUse}
 use Rattle.inline_pass.proofs.Passing.{replace_hit, replace_skip, pass_keeps_runs}
 use Rattle.inline_pass.proofs.Finishing.{calls_is, each_function, equation, finish_same, name_of_found}
 
@@ -40,15 +40,15 @@ splice_named b at i g = go (find_block at b.blocks)
 
 inlined_named : (bodies : FuncName → Option Function) (p : Policy) (now : Place → Place) (ss : List Place) (b : Function) → (inline_by bodies p now ss b).name ≡ b.name
 inlined_named bodies p now [] b = refl
-inlined_named bodies p now (s ∷ ss) b = by (and_then (called b (now s).0 (now s).1) bodies) (inlined_named bodies p now ss b) (λ b'. inlined_named bodies p (λ q. moved (now s).0 (now s).1 (now q)) ss b')
+inlined_named bodies p now (s ∷ ss) b = by (and_then (called b (now s).0 (now s).1) bodies) (inlined_named bodies p now ss b) (λ b'. inlined_named bodies p (λ q. place_behind (now s).0 (now s).1 (now q)) ss b')
   where
     choose : (c : Bool) (x y : Function) → x.name ≡ b.name → y.name ≡ b.name → (if c then x else y).name ≡ b.name
     choose true x y h q = h
     choose false x y h q = q
 
-    by : (o : Option Function) → (inline_by bodies p now ss b).name ≡ b.name → ((b' : Function) → (inline_by bodies p (λ q. moved (now s).0 (now s).1 (now q)) ss b').name ≡ b'.name) → (elim o as (λ z. Function) [ None ↦ inline_by bodies p now ss b | Some g ↦ if takes p g (splice_with sides b (now s).0 (now s).1 g) then inline_by bodies p (λ q. moved (now s).0 (now s).1 (now q)) ss (splice_with sides b (now s).0 (now s).1 g) else inline_by bodies p now ss b ]).name ≡ b.name
+    by : (o : Option Function) → (inline_by bodies p now ss b).name ≡ b.name → ((b' : Function) → (inline_by bodies p (λ q. place_behind (now s).0 (now s).1 (now q)) ss b').name ≡ b'.name) → (elim o as (λ z. Function) [ None ↦ inline_by bodies p now ss b | Some g ↦ if takes p g (splice_with sides b (now s).0 (now s).1 g) then inline_by bodies p (λ q. place_behind (now s).0 (now s).1 (now q)) ss (splice_with sides b (now s).0 (now s).1 g) else inline_by bodies p now ss b ]).name ≡ b.name
     by None stay go = stay
-    by (Some g) stay go = choose (takes p g (splice_with sides b (now s).0 (now s).1 g)) (inline_by bodies p (λ q. moved (now s).0 (now s).1 (now q)) ss (splice_with sides b (now s).0 (now s).1 g)) (inline_by bodies p now ss b) (go (splice_with sides b (now s).0 (now s).1 g) ∙ splice_named b (now s).0 (now s).1 g) stay
+    by (Some g) stay go = choose (takes p g (splice_with sides b (now s).0 (now s).1 g)) (inline_by bodies p (λ q. place_behind (now s).0 (now s).1 (now q)) ss (splice_with sides b (now s).0 (now s).1 g)) (inline_by bodies p now ss b) (go (splice_with sides b (now s).0 (now s).1 g) ∙ splice_named b (now s).0 (now s).1 g) stay
 
 turns_named : (n : ℕ) (p : Policy) (m : Module) (f : Function) → (finished_in n p m f).name ≡ f.name
 turns_named zero p m f = refl
@@ -56,6 +56,38 @@ turns_named (suc n) p m f = inlined_named (λ y. and_then (body_of m m f.name y)
 
 pub finished_named : (p : Policy) (m : Module) (f : Function) → (finished p m f).name ≡ f.name
 finished_named p m f = turns_named _ p m f
+
+-- ---- and signatures
+
+splice_signed : (b : Function) (at i : ℕ) (g : Function) → (splice_with sides b at i g).sig ≡ b.sig
+splice_signed b at i g = go (find_block at b.blocks)
+  where
+    line : (k : Block) (o : Option Line) → (elim o as (λ z. Function) [ None ↦ b | Some l ↦ spliced (record { naming = sides; caller = b; callee = g; at = at; before = take i k.lines; site = l; behind = drop (suc i) k.lines }) ]).sig ≡ b.sig
+    line k None = refl
+    line k (Some l) = refl
+
+    go : (o : Option Block) → (elim o as (λ z. Function) [ None ↦ b | Some k ↦ elim (slice_get k.lines i) as (λ z. Function) [ None ↦ b | Some l ↦ spliced (record { naming = sides; caller = b; callee = g; at = at; before = take i k.lines; site = l; behind = drop (suc i) k.lines }) ] ]).sig ≡ b.sig
+    go None = refl
+    go (Some k) = line k (slice_get k.lines i)
+
+inlined_signed : (bodies : FuncName → Option Function) (p : Policy) (now : Place → Place) (ss : List Place) (b : Function) → (inline_by bodies p now ss b).sig ≡ b.sig
+inlined_signed bodies p now [] b = refl
+inlined_signed bodies p now (s ∷ ss) b = by (and_then (called b (now s).0 (now s).1) bodies) (inlined_signed bodies p now ss b) (λ b'. inlined_signed bodies p (λ q. place_behind (now s).0 (now s).1 (now q)) ss b')
+  where
+    choose : (c : Bool) (x y : Function) → x.sig ≡ b.sig → y.sig ≡ b.sig → (if c then x else y).sig ≡ b.sig
+    choose true x y h q = h
+    choose false x y h q = q
+
+    by : (o : Option Function) → (inline_by bodies p now ss b).sig ≡ b.sig → ((b' : Function) → (inline_by bodies p (λ q. place_behind (now s).0 (now s).1 (now q)) ss b').sig ≡ b'.sig) → (elim o as (λ z. Function) [ None ↦ inline_by bodies p now ss b | Some g ↦ if takes p g (splice_with sides b (now s).0 (now s).1 g) then inline_by bodies p (λ q. place_behind (now s).0 (now s).1 (now q)) ss (splice_with sides b (now s).0 (now s).1 g) else inline_by bodies p now ss b ]).sig ≡ b.sig
+    by None stay go = stay
+    by (Some g) stay go = choose (takes p g (splice_with sides b (now s).0 (now s).1 g)) (inline_by bodies p (λ q. place_behind (now s).0 (now s).1 (now q)) ss (splice_with sides b (now s).0 (now s).1 g)) (inline_by bodies p now ss b) (go (splice_with sides b (now s).0 (now s).1 g) ∙ splice_signed b (now s).0 (now s).1 g) stay
+
+turns_signed : (n : ℕ) (p : Policy) (m : Module) (f : Function) → (finished_in n p m f).sig ≡ f.sig
+turns_signed zero p m f = refl
+turns_signed (suc n) p m f = inlined_signed (λ y. and_then (body_of m m f.name y) (λ g. Some (finished_in n p m g))) p (λ q. q) (own_sites f.blocks) f
+
+pub finished_signed : (p : Policy) (m : Module) (f : Function) → (finished p m f).sig ≡ f.sig
+finished_signed p m f = turns_signed _ p m f
 
 -- ---- functions in place of others
 
@@ -118,7 +150,7 @@ module _ (p : Policy) (m : Module) (is : IsModule m) where
   -- what f calls has its finished body by now
   finish_now : (done : List FuncName) (f : Function) → find_function f.name m ≡ Some f → ((y : FuncName) → In y (calls_of m f.name) → apart m f.name y ≡ true → In y (names_of m) → In y done) → finish p m (map (body_now done) m) f ≡ finished p m f
   finish_now done f h before =
-      finish_same p (body_of m (map (body_now done) m) f.name) (λ y. and_then (body_of m m f.name y) (λ g. Some (finished p m g))) f (each_function Whole m f.name f h is.whole) (λ y i. go y i (apart m f.name y) refl) ∙ sym (equation p m is.whole f h)
+      finish_same p (body_of m (map (body_now done) m) f.name) (λ y. and_then (body_of m m f.name y) (λ g. Some (finished p m g))) f (each_function WellFormed m f.name f h is.whole) (λ y i. go y i (apart m f.name y) refl) ∙ sym (equation p m is.whole f h)
     where
       done_now : (y : FuncName) → In y (calls_of m f.name) → apart m f.name y ≡ true → (o : Option Function) → find_function y m ≡ o → and_then o (λ g. Some (body_now done g)) ≡ and_then o (λ g. Some (finished p m g))
       done_now y i a None q = refl
@@ -172,5 +204,5 @@ pass_is_finished p m is order b = in_order p m is order b
 pub order_in_use : OrderInUse
 order_in_use p m is = pass_is_finished p m is (bottom_up m) (order_is_bottom_up m is.names)
 
-pub finished_keep_runs : FinishedKeepRuns
+pub finished_keep_runs : (p : Policy) (m : Module) → IsModule m → RunsKept m (passed p m)
 finished_keep_runs p m is = subst (RunsKept m) (order_in_use p m is) (pass_keeps_runs p (bottom_up m) m)

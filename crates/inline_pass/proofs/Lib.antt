@@ -1,9 +1,11 @@
 pub mod Finishing
+pub mod Going
 pub mod Holding
 pub mod InOrder
+pub mod Kept
+pub mod Others
 pub mod Outcomes
 pub mod Passing
+pub mod Putting
 pub mod Renumbered
-pub mod Rows
 pub mod Tracking
-pub mod Kept

@@ -1,9 +1,9 @@
 -- The outcomes of finished bodies, under other numbers too.
 use Rattle.std.proofs.Common.{subst}
-use Rattle.ir_core.specs.Same.{Same}
-use Rattle.ir_core.specs.Kept.{NeverStuck}
-use Rattle.inline_body.proofs.Laws.{same_of}
-use Rattle.inline_body.proofs.Numbering.{kept_on, numbering_keeps_runs}
+use Rattle.ir_semantics.specs.Same.{Same}
+use Rattle.ir_semantics.specs.NeverStuck.{NeverStuck}
+use Rattle.inline_outcomes.proofs.Keeping.{same_of}
+use Rattle.inline_outcomes.proofs.Numbering.{kept_on, numbering_keeps_runs}
 use Rattle.call_graph.specs.Order.{bottom_up}
 use Rattle.inline_pass.specs.Finished.{passed}
 use Rattle.inline_pass.specs.FinishedLaws.{FinishedKeep, RenumberedFinishedKeep}

@@ -5,22 +5,25 @@ use Rattle.ir_core.specs.declared.names.FuncName.{FuncName}
 use Rattle.ir_core.specs.declared.declarations.Callee.{Callee}
 use Rattle.ir_core.specs.Module.{Line, Block, Function, Module}
 use Rattle.ir_core.specs.Lookup.{and_then, same_name, find_block, find_function}
-use Rattle.ir_core.specs.Splice.{Splicing, spliced, sides, splice_with, replace}
-use Rattle.ir_core.specs.Site.{callee_of, Site}
-use Rattle.ir_core.specs.Kept.{NeverStuck}
+use Rattle.ir_semantics.specs.Splice.{Splicing, spliced, sides, splice_with, replace}
+use Rattle.ir_semantics.specs.Site.{Site}
+use Rattle.ir_core.specs.Uses.{callee_of}
+use Rattle.ir_core.specs.WellFormed.{IsModule}
+use Rattle.ir_semantics.specs.Accepted.{Accepted}
+use Rattle.ir_semantics.specs.Same.{Same}
+use Rattle.ir_semantics.specs.NeverStuck.{NeverStuck}
 use Rattle.call_graph.specs.Reach.{reaches, one_piece, apart}
-use Rattle.inline_body.specs.Laws.{RunsKept}
-use Rattle.inline_body.proofs.Local.{some_same}
+use Rattle.inline_outcomes.specs.Laws.{RunsKept}
+use Rattle.inline_outcomes.proofs.Local.{some_same}
 use Rattle.ir_core.proofs.Equal.{equal_name}
-use Rattle.inline_body.proofs.Functions.{function_hit, function_skip, function_name, cases_named, replaced, others_stay}
-use Rattle.inline_body.proofs.Linking.{distinct_sides, splice_runs}
-use Rattle.inline_body.proofs.Numbering.{runs_kept, kept_on}
-use Rattle.inline_body.proofs.Laws.{same_of}
+use Rattle.inline_outcomes.proofs.Functions.{function_hit, function_skip, function_name, cases_named, replaced, others_stay}
+use Rattle.inline_outcomes.proofs.Linking.{distinct_sides, splice_runs}
+use Rattle.inline_outcomes.proofs.Numbering.{runs_kept, kept_on}
+use Rattle.inline_outcomes.proofs.Keeping.{same_of}
 use Rattle.inline_pass.specs.Policy.{Policy, takes}
-use Rattle.inline_pass.specs.Sites.{Place, own_sites, moved, called}
+use Rattle.inline_pass.specs.Sites.{Place, own_sites, place_behind, called}
 use Rattle.inline_pass.specs.Finished.{inline_by, body_of}
 use Rattle.inline_pass.specs.Pass.{finish, pass_by, pass}
-use Rattle.inline_pass.specs.Laws.{PassKeepsRuns, PassKeeps}
 
 -- what an optional step found
 pub then_some : {A B : Type 0} (o : Option A) (go : A → Option B) (b : B) → and_then o go ≡ Some b → (a : A) × (o ≡ Some a) × (go a ≡ Some b)
@@ -129,13 +132,13 @@ module _ (p : Policy) (pieces m0 m : Module) (x0 : FuncName) where
   inlined_kept : (now : Place → Place) (ss : List Place) (b : Function) → b.name ≡ x0 → (f : Function) → find_function b.name m ≡ Some f → RunsKept m0 (replace b m) → RunsKept m0 (replace (inline_by (body_of pieces m x0) p now ss b) m)
   inlined_kept now [] b hn f h ch = ch
   inlined_kept now (s ∷ ss) b hn f h ch =
-      by (and_then (called b (now s).0 (now s).1) (body_of pieces m x0)) refl (inlined_kept now ss b hn f h ch) (λ b'. inlined_kept (λ q. moved (now s).0 (now s).1 (now q)) ss b')
+      by (and_then (called b (now s).0 (now s).1) (body_of pieces m x0)) refl (inlined_kept now ss b hn f h ch) (λ b'. inlined_kept (λ q. place_behind (now s).0 (now s).1 (now q)) ss b')
     where
-      by : (o : Option Function) → and_then (called b (now s).0 (now s).1) (body_of pieces m x0) ≡ o → RunsKept m0 (replace (inline_by (body_of pieces m x0) p now ss b) m) → ((b' : Function) → b'.name ≡ x0 → (f : Function) → find_function b'.name m ≡ Some f → RunsKept m0 (replace b' m) → RunsKept m0 (replace (inline_by (body_of pieces m x0) p (λ q. moved (now s).0 (now s).1 (now q)) ss b') m)) → RunsKept m0 (replace (elim o [ None ↦ inline_by (body_of pieces m x0) p now ss b | Some g ↦ if takes p g (splice_with sides b (now s).0 (now s).1 g) then inline_by (body_of pieces m x0) p (λ q. moved (now s).0 (now s).1 (now q)) ss (splice_with sides b (now s).0 (now s).1 g) else inline_by (body_of pieces m x0) p now ss b ]) m)
+      by : (o : Option Function) → and_then (called b (now s).0 (now s).1) (body_of pieces m x0) ≡ o → RunsKept m0 (replace (inline_by (body_of pieces m x0) p now ss b) m) → ((b' : Function) → b'.name ≡ x0 → (f : Function) → find_function b'.name m ≡ Some f → RunsKept m0 (replace b' m) → RunsKept m0 (replace (inline_by (body_of pieces m x0) p (λ q. place_behind (now s).0 (now s).1 (now q)) ss b') m)) → RunsKept m0 (replace (elim o [ None ↦ inline_by (body_of pieces m x0) p now ss b | Some g ↦ if takes p g (splice_with sides b (now s).0 (now s).1 g) then inline_by (body_of pieces m x0) p (λ q. place_behind (now s).0 (now s).1 (now q)) ss (splice_with sides b (now s).0 (now s).1 g) else inline_by (body_of pieces m x0) p now ss b ]) m)
       by None q stay go = stay
       by (Some g) q stay go = choose (takes p g (splice_with sides b (now s).0 (now s).1 g))
         where
-          with_body : RunsKept m0 (replace (inline_by (body_of pieces m x0) p (λ r. moved (now s).0 (now s).1 (now r)) ss (splice_with sides b (now s).0 (now s).1 g)) m)
+          with_body : RunsKept m0 (replace (inline_by (body_of pieces m x0) p (λ r. place_behind (now s).0 (now s).1 (now r)) ss (splice_with sides b (now s).0 (now s).1 g)) m)
           with_body =
               let u = then_some (called b (now s).0 (now s).1) (body_of pieces m x0) g q in
               let o = other u.0 g (apart pieces x0 u.0) refl u.2 in
@@ -146,7 +149,7 @@ module _ (p : Policy) (pieces m0 m : Module) (x0 : FuncName) where
               let kept' : RunsKept (replace b m) (replace b' m) = subst (RunsKept (replace b m)) (replace_twice b b' m (sym named)) kept in
               go b' (named ∙ hn) f (ap (λ z. find_function z m) named ∙ h) (kept_on m0 (replace b m) (replace b' m) ch kept')
 
-          choose : (c : Bool) → RunsKept m0 (replace (if c then inline_by (body_of pieces m x0) p (λ r. moved (now s).0 (now s).1 (now r)) ss (splice_with sides b (now s).0 (now s).1 g) else inline_by (body_of pieces m x0) p now ss b) m)
+          choose : (c : Bool) → RunsKept m0 (replace (if c then inline_by (body_of pieces m x0) p (λ r. place_behind (now s).0 (now s).1 (now r)) ss (splice_with sides b (now s).0 (now s).1 g) else inline_by (body_of pieces m x0) p now ss b) m)
           choose true = with_body
           choose false = stay
 
@@ -160,8 +163,8 @@ pass_kept p pieces m0 (x ∷ xs) m ch = by (find_function x m) refl (λ c. pass_
         let here : find_function f.name m ≡ Some f = ap (λ z. find_function z m) (function_name x m f q) ∙ q in
         next (replace (finish p pieces m f) m) (inlined_kept p pieces m0 m f.name (λ r. r) (own_sites f.blocks) f refl f here (subst (RunsKept m0) (sym (replace_self f m here)) ch))
 
-pub pass_keeps_runs : PassKeepsRuns
+pub pass_keeps_runs : (p : Policy) (order : List FuncName) (m : Module) → RunsKept m (pass p order m)
 pass_keeps_runs p order m = pass_kept p m m order m (λ entry args w safe written. ((λ n. (n, omega arith, refl)), (λ k. (k, omega arith, refl))))
 
-pub pass_keeps : NeverStuck → PassKeeps
+pub pass_keeps : NeverStuck → (p : Policy) (order : List FuncName) (m : Module) → IsModule m → Accepted m → Same m (pass p order m)
 pass_keeps never p order m whole accepted = same_of never m (pass p order m) whole accepted (pass_keeps_runs p order m)

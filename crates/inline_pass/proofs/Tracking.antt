@@ -4,19 +4,19 @@ use Rattle.std.specs.Prelude.{slice_get, if◌then◌else◌}
 use Rattle.std.proofs.lemmas.Bool.{cases_eq, cases_lt}
 use Rattle.ir_core.specs.declared.names.FuncName.{FuncName}
 use Rattle.ir_core.specs.declared.declarations.Callee.{Callee}
-use Rattle.ir_core.specs.Module.{CallTarget, Direct, Indirect, Instruction, Plain, Branches, SequencePoint, Return, Call, ReturnCall, TryCall, Line, Block, Function}
+use Rattle.ir_core.specs.Module.{CallTarget, Direct, Indirect, call_target, Instruction, Plain, Branches, SequencePoint, Return, Call, ReturnCall, TryCall, Line, Block, Function}
 use Rattle.ir_core.specs.Lookup.{find_block}
 use Rattle.ir_core.specs.Lists.{In}
-use Rattle.ir_core.specs.Renaming.{block_under, called_under, instruction_under, line_under}
-use Rattle.ir_core.specs.Splice.{Splicing, Kind, Within, Last, Tries, kind_of, body, jump_in, cut_block, after_block, after_blocks, caller_names, spliced, spliced_blocks, sides, splice_with}
-use Rattle.ir_core.specs.Site.{named_callee, callee_of}
+use Rattle.ir_semantics.specs.Renaming.{block_under, called_under, instruction_under, line_under}
+use Rattle.ir_semantics.specs.Splice.{Splicing, Kind, Within, Last, Tries, kind_of, body, jump_in, cut_block, after_block, after_blocks, caller_names, spliced, spliced_blocks, sides, splice_with}
+use Rattle.ir_core.specs.Uses.{named_callee, callee_of}
 use Rattle.ir_core.proofs.Equal.{both_true, number_equal}
-use Rattle.inline_body.proofs.Local.{some_same}
-use Rattle.inline_body.proofs.Related.{Distinct, RestF}
-use Rattle.inline_body.proofs.Places.{find_hit, find_skip, append_none, g_off, after_off, after_cut, f_found}
-use Rattle.inline_body.proofs.Merging.{own_callee}
-use Rattle.inline_body.proofs.Linking.{distinct_sides}
-use Rattle.inline_pass.specs.Sites.{Place, moved, called}
+use Rattle.inline_outcomes.proofs.Local.{some_same, try_target_called}
+use Rattle.inline_outcomes.proofs.Related.{Distinct, RestF}
+use Rattle.inline_outcomes.proofs.Places.{find_hit, find_skip, append_none, g_off, after_off, after_cut, f_found}
+use Rattle.inline_outcomes.proofs.Merging.{own_callee}
+use Rattle.inline_outcomes.proofs.Linking.{distinct_sides}
+use Rattle.inline_pass.specs.Sites.{Place, place_behind, called}
 use Rattle.inline_pass.proofs.Passing.{found, cut_list}
 
 -- a call at the place is of a declared callee whose name is among these
@@ -60,7 +60,7 @@ target_stays S (Indirect s a) = refl
 callee_stays : (S : Splicing) (i : Instruction) → callee_of (instruction_under (caller_names S) i) ≡ callee_of i
 callee_stays S (Call t args) = target_stays S t
 callee_stays S (ReturnCall t args) = target_stays S t
-callee_stays S (TryCall t sg args n u) = target_stays S t
+callee_stays S (TryCall t sg args n u) = ap named_callee (try_target_called (caller_names S) t sg) ∙ target_stays S (call_target t sg)
 callee_stays S (Plain a) = refl
 callee_stays S (Branches a) = refl
 callee_stays S SequencePoint = refl
@@ -77,14 +77,14 @@ module _ (S : Splicing) (names : Distinct S.naming) where
         | inr q ↦ find_skip (S.naming.caller_block b) (block_under (caller_names S) m) (map (block_under (caller_names S)) bs) (λ p. q (names.caller_block m.number b p)) ∙ ren_none bs b (sym (find_skip b m bs q) ∙ h)
       ]
 
-  ren_off : (x : ℕ) → ((b : ℕ) → S.naming.caller_block b ≡ x → ⊥) → (bs : List Block) → find_block x (map (block_under (caller_names S)) bs) ≡ None
+  pub ren_off : (x : ℕ) → ((b : ℕ) → S.naming.caller_block b ≡ x → ⊥) → (bs : List Block) → find_block x (map (block_under (caller_names S)) bs) ≡ None
   ren_off x off [] = refl
   ren_off x off (m ∷ bs) = find_skip x (block_under (caller_names S) m) (map (block_under (caller_names S)) bs) (off m.number) ∙ ren_off x off bs
 
   chosen : Bool → Block → List Block → List Block
   chosen c m bs = if c then cut_block S m ∷ (body S S.callee.blocks ++ (after_blocks S (kind_of S.site.inst) ++ map (block_under (caller_names S)) bs)) else block_under (caller_names S) m ∷ spliced_blocks S bs
 
-  f_none : (bs : List Block) (b : ℕ) → find_block b bs ≡ None → find_block (S.naming.caller_block b) (spliced_blocks S bs) ≡ None
+  pub f_none : (bs : List Block) (b : ℕ) → find_block b bs ≡ None → find_block (S.naming.caller_block b) (spliced_blocks S bs) ≡ None
   unfolding chosen
   f_none [] b h = refl
   f_none (m ∷ bs) b h =
@@ -164,7 +164,7 @@ module _ (b g : Function) (at i : ℕ) (k0 : Block) (l0 : Line) (there : find_bl
             stays names j (n.callee o.0 r.0 j o.1 r.1 r.2);
       }
 
-  pub track : (names : List FuncName) (q : Place) → Names names b q → Names names (spliced here) (moved at i q)
+  pub track : (names : List FuncName) (q : Place) → Names names b q → Names names (spliced here) (place_behind at i q)
   track names q n = go (nat_eq q.0 at && nat_lt i q.1) refl
     where
       go : (c : Bool) → (nat_eq q.0 at && nat_lt i q.1) ≡ c → Names names (spliced here) (if c then (sides.after, q.1 - (i + 1)) else (sides.caller_block q.0, q.1))

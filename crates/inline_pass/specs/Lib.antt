@@ -1,7 +1,11 @@
 pub mod Finished
 pub mod FinishedLaws
+pub mod Going
+pub mod GoingLaws
+pub mod Inlined
 pub mod Kept
-pub mod Laws
+pub mod OtherBodies
 pub mod Pass
 pub mod Policy
+pub mod Putting
 pub mod Sites

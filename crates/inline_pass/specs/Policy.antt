@@ -1,5 +1,5 @@
--- Which calls are inlined. A body goes into another one where it has at most the callee size and what comes of it has at
--- most the caller size.
+-- Which calls are inlined. A body goes into another one where it has at most the callee size and what comes of it has
+-- at most the caller size.
 use Rattle.std.specs.Prelude.{ℕ, Bool, ◌&&◌, nat_le}
 use Rattle.ir_core.specs.Module.{Function}
 use Rattle.ir_core.specs.Size.{size_of}

@@ -11,7 +11,7 @@ use Rattle.ir_core.specs.Module.{Line, Block, Function, Module}
 use Rattle.ir_core.specs.Lookup.{same_bytes, same_name, find_function, definitions, block_numbers}
 use Rattle.ir_core.specs.Lists.{In, Different}
 use Rattle.ir_core.specs.Sound.{counts_of, LineInRange, BlockInRange, IsSound, IsWhole}
-use Rattle.ir_core.specs.Whole.{declared, LineWhole, BlockWhole, Whole, DifferentNames}
+use Rattle.ir_core.specs.WellFormed.{declared, LineWellFormed, BlockWellFormed, WellFormed, DifferentNames}
 use Rattle.ir_core.proofs.Members.{each_more, below_in}
 use Rattle.ir_core.proofs.Counting.{definitions_below, all_in}
 use Rattle.ir_core.proofs.Keeping.{length_numbered}
@@ -62,7 +62,7 @@ module _ (f : Function) (s : IsSound f) where
       length_numbers [] = refl
       length_numbers (b ∷ bs) = ap suc (length_numbers bs)
 
-  line_whole : (l : Line) → LineInRange (counts_of f) l → LineWhole f l
+  line_whole : (l : Line) → LineInRange (counts_of f) l → LineWellFormed f l
   line_whole l h =
       record {
         values = each_more (λ v. v < length f.types) (λ v. In v (declared f)) value_there _ h.values;
@@ -73,10 +73,10 @@ module _ (f : Function) (s : IsSound f) where
         sigs = h.sigs;
       }
 
-  block_whole : (b : Block) → BlockInRange (counts_of f) b → BlockWhole f b
-  block_whole b h = each_more (LineInRange (counts_of f)) (LineWhole f) line_whole b.lines h.lines
+  block_whole : (b : Block) → BlockInRange (counts_of f) b → BlockWellFormed f b
+  block_whole b h = each_more (LineInRange (counts_of f)) (LineWellFormed f) line_whole b.lines h.lines
 
-  pub whole_of : IsWhole f → Whole f
+  pub whole_of : IsWhole f → WellFormed f
   whole_of w =
       record {
         begins = λ e. omega (arith, w.has_block, ap length e);
@@ -86,7 +86,7 @@ module _ (f : Function) (s : IsSound f) where
         defined = λ v i. w.defined v (value_below v i);
         definitions_declared = λ v i. value_there v (below_in (length f.types) (definitions f.blocks) v (definitions_below (counts_of f) f.blocks s.blocks) i);
         callees = s.callees;
-        lines = each_more (BlockInRange (counts_of f)) (BlockWhole f) block_whole f.blocks s.blocks;
+        lines = each_more (BlockInRange (counts_of f)) (BlockWellFormed f) block_whole f.blocks s.blocks;
       }
 
 -- ---- names

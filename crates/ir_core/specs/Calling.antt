@@ -12,7 +12,7 @@ use Rattle.ir_core.specs.declared.signatures.Param.{Param}
 use Rattle.ir_core.specs.declared.signatures.Purpose.TheVariants as purpose
 use Rattle.ir_core.specs.declared.signatures.Sig.{Sig}
 use Rattle.ir_core.specs.declared.signatures.Ty.TheVariants.{I64}
-use Rattle.ir_core.specs.Module.{Jump, Direct, Instruction, Branches, Return, TryCall, Line, Block, Function}
+use Rattle.ir_core.specs.Module.{Jump, TryDirect, Instruction, Branches, Return, TryCall, Line, Block, Function}
 
 abbrev pub word : Param
 word = record { ty = I64; ext = ext.No; purpose = purpose.Normal }
@@ -38,29 +38,60 @@ jump b v = line (Branches (Jump (to b (arg.Value v))))
 
 -- `try_call fnC(vA), sig0, blockN(ret0), [ tag3: blockH(exn0) ]`
 abbrev pub tried : ℕ → ℕ → ℕ → ℕ → Line
-tried c a n h = line (TryCall (Direct c) 0 (a ∷ []) (to n (arg.Ret 0)) (record { tag = Some 3; target = to h (arg.Exn 0) } ∷ []))
+tried c a n h =
+    line (TryCall (TryDirect c) 0 (a ∷ []) (to n (arg.Ret 0)) (record { tag = Some 3; target = to h (arg.Exn 0) } ∷ []))
 
 -- a block whose one parameter has its number
 abbrev pub block : ℕ → List Line → Block
 block n ls = record { number = n; params = n ∷ []; lines = ls }
 
 abbrev pub declared : Function
-declared = record { name = Text (102 ∷ []); sig = one_to_one; slots = []; sigs = one_to_one ∷ []; callees = callee_named 103 ∷ []; types = (0, I64) ∷ (1, I64) ∷ (2, I64) ∷ []; blocks = [] }
+declared =
+    record {
+      name = Text (102 ∷ []);
+      sig = one_to_one;
+      slots = [];
+      sigs = one_to_one ∷ [];
+      callees = callee_named 103
+          ∷ [];
+      types = (0, I64) ∷ (1, I64) ∷ (2, I64) ∷ [];
+      blocks = [];
+    }
 
 abbrev pub with_blocks : Function
 with_blocks = record declared { blocks = block 0 [] ∷ block 1 [] ∷ block 2 [] ∷ [] }
 
 abbrev pub calling : Function
-calling = record declared { blocks = block 0 (tried 0 0 1 2 ∷ []) ∷ block 1 (returned 1 ∷ []) ∷ block 2 (returned 2 ∷ []) ∷ [] }
+calling =
+    record declared {
+      blocks = block 0 (tried 0 0 1 2 ∷ []) ∷ block 1 (returned 1 ∷ []) ∷ block 2 (returned 2 ∷ [])
+          ∷ [];
+    }
 
 abbrev pub appended : Function
-appended = record calling { callees = callee_named 103 ∷ callee_named 104 ∷ []; types = (0, I64) ∷ (1, I64) ∷ (2, I64) ∷ (3, I64) ∷ (4, I64) ∷ [] }
+appended =
+    record calling {
+      callees = callee_named 103 ∷ callee_named 104 ∷ [];
+      types = (0, I64) ∷ (1, I64) ∷ (2, I64)
+          ∷ (3, I64) ∷ (4, I64) ∷ [];
+    }
 
 abbrev pub linked : Function
-linked = record appended { blocks = block 0 (tried 0 0 1 2 ∷ []) ∷ block 3 [] ∷ block 4 [] ∷ block 1 (returned 1 ∷ []) ∷ block 2 (returned 2 ∷ []) ∷ [] }
+linked = record appended {
+  blocks = block 0 (tried 0 0 1 2 ∷ []) ∷ block 3 [] ∷ block 4 [] ∷ block 1 (returned 1 ∷ [])
+      ∷ block 2 (returned 2 ∷ []) ∷ [];
+}
 
 abbrev pub emptied : Function
-emptied = record linked { blocks = block 0 [] ∷ block 3 [] ∷ block 4 [] ∷ block 1 (returned 1 ∷ []) ∷ block 2 (returned 2 ∷ []) ∷ [] }
+emptied =
+    record linked {
+      blocks = block 0 [] ∷ block 3 [] ∷ block 4 [] ∷ block 1 (returned 1 ∷ [])
+          ∷ block 2 (returned 2 ∷ []) ∷ [];
+    }
 
 abbrev pub inlined : Function
-inlined = record appended { blocks = block 0 (jump 3 0 ∷ []) ∷ block 3 (tried 1 3 4 2 ∷ []) ∷ block 4 (jump 1 4 ∷ []) ∷ block 1 (returned 1 ∷ []) ∷ block 2 (returned 2 ∷ []) ∷ [] }
+inlined =
+    record appended {
+      blocks = block 0 (jump 3 0 ∷ []) ∷ block 3 (tried 1 3 4 2 ∷ []) ∷ block 4 (jump 1 4 ∷ [])
+          ∷ block 1 (returned 1 ∷ []) ∷ block 2 (returned 2 ∷ []) ∷ [];
+    }

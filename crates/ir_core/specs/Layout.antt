@@ -1,6 +1,7 @@
--- How a function lies in the fields of the code: its instructions in one arena, each block a range of it, and the blocks
--- in list order by links.
-use Rattle.std.specs.Prelude.{◌≡◌, ℕ, zero, suc, ◌+◌, ◌-◌, ◌<◌, ◌≤◌, List, [], ◌∷◌, map, length, take, drop, Option, Some, None, slice_get, vec_capacity, vec_len}
+-- How a function lies in the fields of the code: its instructions in one arena, each block a range of it, and the
+-- blocks in list order by links.
+use Rattle.std.specs.Prelude.{◌≡◌, ℕ, zero, suc, ◌+◌, ◌-◌, ◌<◌, ◌≤◌, List, [], ◌∷◌, map, length, take, drop, Option}
+use Rattle.std.specs.Prelude.{Some, None, slice_get, vec_capacity, vec_len}
 use Rattle.std.specs.List.{enumerate_from}
 use Rattle.ir_core.specs.declared.instructions.InstData.{InstData}
 use Rattle.ir_core.specs.declared.func.BlockData.{BlockData}

@@ -1,5 +1,6 @@
 -- Where the parts of a module are found by their names and numbers.
-use Rattle.std.specs.Prelude.{ℕ, List, [], ◌∷◌, ◌++◌, Bool, true, false, ◌&&◌, Option, Some, None, nat_eq, if◌then◌else◌, slice_get, map}
+use Rattle.std.specs.Prelude.{ℕ, suc, List, [], ◌∷◌, ◌++◌, Bool, true, false, ◌&&◌, Option, Some, None, nat_eq}
+use Rattle.std.specs.Prelude.{if◌then◌else◌, slice_get, map}
 use Rattle.clk_num.specs.declared.width.Width.{Width}
 use Rattle.clk_num.specs.declared.width.Width.TheVariants.{W8, W16, W32, W64, W128}
 use Rattle.ir_core.specs.declared.signatures.Ty.{Ty}
@@ -66,6 +67,12 @@ definitions (b ∷ bs) = b.params ++ (line_definitions b.lines ++ definitions bs
 
 abbrev pub block_numbers : List Block → List ℕ
 block_numbers bs = map (λ b. b.number) bs
+
+-- the canonical number of a value or a block: its number_in in the list of all. What is not in the list comes behind
+-- all that is, each under a number of its own.
+abbrev pub number_in : List ℕ → ℕ → ℕ
+number_in [] v = v
+number_in (x ∷ xs) v = if nat_eq x v then 0 else suc (number_in xs v)
 
 -- the width of a type, as clk_num has it
 abbrev pub width_of : Ty → Width

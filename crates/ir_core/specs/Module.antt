@@ -43,6 +43,15 @@ pub data CallTarget : Type 0 where
   Direct : (callee : ℕ) → CallTarget
   Indirect : (sig address : ℕ) → CallTarget
 
+-- what a `try_call` calls: a callee declaration, or the value that is an address; its signature stands beside it
+pub data TryTarget : Type 0 where
+  TryDirect : (callee : ℕ) → TryTarget
+  TryIndirect : (address : ℕ) → TryTarget
+
+abbrev pub call_target : TryTarget → (sig : ℕ) → CallTarget
+call_target (TryDirect callee) sig = Direct callee
+call_target (TryIndirect address) sig = Indirect sig address
+
 pub data Instruction : Type 0 where
   Plain : Simple → Instruction
   Branches : Branch → Instruction
@@ -51,7 +60,8 @@ pub data Instruction : Type 0 where
   Call : CallTarget → (args : List ℕ) → Instruction
   ReturnCall : CallTarget → (args : List ℕ) → Instruction
   -- with the signature that it names, its normal target and its exception table
-  TryCall : CallTarget → (sig : ℕ) → (args : List ℕ) → (normal : BlockCall) → (table : List (Entry BlockCall)) → Instruction
+  TryCall : TryTarget → (sig : ℕ) → (args : List ℕ) → (normal : BlockCall) → (table : List (Entry BlockCall))
+      → Instruction
 
 -- an instruction with its controlling type, where its form may leave the suffix out, its results and its debug tags
 pub record Line : Type 0 where

@@ -14,7 +14,7 @@ use Rattle.ir_core.specs.Lookup.{same_name}
 use Rattle.ir_core.specs.Lists.{Each}
 use Rattle.ir_core.specs.Edits.{Body}
 use Rattle.ir_core.specs.Sound.{IsWhole}
-use Rattle.ir_core.specs.Whole.{IsModule}
+use Rattle.ir_core.specs.WellFormed.{IsModule}
 
 abbrev pub function_in : Body → Function
 function_in body = body.function
@@ -39,4 +39,5 @@ pub record IsNamed (s : Inside) : Type 0 where
   pub defined : Each IsWhole (functions_of s)
   pub functions : IsModule (functions_of s)
   pub texts : (text : List ℕ) → get_by (compare_texts text) s.texts ≡ place_of (name.Text text) (functions_of s)
-  pub users : (first second : ℕ) → get_by (compare_users (first, second)) s.users ≡ place_of (name.User first second) (functions_of s)
+  pub users : (first second : ℕ)
+      → get_by (compare_users (first, second)) s.users ≡ place_of (name.User first second) (functions_of s)

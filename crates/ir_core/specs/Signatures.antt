@@ -5,7 +5,8 @@ use Rattle.clk_num.specs.Width.{same}
 use Rattle.ir_core.specs.declared.signatures.Sig.{Sig}
 use Rattle.ir_core.specs.declared.signatures.Param.{Param}
 use Rattle.ir_core.specs.declared.signatures.Conv.{Conv}
-use Rattle.ir_core.specs.declared.signatures.Conv.TheVariants.{Fast, Cold, Tail, SystemV, WindowsFastcall, AppleAarch64, Probestack, Winch}
+use Rattle.ir_core.specs.declared.signatures.Conv.TheVariants.{Fast, Cold, Tail, SystemV, WindowsFastcall, AppleAarch64}
+use Rattle.ir_core.specs.declared.signatures.Conv.TheVariants.{Probestack, Winch}
 use Rattle.ir_core.specs.declared.signatures.Ext.{Ext}
 use Rattle.ir_core.specs.declared.signatures.Ext.TheVariants as ext
 use Rattle.ir_core.specs.declared.signatures.Purpose.{Purpose}

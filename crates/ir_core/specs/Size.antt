@@ -1,7 +1,7 @@
 -- The size of a function: the sum of its blocks, block parameters, instructions, results of instructions, operands
--- (each value, result or payload in an operand place or as an argument of a target, and the address of an indirect call),
--- entries of `br_table` lists and of exception tables, debug tags, slots, callee declarations, and for each signature of
--- its list one, its parameters and its results. The function's own signature isn't counted.
+-- (each value, result or payload in an operand place or as an argument of a target, and the address of an indirect
+-- call), entries of `br_table` lists and of exception tables, debug tags, slots, callee declarations, and for each
+-- signature of its list one, its parameters and its results. The function's own signature isn't counted.
 use Rattle.std.specs.Prelude.{ℕ, ◌+◌, List, [], ◌∷◌, length, min}
 use Rattle.ir_core.specs.declared.signatures.Sig.{Sig}
 use Rattle.ir_core.specs.declared.instructions.BlockCall.{BlockCall}

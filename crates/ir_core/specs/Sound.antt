@@ -1,6 +1,6 @@
 -- What every function keeps while it is built: each number in it names an entity of the function, and each value is
--- defined at most once, by a block parameter or as a result. It is whole once each declared value is defined and it has a
--- block.
+-- defined at most once, by a block parameter or as a result. It is whole once each declared value is defined and it has
+-- a block.
 use Rattle.std.specs.Prelude.{◌≡◌, ℕ, ◌+◌, ◌-◌, ◌<◌, ◌^◌, List, [], ◌∷◌, length, map}
 use Rattle.std.specs.List.{enumerate_from}
 use Rattle.ir_core.specs.declared.declarations.Callee.{Callee}
@@ -18,7 +18,14 @@ pub record Counts : Type 0 where
   pub callees : ℕ
 
 abbrev pub counts_of : Function → Counts
-counts_of f = record { values = length f.types; blocks = length f.blocks; slots = length f.slots; sigs = length f.sigs; callees = length f.callees }
+counts_of f =
+    record {
+      values = length f.types;
+      blocks = length f.blocks;
+      slots = length f.slots;
+      sigs = length f.sigs;
+      callees = length f.callees;
+    }
 
 -- each number of an instruction names an entity
 pub record LineInRange (n : Counts) (l : Line) : Type 0 where
@@ -42,8 +49,8 @@ abbrev pub instruction_count : List Block → ℕ
 instruction_count [] = 0
 instruction_count (b ∷ bs) = length b.lines + instruction_count bs
 
--- there may be one more of a kind that has n: fewer than 2^32 - 1 entities of a kind, and as many instructions, are in one
--- function
+-- there may be one more of a kind that has n: fewer than 2^32 - 1 entities of a kind, and as many instructions, are in
+-- one function
 abbrev pub CanAdd : ℕ → Type 0
 CanAdd n = n + 1 < 2 ^ 32 - 1
 

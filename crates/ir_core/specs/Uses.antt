@@ -1,12 +1,14 @@
 -- What an instruction uses: values, targets, and the numbers of slots, signatures and callees.
-use Rattle.std.specs.Prelude.{ℕ, List, [], ◌∷◌, ◌++◌, map}
+use Rattle.std.specs.Prelude.{ℕ, List, [], ◌∷◌, ◌++◌, map, Option, Some, None}
 use Rattle.exn_tables.specs.declared.table.Entry.{Entry}
 use Rattle.debug_tags.specs.declared.tags.Tag.{Tag}
 use Rattle.debug_tags.specs.declared.tags.Tag.TheVariants as tag
 use Rattle.ir_core.specs.declared.instructions.Arg.{Arg}
 use Rattle.ir_core.specs.declared.instructions.Arg.TheVariants as arg
 use Rattle.ir_core.specs.declared.instructions.BlockCall.{BlockCall}
-use Rattle.ir_core.specs.Module.{Simple, Nop, Const, Pure, PureImm, Load, Store, StackLoad, StackStore, FuncAddr, Trap, Trapz, Trapnz, Branch, Jump, Brif, BrTable, CallTarget, Direct, Indirect, Instruction, Plain, Branches, SequencePoint, Return, Call, ReturnCall, TryCall}
+use Rattle.ir_core.specs.Module.{Simple, Nop, Const, Pure, PureImm, Load, Store, StackLoad, StackStore, FuncAddr, Trap}
+use Rattle.ir_core.specs.Module.{Trapz, Trapnz, Branch, Jump, Brif, BrTable, CallTarget, Direct, Indirect, call_target}
+use Rattle.ir_core.specs.Module.{Instruction, Plain, Branches, SequencePoint, Return, Call, ReturnCall, TryCall}
 
 -- ---- targets
 
@@ -67,7 +69,7 @@ operands SequencePoint = []
 operands (Return vs) = vs
 operands (Call t args) = called_used t ++ args
 operands (ReturnCall t args) = called_used t ++ args
-operands (TryCall t sig args normal table) = called_used t ++ args
+operands (TryCall t sig args normal table) = called_used (call_target t sig) ++ args
 
 abbrev pub values_used : Instruction → List ℕ
 values_used i = operands i ++ targets_used (targets i)
@@ -100,7 +102,7 @@ abbrev pub callees_used : Instruction → List ℕ
 callees_used (Plain p) = simple_callees p
 callees_used (Call t args) = called_callees t
 callees_used (ReturnCall t args) = called_callees t
-callees_used (TryCall t sig args normal table) = called_callees t
+callees_used (TryCall t sig args normal table) = called_callees (call_target t sig)
 callees_used _ = []
 
 abbrev pub called_sigs : CallTarget → List ℕ
@@ -110,8 +112,21 @@ called_sigs (Indirect s a) = s ∷ []
 abbrev pub sigs_used : Instruction → List ℕ
 sigs_used (Call t args) = called_sigs t
 sigs_used (ReturnCall t args) = called_sigs t
-sigs_used (TryCall t sig args normal table) = sig ∷ called_sigs t
+sigs_used (TryCall t sig args normal table) = sig ∷ []
 sigs_used _ = []
 
 abbrev pub blocks_used : Instruction → List ℕ
 blocks_used i = map (λ t. t.block) (targets i)
+
+-- ---- the callee that a call names
+
+abbrev pub named_callee : CallTarget → Option ℕ
+named_callee (Direct k) = Some k
+named_callee (Indirect s a) = None
+
+-- the callee declaration that a direct call names
+abbrev pub callee_of : Instruction → Option ℕ
+callee_of (Call t args) = named_callee t
+callee_of (ReturnCall t args) = named_callee t
+callee_of (TryCall t sig args normal table) = named_callee (call_target t sig)
+callee_of _ = None

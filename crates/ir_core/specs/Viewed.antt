@@ -4,7 +4,9 @@ use Rattle.ir_core.specs.declared.instructions.Inst.{Inst}
 use Rattle.ir_core.specs.declared.instructions.Inst.TheVariants as inst
 use Rattle.ir_core.specs.declared.instructions.InstData.{InstData}
 use Rattle.ir_core.specs.Module.{Instruction, Line}
-use Rattle.ir_core.specs.Module.{Nop, Const, Pure, PureImm, Load, Store, StackLoad, StackStore, FuncAddr, Trap, Trapz, Trapnz, Jump, Brif, BrTable, Direct, Indirect, Plain, Branches, SequencePoint, Return, Call, ReturnCall, TryCall}
+use Rattle.ir_core.specs.Module.{Nop, Const, Pure, PureImm, Load, Store, StackLoad, StackStore, FuncAddr, Trap, Trapz}
+use Rattle.ir_core.specs.Module.{Trapnz, Jump, Brif, BrTable, Direct, Indirect, TryDirect, TryIndirect, Plain, Branches}
+use Rattle.ir_core.specs.Module.{SequencePoint, Return, Call, ReturnCall, TryCall}
 
 abbrev pub instruction_of : Inst → Instruction
 instruction_of inst.Nop = Plain Nop
@@ -26,10 +28,11 @@ instruction_of (inst.Trapz cond code) = Plain (Trapz cond code)
 instruction_of (inst.Trapnz cond code) = Plain (Trapnz cond code)
 instruction_of (inst.Call callee args) = Call (Direct callee) args
 instruction_of (inst.ReturnCall callee args) = ReturnCall (Direct callee) args
-instruction_of (inst.TryCall callee sig args normal table) = TryCall (Direct callee) sig args normal table
+instruction_of (inst.TryCall callee sig args normal table) = TryCall (TryDirect callee) sig args normal table
 instruction_of (inst.CallIndirect sig address args) = Call (Indirect sig address) args
 instruction_of (inst.ReturnCallIndirect sig address args) = ReturnCall (Indirect sig address) args
-instruction_of (inst.TryCallIndirect sig address args normal table) = TryCall (Indirect sig address) sig args normal table
+instruction_of (inst.TryCallIndirect sig address args normal table) =
+    TryCall (TryIndirect address) sig args normal table
 
 abbrev pub line_of : InstData → Line
 line_of added = record { inst = instruction_of added.inst; ty = added.ty; results = added.results; tags = added.tags }

@@ -20,8 +20,8 @@ pub use reading::{Blocks, Insts};
 use std::alloc::{AllocError, Global};
 use std::marker::Model;
 
-/// A block: its parameters, its range in the arena of instructions, and the next block in list order. `len` of the `cap`
-/// places from `start` on hold its instructions.
+/// A block: its parameters, its range in the arena of instructions, and the next block in list order. `len` of the
+/// `cap` places from `start` on hold its instructions.
 #[derive(Drop)]
 struct BlockData {
     params: Vec<Value>,
@@ -31,8 +31,8 @@ struct BlockData {
     next: Option<Block>,
 }
 
-/// A function while it is built and after. Contracts see its parts as plain lists, and how many more of each kind take no
-/// memory. Every number in it is in range, and each value is defined at most once.
+/// A function while it is built and after. Contracts see its parts as plain lists, and how many more of each kind take
+/// no memory. Every number in it is in range, and each value is defined at most once.
 #[derive(Drop)]
 pub struct Func {
     name: FuncName,
@@ -65,7 +65,9 @@ impl Model for Func {
 impl Func {
     /// A function without declarations and blocks.
     pub fn new(alloc: Global, name: FuncName, sig: Sig) -> Result<Func, AllocError>
-        ensures { IfOk result (λ func. func.function ≡ record { name = name; sig = sig; slots = []; sigs = []; callees = []; types = []; blocks = [] }) }
+        ensures { IfOk result
+            (λ func. func.function
+            ≡ record { name = name; sig = sig; slots = []; sigs = []; callees = []; types = []; blocks = [] }) }
     {
         Ok(Func {
             name,
@@ -87,7 +89,8 @@ impl Func {
     pub fn add_slot(&mut self, slot: SlotDecl) -> Result<Slot, AllocError>
         requires few { CanAdd (length self.old.function.slots) }
         ensures number { IfOk result (λ n. n ≡ length self.old.function.slots) }
-        ensures ok { OnOk result (self.new.function ≡ record self.old.function { slots = self.old.function.slots ++ slot ∷ [] }) }
+        ensures ok { OnOk result
+            (self.new.function ≡ record self.old.function { slots = self.old.function.slots ++ slot ∷ [] }) }
         ensures err { OnErr result (self.new.function ≡ self.old.function) }
         ensures room { self.new.room ≡ record self.old.room { slots = self.new.room.slots } }
     {
@@ -100,7 +103,8 @@ impl Func {
     pub fn add_sig(&mut self, sig: Sig) -> Result<SigRef, AllocError>
         requires few { CanAdd (length self.old.function.sigs) }
         ensures number { IfOk result (λ n. n ≡ length self.old.function.sigs) }
-        ensures ok { OnOk result (self.new.function ≡ record self.old.function { sigs = self.old.function.sigs ++ sig ∷ [] }) }
+        ensures ok { OnOk result
+            (self.new.function ≡ record self.old.function { sigs = self.old.function.sigs ++ sig ∷ [] }) }
         ensures err { OnErr result (self.new.function ≡ self.old.function) }
         ensures room { self.new.room ≡ record self.old.room { sigs = self.new.room.sigs } }
     {
@@ -109,12 +113,14 @@ impl Func {
         Ok(SigRef::new(number))
     }
 
-    /// Appends a callee declaration, whose signature the function has, and answers its number. Only `AllocError` refuses.
+    /// Appends a callee declaration, whose signature the function has, and answers its number. Only `AllocError`
+    /// refuses.
     pub fn add_callee(&mut self, callee: Callee) -> Result<FuncRef, AllocError>
         requires few { CanAdd (length self.old.function.callees) }
         requires in_range { callee.sig < length self.old.function.sigs }
         ensures number { IfOk result (λ n. n ≡ length self.old.function.callees) }
-        ensures ok { OnOk result (self.new.function ≡ record self.old.function { callees = self.old.function.callees ++ callee ∷ [] }) }
+        ensures ok { OnOk result
+            (self.new.function ≡ record self.old.function { callees = self.old.function.callees ++ callee ∷ [] }) }
         ensures err { OnErr result (self.new.function ≡ self.old.function) }
         ensures room { self.new.room ≡ record self.old.room { callees = self.new.room.callees } }
     {
@@ -127,7 +133,12 @@ impl Func {
     pub fn declare(&mut self, ty: Ty) -> Result<Value, AllocError>
         requires few { CanAdd (length self.old.function.types) }
         ensures number { IfOk result (λ v. v ≡ length self.old.function.types) }
-        ensures ok { OnOk result (self.new.function ≡ record self.old.function { types = self.old.function.types ++ (length self.old.function.types, ty) ∷ [] }) }
+        ensures ok { OnOk result
+            (self.new.function
+            ≡ record self.old.function {
+              types = self.old.function.types ++ (length self.old.function.types, ty)
+                  ∷ [];
+            }) }
         ensures err { OnErr result (self.new.function ≡ self.old.function) }
         ensures room { self.new.room ≡ record self.old.room { values = self.new.room.values } }
     {
@@ -140,7 +151,12 @@ impl Func {
     pub fn add_block(&mut self) -> Result<Block, AllocError>
         requires few { CanAdd (length self.old.function.blocks) }
         ensures number { IfOk result (λ n. n ≡ length self.old.function.blocks) }
-        ensures ok { IfOk result (λ n. self.new.function ≡ record self.old.function { blocks = self.old.function.blocks ++ record { number = n; params = []; lines = [] } ∷ [] }) }
+        ensures ok { IfOk result
+            (λ n. self.new.function
+            ≡ record self.old.function {
+              blocks = self.old.function.blocks
+                  ++ record { number = n; params = []; lines = [] } ∷ [];
+            }) }
         ensures err { OnErr result (self.new.function ≡ self.old.function) }
         ensures room { self.new.room ≡ record self.old.room { blocks = self.new.room.blocks } }
     {
@@ -157,7 +173,8 @@ impl Func {
         requires none { self.old.function.blocks ≡ [] }
         requires empty { params.items ≡ [] }
         requires room { 0 < self.old.room.blocks }
-        ensures body { self.new.function ≡ record self.old.function { blocks = record { number = 0; params = []; lines = [] } ∷ [] } }
+        ensures body { self.new.function
+            ≡ record self.old.function { blocks = record { number = 0; params = []; lines = [] } ∷ [] } }
         ensures number { result ≡ 0 }
         ensures room { self.old.room ≡ record self.new.room { blocks = self.new.room.blocks + 1 } }
     {
@@ -179,7 +196,9 @@ impl Func {
         requires there { In block (block_numbers self.old.function.blocks) }
         requires declared { value < length self.old.function.types }
         requires undefined { In value (definitions self.old.function.blocks) → ⊥ }
-        ensures ok { OnOk result (self.new.function ≡ record self.old.function { blocks = at_block block (put_param value) self.old.function.blocks }) }
+        ensures ok { OnOk result
+            (self.new.function
+            ≡ record self.old.function { blocks = at_block block (put_param value) self.old.function.blocks }) }
         ensures err { OnErr result (self.new.function ≡ self.old.function) }
         ensures room { self.new.room ≡ self.old.room }
     {
@@ -195,7 +214,10 @@ impl Func {
         requires different { Different added.results }
         requires undefined { (v : ℕ) → In v added.results → In v (definitions self.old.function.blocks) → ⊥ }
         requires few { CanAdd (instruction_count self.old.function.blocks) }
-        ensures ok { OnOk result (self.new.function ≡ record self.old.function { blocks = at_block block (put_line (line_of added)) self.old.function.blocks }) }
+        ensures ok { OnOk result
+            (self.new.function
+            ≡ record self.old.function
+            { blocks = at_block block (put_line (line_of added)) self.old.function.blocks }) }
         ensures err { OnErr result (self.new.function ≡ self.old.function) }
         ensures room { self.new.room ≡ record self.old.room { insts = self.new.room.insts } }
     {

@@ -46,8 +46,8 @@ pub enum Access {
     Sload(Ty, u8),
 }
 
-/// An instruction by its format. A function keeps its instructions in one vector, where each takes the room of the largest.
-/// So the parts that would make an instruction larger than a constant is stand behind pointers.
+/// An instruction by its format. A function keeps its instructions in one vector, where each takes the room of the
+/// largest. So the parts that would make an instruction larger than a constant is stand behind pointers.
 #[derive(Drop)]
 pub enum Inst {
     Nop,

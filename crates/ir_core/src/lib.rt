@@ -1,4 +1,4 @@
-//! Functions and modules of CLIF, and their meaning.
+//! Functions and modules of CLIF.
 //!
 //! Contracts see a function as lists over natural numbers (`specs/Module.antt`).
 #![tactic(auto)]
@@ -8,7 +8,6 @@ mod copies;
 mod declarations;
 mod func;
 mod instructions;
-mod laws;
 mod lists;
 mod module;
 mod names;
@@ -25,7 +24,6 @@ pub use boxed::Boxed;
 pub use declarations::{Callee, SlotDecl};
 pub use func::{Blocks, Func, Insts};
 pub use instructions::{Access, Arg, BlockCall, Flags, Inst, InstData};
-pub use laws::accepted_never_sticks;
 pub use lists::List;
 pub use module::Module;
 pub use names::FuncName;

@@ -1,9 +1,10 @@
 //! Modules.
-ghost use Rattle.std.specs.Prelude.{◌≡◌, ℕ, ◌<◌, ◌++◌, List, [], ◌∷◌, Some, None, length, slice_get, MatchOption, OnOk, OnErr, IsTrue, ◌↔◌};
+ghost use Rattle.std.specs.Prelude.{◌≡◌, ℕ, ◌<◌, ◌++◌, List, [], ◌∷◌, Some, None, length, slice_get, MatchOption, OnOk};
+ghost use Rattle.std.specs.Prelude.{OnErr, IsTrue, ◌↔◌};
 ghost use Rattle.std.specs.List.{position_from};
 ghost use Rattle.ir_core.specs.Lookup.{same_name, find_function};
 ghost use Rattle.ir_core.specs.Sound.{IsWhole};
-ghost use Rattle.ir_core.specs.Whole.{Whole, IsModule};
+ghost use Rattle.ir_core.specs.WellFormed.{WellFormed, IsModule};
 
 use crate::func::Func;
 use crate::names::FuncName;
@@ -46,8 +47,8 @@ impl Module {
         }
     }
 
-    /// Appends a whole function, whose name no function of the module has. Only `AllocError` refuses; then the function is
-    /// dropped.
+    /// Appends a whole function, whose name no function of the module has. Only `AllocError` refuses; then the function
+    /// is dropped.
     pub fn push(&mut self, func: Func) -> Result<(), AllocError>
         requires whole { IsWhole func.function }
         requires new { find_function func.function.name self.old ≡ None }
@@ -88,7 +89,7 @@ impl Module {
     pub fn func(&self, i: usize) -> &Func
         requires { i < length self.now }
         ensures at { slice_get self.now i ≡ Some result.now.function }
-        ensures whole { Whole result.now.function }
+        ensures whole { WellFormed result.now.function }
         ensures defined { IsWhole result.now.function }
     {
         &self.funcs[i]
@@ -97,7 +98,8 @@ impl Module {
     /// The place of the function of this name. `None` exactly where no function has the name.
     pub fn find(&self, name: &FuncName) -> Option<usize>
         ensures place { result ≡ position_from (λ f. same_name f.name name.now) 0 self.now }
-        ensures cases { MatchOption result (find_function name.now self.now ≡ None) (λ i. (i < length self.now) × (find_function name.now self.now ≡ slice_get self.now i)) }
+        ensures cases { MatchOption result (find_function name.now self.now ≡ None)
+            (λ i. (i < length self.now) × (find_function name.now self.now ≡ slice_get self.now i)) }
     {
         match name {
             FuncName::Text(text) => self.texts.get(text.as_slice()).copied(),

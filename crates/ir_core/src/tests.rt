@@ -279,7 +279,8 @@ fn reads_back(rt: HostRuntime) -> Result<(), AllocError> {
     Ok(())
 }
 
-/// A block as it is read back: its number, how many parameters it has, and its one instruction by opcode, first value and the block where it goes on.
+/// A block as it is read back: its number, how many parameters it has, and its one instruction by opcode, first value
+/// and the block where it goes on.
 type Told = (u32, usize, &'static str, u32, Option<u32>);
 
 fn told(func: &Func, block: Block) -> Told

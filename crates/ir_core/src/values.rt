@@ -1,5 +1,6 @@
 //! Lists of values, as instructions have them.
-ghost use Rattle.std.specs.Prelude.{◌≡◌, ◌∷◌, ◌<◌, [], IfOk, OnErr, length};
+ghost use Rattle.std.specs.Prelude.{◌≡◌, ◌∷◌, ◌<◌, ◌+◌, ◌^◌, [], IfOk, OnErr, length, map};
+ghost use Rattle.ir_core.specs.Lists.{Each};
 
 use crate::numbers::Value;
 use std::alloc::{AllocError, Global};
@@ -74,6 +75,22 @@ impl Values {
         Ok(Values { items })
     }
 
+    /// The list with a number added to that of each value. Only `AllocError` refuses, and only four or more.
+    pub fn shifted(&self, alloc: Global, by: u32) -> Result<Values, AllocError>
+        requires { Each (λ v. by + v < 2 ^ 32) self.now }
+        ensures ok { IfOk result (λ list. list ≡ map (λ v. by + v) self.now) }
+        ensures err { OnErr result (3 < length self.now) }
+    {
+        let items = match self.as_slice() {
+            [] => Items::None,
+            [a] => Items::One([moved(*a, by)]),
+            [a, b] => Items::Two([moved(*a, by), moved(*b, by)]),
+            [a, b, c] => Items::Three([moved(*a, by), moved(*b, by), moved(*c, by)]),
+            many => Items::Many(Box::new(alloc, all_moved(alloc, many, by)?)?),
+        };
+        Ok(Values { items })
+    }
+
     /// The values in order.
     #[inline]
     pub fn as_slice(&self) -> &[Value]
@@ -87,6 +104,26 @@ impl Values {
             Items::Many(values) => values.as_slice(),
         }
     }
+}
+
+/// The value with a number added to its own.
+fn moved(value: Value, by: u32) -> Value
+    requires { by + value < 2 ^ 32 }
+    ensures { result ≡ by + value }
+{
+    Value::new(by + value.number())
+}
+
+/// The values with a number added to that of each.
+fn all_moved(alloc: Global, values: &[Value], by: u32) -> Result<Vec<Value>, AllocError>
+    requires { Each (λ v. by + v < 2 ^ 32) values.now }
+    ensures { IfOk result (λ list. list.items ≡ map (λ v. by + v) values.now) }
+{
+    let mut list = Vec::new(alloc);
+    for value in values {
+        list.push(moved(*value, by))?;
+    }
+    Ok(list)
 }
 
 impl Clone for Values {

@@ -1,6 +1,6 @@
 //! Reads a text from standard input as far as the first word of the command line says, and writes how much it found:
-//! `bytes`, `tokens`, `raw`, the raw module from the list of its tokens, or `text`, the raw module from the bytes; `raw`
-//! where there is none. The second word is how many workers read the raw module; four where there is none.
+//! `bytes`, `tokens`, `raw`, the raw module from the list of its tokens, or `text`, the raw module from the bytes;
+//! `raw` where there is none. The second word is how many workers read the raw module; four where there is none.
 //! bench/reading.py measures it.
 #![tactic(auto)]
 

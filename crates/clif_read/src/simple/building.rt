@@ -1,5 +1,6 @@
 //! Building a function from what is written of it.
-ghost use Rattle.std.specs.Prelude.{◌≡◌, ℕ, ◌+◌, ◌<◌, ◌≤◌, ◌++◌, ◌∷◌, [], true, false, List, length, map, OnOk, IfOk, IfErr, nat_le, replicate};
+ghost use Rattle.std.specs.Prelude.{◌≡◌, ℕ, ◌+◌, ◌<◌, ◌≤◌, ◌++◌, ◌∷◌, [], true, false, List, length, map, OnOk, IfOk};
+ghost use Rattle.std.specs.Prelude.{IfErr, nat_le, replicate};
 ghost use Rattle.ir_core.specs.declared.names.FuncName.TheVariants.{Text};
 ghost use Rattle.ir_core.specs.declared.signatures.Ty.TheVariants.{I64};
 ghost use Rattle.std.specs.List.{list_all};
@@ -36,7 +37,12 @@ fn define(func: &mut Func, numbers: &mut Numbers, word: u64) -> Result<Value, Si
     ensures number { IfOk result (λ v. v ≡ length numbers.old.words.items) }
     ensures right { OnOk result (AreRight numbers.new) }
     ensures words { OnOk result (numbers.new.words.items ≡ numbers.old.words.items ++ word ∷ []) }
-    ensures types { OnOk result (func.new.function ≡ record func.old.function { types = func.old.function.types ++ (length numbers.old.words.items, I64) ∷ [] }) }
+    ensures types { OnOk result
+        (func.new.function
+        ≡ record func.old.function {
+          types = func.old.function.types ++ (length numbers.old.words.items, I64)
+              ∷ [];
+        }) }
     ensures not_simple { IfErr result (λ e. e ≡ NotSimple → spec.is_defined numbers.old.words.items word ≡ true) }
 {
     if numbers.number(word).is_some() {
@@ -61,7 +67,8 @@ fn add_param(
     ensures new { OnOk result (spec.is_defined numbers.old.words.items word ≡ false) }
     ensures right { OnOk result (AreRight numbers.new) }
     ensures words { OnOk result (numbers.new.words.items ≡ numbers.old.words.items ++ word ∷ []) }
-    ensures draft { OnOk result (func.new.function ≡ parameters_alone func.old.function (numbers.old.words.items ++ word ∷ [])) }
+    ensures draft { OnOk result
+        (func.new.function ≡ parameters_alone func.old.function (numbers.old.words.items ++ word ∷ [])) }
     ensures not_simple { IfErr result (λ e. e ≡ NotSimple → spec.is_defined numbers.old.words.items word ≡ true) }
 {
     let value = define(func, numbers, word)?;
@@ -75,7 +82,8 @@ fn instruction(numbers: &Numbers, computation: Computation) -> Result<Inst, Simp
     requires right { AreRight numbers.now }
     ensures fits { OnOk result (spec.may_compute numbers.now.words.items computation ≡ true) }
     ensures ok { IfOk result (λ i. instruction_of i ≡ spec.instruction numbers.now.words.items computation) }
-    ensures not_simple { IfErr result (λ e. e ≡ NotSimple → spec.may_compute numbers.now.words.items computation ≡ false) }
+    ensures not_simple { IfErr result
+        (λ e. e ≡ NotSimple → spec.may_compute numbers.now.words.items computation ≡ false) }
 {
     match computation {
         Computation::Iconst(number) => match Bits::fit(Width::W64, number) {
@@ -145,7 +153,10 @@ fn add_line(
     ensures fits { OnOk result (spec.line_fits numbers.old.words.items line ≡ true) }
     ensures right { OnOk result (AreRight numbers.new) }
     ensures words { OnOk result (numbers.new.words.items ≡ numbers.old.words.items ++ line.result ∷ []) }
-    ensures lines { OnOk result (func.new.function ≡ drafted func.old.function (numbers.old.words.items ++ line.result ∷ []) (lines_of 0 func.old.function.blocks ++ spec.line_after numbers.old.words.items line ∷ [])) }
+    ensures lines { OnOk result
+        (func.new.function
+        ≡ drafted func.old.function (numbers.old.words.items ++ line.result ∷ [])
+        (lines_of 0 func.old.function.blocks ++ spec.line_after numbers.old.words.items line ∷ [])) }
     ensures draft { OnOk result (IsDraft func.new.function (numbers.old.words.items ++ line.result ∷ [])) }
     ensures not_simple { IfErr result (λ e. e ≡ NotSimple → spec.line_fits numbers.old.words.items line ≡ false) }
 {
@@ -176,7 +187,10 @@ fn add_lines(
     ensures fits { OnOk result (spec.lines_fit numbers.old.words.items lines.now ≡ true) }
     ensures right { OnOk result (AreRight numbers.new) }
     ensures words { OnOk result (numbers.new.words.items ≡ numbers.old.words.items ++ map spec.result_of lines.now) }
-    ensures lines { OnOk result (func.new.function ≡ drafted func.old.function (numbers.old.words.items ++ map spec.result_of lines.now) (lines_of 0 func.old.function.blocks ++ spec.lines_after numbers.old.words.items lines.now)) }
+    ensures lines { OnOk result
+        (func.new.function
+        ≡ drafted func.old.function (numbers.old.words.items ++ map spec.result_of lines.now)
+        (lines_of 0 func.old.function.blocks ++ spec.lines_after numbers.old.words.items lines.now)) }
     ensures draft { OnOk result (IsDraft func.new.function (numbers.old.words.items ++ map spec.result_of lines.now)) }
     ensures not_simple { IfErr result (λ e. e ≡ NotSimple → spec.lines_fit numbers.old.words.items lines.now ≡ false) }
 {
@@ -191,7 +205,8 @@ fn returned_values(alloc: Global, numbers: &Numbers, returned: &[u64]) -> Result
     requires right { AreRight numbers.now }
     ensures defined { OnOk result (list_all (spec.is_defined numbers.now.words.items) returned.now ≡ true) }
     ensures ok { IfOk result (λ l. l ≡ map (spec.number numbers.now.words.items) returned.now) }
-    ensures not_simple { IfErr result (λ e. e ≡ NotSimple → list_all (spec.is_defined numbers.now.words.items) returned.now ≡ false) }
+    ensures not_simple { IfErr result
+        (λ e. e ≡ NotSimple → list_all (spec.is_defined numbers.now.words.items) returned.now ≡ false) }
 {
     let mut values = Vec::new(alloc);
     'returned: for word in returned {
@@ -216,9 +231,13 @@ fn add_return(
     requires draft { IsDraft func.old.function numbers.now.words.items }
     requires few { length numbers.now.words.items ≤ spec.most_size }
     ensures defined { OnOk result (list_all (spec.is_defined numbers.now.words.items) returned.now ≡ true) }
-    ensures lines { OnOk result (func.new.function ≡ drafted func.old.function numbers.now.words.items (lines_of 0 func.old.function.blocks ++ spec.return_line numbers.now.words.items returned.now ∷ [])) }
+    ensures lines { OnOk result
+        (func.new.function
+        ≡ drafted func.old.function numbers.now.words.items
+        (lines_of 0 func.old.function.blocks ++ spec.return_line numbers.now.words.items returned.now ∷ [])) }
     ensures whole { OnOk result (IsWhole func.new.function) }
-    ensures not_simple { IfErr result (λ e. e ≡ NotSimple → list_all (spec.is_defined numbers.now.words.items) returned.now ≡ false) }
+    ensures not_simple { IfErr result
+        (λ e. e ≡ NotSimple → list_all (spec.is_defined numbers.now.words.items) returned.now ≡ false) }
 {
     let values = returned_values(alloc, numbers, returned)?;
     let added = InstData {
@@ -293,7 +312,11 @@ fn fill(alloc: Global, func: &mut Func, block: Block, written: &Written) -> Resu
     requires empty { func.old.function ≡ parameters_alone func.old.function [] }
     requires small { nat_le (spec.size (one_block written.now)) spec.most_size ≡ true }
     ensures fits { OnOk result (spec.block_fits (one_block written.now) ≡ true) }
-    ensures filled { OnOk result (func.new.function ≡ spec.of_one_block func.old.function.name func.old.function.sig (spec.typed (spec.words (one_block written.now))) (spec.numbers written.now.block_params.items) (spec.lines (one_block written.now))) }
+    ensures filled { OnOk result
+        (func.new.function
+        ≡ spec.of_one_block func.old.function.name func.old.function.sig
+        (spec.typed (spec.words (one_block written.now))) (spec.numbers written.now.block_params.items)
+        (spec.lines (one_block written.now))) }
     ensures whole { OnOk result (IsWhole func.new.function) }
     ensures not_simple { IfErr result (λ e. e ≡ NotSimple → spec.block_fits (one_block written.now) ≡ false) }
 {
@@ -305,7 +328,9 @@ fn fill(alloc: Global, func: &mut Func, block: Block, written: &Written) -> Resu
 
 /// The function without its block, with room for what is written.
 fn begin(alloc: Global, name: FuncName, sig: Sig, written: &Written) -> Result<Func, SimpleErr>
-    ensures ok { IfOk result (λ func. func.function ≡ record { name = name; sig = sig; slots = []; sigs = []; callees = []; types = []; blocks = [] }) }
+    ensures ok { IfOk result
+        (λ func. func.function
+        ≡ record { name = name; sig = sig; slots = []; sigs = []; callees = []; types = []; blocks = [] }) }
     ensures err { IfErr result (λ e. e ≡ NoMemory) }
 {
     let mut func = Func::new(alloc, name, sig)?;

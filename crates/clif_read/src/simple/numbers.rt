@@ -5,8 +5,8 @@ ghost use Rattle.clif_read.specs.SimpleNumbers as spec;
 use indexmap::IndexMap;
 use std::alloc::{AllocError, Global};
 
-/// The words in order of definition. `near` has one more than the place of each word of a small number, or 0, and `far` the
-/// places of the others.
+/// The words in order of definition. `near` has one more than the place of each word of a small number, or 0, and `far`
+/// the places of the others.
 #[derive(Drop)]
 pub struct Numbers {
     words: Vec<u64>,

@@ -33,7 +33,8 @@ pub(crate) fn next_is(source: &Source, at: usize, class: Class) -> bool
 #[inline(always)]
 #[tactic(auto, unfolding(crate::specs::SimpleReading::token))]
 pub(crate) fn token(source: &Source, at: usize, class: Class) -> Result<(Found, usize), SimpleErr>
-    ensures is { Gives (λ x. (token_at source.now x.0.place, after source.now x.1)) result (spec.token (code class) (after source.now at)) }
+    ensures is { Gives (λ x. (token_at source.now x.0.place, after source.now x.1)) result
+        (spec.token (code class) (after source.now at)) }
     ensures shorter { IfOk result (λ x. length (after source.now x.1) < length (after source.now at)) }
     ensures further { IfOk result (λ x. (at < x.1) × (x.1 < 2 ^ 64)) }
     ensures within { IfOk result (λ x. x.0.place < length source.now.tokens.now) }
@@ -54,7 +55,8 @@ pub(crate) fn token(source: &Source, at: usize, class: Class) -> Result<(Found, 
 
 #[tactic(auto, unfolding(crate::specs::SimpleReading::comma_type_at))]
 fn comma_type(source: &Source, at: usize) -> Result<(Found, usize), SimpleErr>
-    ensures is { Gives (λ x. (token_at source.now x.0.place, after source.now x.1)) result (spec.comma_type_at (after source.now at)) }
+    ensures is { Gives (λ x. (token_at source.now x.0.place, after source.now x.1)) result
+        (spec.comma_type_at (after source.now at)) }
     ensures shorter { IfOk result (λ x. length (after source.now x.1) < length (after source.now at)) }
     ensures further { IfOk result (λ x. (at < x.1) × (x.1 < 2 ^ 64)) }
 {
@@ -104,7 +106,8 @@ fn more_values(
     source: &Source,
     at: usize,
 ) -> Result<(Vec<u64>, usize), SimpleErr>
-    ensures is { Gives (λ x. (x.0.items, after source.now x.1)) result (spec.more_values_at first (after source.now at)) }
+    ensures is { Gives (λ x. (x.0.items, after source.now x.1)) result
+        (spec.more_values_at first (after source.now at)) }
     ensures shorter { IfOk result (λ x. length (after source.now x.1) ≤ length (after source.now at)) }
 {
     let mut values = Vec::new(alloc);
@@ -166,7 +169,8 @@ fn more_params(
     source: &Source,
     at: usize,
 ) -> Result<(Vec<u64>, usize), SimpleErr>
-    ensures is { Gives (λ x. (x.0.items, after source.now x.1)) result (spec.more_params_at first (after source.now at)) }
+    ensures is { Gives (λ x. (x.0.items, after source.now x.1)) result
+        (spec.more_params_at first (after source.now at)) }
     ensures shorter { IfOk result (λ x. length (after source.now x.1) ≤ length (after source.now at)) }
 {
     let mut params = Vec::new(alloc);
@@ -186,7 +190,8 @@ fn block_param_list(
     source: &Source,
     at: usize,
 ) -> Result<(Vec<u64>, usize), SimpleErr>
-    ensures is { Gives (λ x. (x.0.items, after source.now x.1)) result (spec.block_param_list_at (after source.now at)) }
+    ensures is { Gives (λ x. (x.0.items, after source.now x.1)) result
+        (spec.block_param_list_at (after source.now at)) }
     ensures shorter { IfOk result (λ x. length (after source.now x.1) < length (after source.now at)) }
 {
     let (first, rest) = block_param(source, at)?;

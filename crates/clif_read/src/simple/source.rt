@@ -70,7 +70,10 @@ impl<'a> Source<'a> {
     /// The place of the next token that is no comment.
     #[inline(always)]
     pub(crate) fn next(&self, at: usize) -> Option<usize>
-        ensures next { MatchOption result (spec.rest self.now.text.now self.now.tokens.now at ≡ []) (λ place. spec.rest self.now.text.now self.now.tokens.now at ≡ spec.lexeme_at self.now.text.now self.now.tokens.now place ∷ spec.rest self.now.text.now self.now.tokens.now (place + 1)) }
+        ensures next { MatchOption result (spec.rest self.now.text.now self.now.tokens.now at ≡ [])
+            (λ place. spec.rest self.now.text.now self.now.tokens.now at
+            ≡ spec.lexeme_at self.now.text.now self.now.tokens.now place
+            ∷ spec.rest self.now.text.now self.now.tokens.now (place + 1)) }
         ensures further { IfSome result (λ place. at ≤ place) }
         ensures within { IfSome result (λ place. place < length self.now.tokens.now) }
         ensures small { IfSome result (λ place. place + 1 < 2 ^ 64) }
@@ -84,7 +87,10 @@ impl<'a> Source<'a> {
 
     /// The place of the next token that is no comment, where one may come first.
     fn past_comments(&self, at: usize) -> Option<usize>
-        ensures next { MatchOption result (spec.rest self.now.text.now self.now.tokens.now at ≡ []) (λ place. spec.rest self.now.text.now self.now.tokens.now at ≡ spec.lexeme_at self.now.text.now self.now.tokens.now place ∷ spec.rest self.now.text.now self.now.tokens.now (place + 1)) }
+        ensures next { MatchOption result (spec.rest self.now.text.now self.now.tokens.now at ≡ [])
+            (λ place. spec.rest self.now.text.now self.now.tokens.now at
+            ≡ spec.lexeme_at self.now.text.now self.now.tokens.now place
+            ∷ spec.rest self.now.text.now self.now.tokens.now (place + 1)) }
         ensures further { IfSome result (λ place. at ≤ place) }
         ensures within { IfSome result (λ place. place < length self.now.tokens.now) }
         ensures small { IfSome result (λ place. place + 1 < 2 ^ 64) }

@@ -7,8 +7,8 @@ ghost use Rattle.clif_read.specs.SimpleModule.{Reads};
 
 use crate::ranges::PIECE;
 use crate::simple::errors::SimpleErr;
-use crate::simple::pieces::{module_of, read_shared};
 use crate::simple::read_simple;
+use crate::simple::stretches::{module_of, read_shared};
 use clif_lex::{LexErr, tokens};
 use ir_core::Module;
 use std::alloc::Global;
@@ -27,9 +27,9 @@ fn read_whole(alloc: Global, text: &[u8]) -> Result<Module, SimpleErr>
     read_simple(alloc, text, &tokens)
 }
 
-/// The module that a simple text means, read by so many workers at once, in pieces of at least so many bytes. A text that
-/// cannot be read so may still be a simple one.
-pub(crate) fn read_pieces<R: Threads + Sync>(
+/// The module that a simple text means, read by so many workers at once, in stretches of at least so many bytes. A text
+/// that cannot be read so may still be a simple one.
+pub(crate) fn read_stretches<R: Threads + Sync>(
     rt: &R,
     alloc: Global,
     text: &[u8],
@@ -42,8 +42,8 @@ pub(crate) fn read_pieces<R: Threads + Sync>(
     module_of(alloc, funcs)
 }
 
-/// The module that a simple text means, read by so many workers at once. `NotSimple` comes exactly where the bytes are no
-/// simple text. Its canonical text reads back as the same module.
+/// The module that a simple text means, read by so many workers at once. `NotSimple` comes exactly where the bytes are
+/// no simple text. Its canonical text reads back as the same module.
 pub fn read_simple_text<R: Threads + Sync>(
     rt: &R,
     alloc: Global,
@@ -55,7 +55,7 @@ pub fn read_simple_text<R: Threads + Sync>(
     ensures reads_back { IfOk result ReadsBack }
     ensures not_simple { IfErr result (λ e. e ≡ NotSimple → (m : ir.Module) → Reads text.now m → ⊥) }
 {
-    match read_pieces(rt, alloc, text, workers, PIECE) {
+    match read_stretches(rt, alloc, text, workers, PIECE) {
         Err(SimpleErr::NotSimple) => read_whole(alloc, text),
         outcome => outcome,
     }

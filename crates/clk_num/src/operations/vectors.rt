@@ -2,28 +2,46 @@
 pub const VECTORS: &str = "\
 u B0 B0 Bff B0 B8 B8 B0 B0 - - H0 W0 D0 Q0 H0 W0 D0 Q0 - - - -\n\
 u B1 Bff Bfe B1 B7 B0 B1 B80 - - H1 W1 D1 Q1 H1 W1 D1 Q1 - - - -\n\
-u Bff B1 B0 B1 B0 B0 B8 Bff - - Hff Wff Dff Qff Hffff Wffffffff Dffffffffffffffff Qffffffffffffffffffffffffffffffff - - - -\n\
-u B80 B80 B7f B80 B0 B7 B1 B1 - - H80 W80 D80 Q80 Hff80 Wffffff80 Dffffffffffffff80 Qffffffffffffffffffffffffffffff80 - - - -\n\
+u Bff B1 B0 B1 B0 B0 B8 Bff - - Hff Wff Dff Qff Hffff Wffffffff Dffffffffffffffff Qffffffffffffffffffffffffffffffff - \
+    - - -\n\
+u B80 B80 B7f B80 B0 B7 B1 B1 - - H80 W80 D80 Q80 Hff80 Wffffff80 Dffffffffffffff80 Qffffffffffffffffffffffffffffff80 \
+    - - - -\n\
 u B7f B81 B80 B7f B1 B0 B7 Bfe - - H7f W7f D7f Q7f H7f W7f D7f Q7f - - - -\n\
 u B22 Bde Bdd B22 B2 B1 B2 B44 - - H22 W22 D22 Q22 H22 W22 D22 Q22 - - - -\n\
 u B48 Bb8 Bb7 B48 B1 B3 B2 B12 - - H48 W48 D48 Q48 H48 W48 D48 Q48 - - - -\n\
 b B0 B0 B0 B0 B0 B0 B0 B0 B0 B0 B0 B0 B0 B0 !z !z !z !z B0,B0 B0,B0 B0,B0 B0,B0 H0 B1 B0 B0 B1 B0 B1 B0 B1 B0 B1\n\
-b B0 Bff Bff B1 B0 B0 Bff Bff Bff B0 B0 Bff B0 B0 B0 B0 B0 B0 Bff,B0 Bff,B0 B1,B1 B1,B0 Hff00 B0 B1 B0 B1 B1 B0 B1 B0 B0 B1\n\
-b B1 Bff B0 B2 Bff B1 Bff Bfe Bff B1 B1 Bff B0 Bff B0 B1 Bff B0 B0,B1 B0,B0 B2,B1 B2,B0 Hff01 B0 B1 B0 B1 B1 B0 B1 B0 B0 B1\n\
-b Bff Bff Bfe B0 B1 Bff Bff B0 Bff Bff Bff Bff Bfe B0 B1 B0 B1 B0 Bfe,B1 Bfe,B0 B0,B0 B0,B0 Hffff B1 B0 B0 B1 B0 B1 B0 B1 B0 B1\n\
-b Bff B1 B0 Bfe Bff B1 Bff Bfe Bff B1 B1 Bff B0 Bff Bff B0 Bff B0 B0,B1 B0,B0 Bfe,B0 Bfe,B0 H1ff B0 B1 B1 B0 B0 B1 B0 B1 B1 B0\n\
-b B80 Bff B7f B81 B80 B80 Bff B7f B80 Bff B80 Bff B7f B0 B0 B80 !o B0 B7f,B1 B7f,B1 B81,B1 B81,B0 Hff80 B0 B1 B1 B0 B0 B1 B1 B0 B0 B1\n\
-b B80 B1 B81 B7f B80 B0 B81 B81 B80 B1 B1 B80 B0 Bff B80 B0 B80 B0 B81,B0 B81,B0 B7f,B0 B7f,B1 H180 B0 B1 B1 B0 B0 B1 B0 B1 B1 B0\n\
-b B80 B80 B0 B0 B0 B80 B80 B0 B80 B80 B80 B80 B40 B40 B1 B0 B1 B0 B0,B1 B0,B1 B0,B0 B0,B0 H8080 B1 B0 B0 B1 B0 B1 B0 B1 B0 B1\n\
-b B7f B1 B80 B7e B7f B1 B7f B7e B1 B7f B1 B7f B0 B0 B7f B0 B7f B0 B80,B0 B80,B1 B7e,B0 B7e,B0 H17f B0 B1 B0 B1 B1 B0 B0 B1 B1 B0\n\
-b B7f B7f Bfe B0 B1 B7f B7f B0 B7f B7f B7f B7f B3f B3f B1 B0 B1 B0 Bfe,B0 Bfe,B1 B0,B0 B0,B0 H7f7f B1 B0 B0 B1 B0 B1 B0 B1 B0 B1\n\
-b B80 B7f Bff B1 B80 B0 Bff Bff B80 B7f B7f B80 B3f Bc0 B1 B1 Bff Bff Bff,B0 Bff,B0 B1,B0 B1,B1 H7f80 B0 B1 B1 B0 B0 B1 B0 B1 B1 B0\n\
-b B7f B80 Bff Bff B80 B0 Bff Bff B80 B7f B7f B80 B3f Bc0 B0 B7f B0 B7f Bff,B0 Bff,B0 Bff,B1 Bff,B1 H807f B0 B1 B0 B1 B1 B0 B1 B0 B0 B1\n\
-b B22 B48 B6a Bda B90 B0 B6a B6a B22 B48 B22 B48 B9 B9 B0 B22 B0 B22 B6a,B0 B6a,B0 Bda,B1 Bda,B0 H4822 B0 B1 B1 B0 B0 B1 B1 B0 B0 B1\n\
-b B48 B22 B6a B26 B90 B0 B6a B6a B22 B48 B22 B48 B9 B9 B2 B4 B2 B4 B6a,B0 B6a,B0 B26,B0 B26,B0 H2248 B0 B1 B0 B1 B1 B0 B0 B1 B1 B0\n\
-b B22 B0 B22 B22 B0 B0 B22 B22 B0 B22 B0 B22 B0 B0 !z !z !z !z B22,B0 B22,B0 B22,B0 B22,B0 H22 B0 B1 B0 B1 B1 B0 B0 B1 B1 B0\n\
-b B22 B3 B25 B1f B66 B2 B23 B21 B3 B22 B3 B22 B0 B0 Bb B1 Bb B1 B25,B0 B25,B0 B1f,B0 B1f,B0 H322 B0 B1 B0 B1 B1 B0 B0 B1 B1 B0\n\
-b B22 Bfe B20 B24 Bbc B22 Bfe Bdc Bfe B22 B22 Bfe B21 Bff B0 B22 Bef B0 B20,B1 B20,B0 B24,B1 B24,B0 Hfe22 B0 B1 B0 B1 B1 B0 B1 B0 B0 B1\n\
+b B0 Bff Bff B1 B0 B0 Bff Bff Bff B0 B0 Bff B0 B0 B0 B0 B0 B0 Bff,B0 Bff,B0 B1,B1 B1,B0 Hff00 B0 B1 B0 B1 B1 B0 B1 B0 \
+    B0 B1\n\
+b B1 Bff B0 B2 Bff B1 Bff Bfe Bff B1 B1 Bff B0 Bff B0 B1 Bff B0 B0,B1 B0,B0 B2,B1 B2,B0 Hff01 B0 B1 B0 B1 B1 B0 B1 B0 \
+    B0 B1\n\
+b Bff Bff Bfe B0 B1 Bff Bff B0 Bff Bff Bff Bff Bfe B0 B1 B0 B1 B0 Bfe,B1 Bfe,B0 B0,B0 B0,B0 Hffff B1 B0 B0 B1 B0 B1 \
+    B0 B1 B0 B1\n\
+b Bff B1 B0 Bfe Bff B1 Bff Bfe Bff B1 B1 Bff B0 Bff Bff B0 Bff B0 B0,B1 B0,B0 Bfe,B0 Bfe,B0 H1ff B0 B1 B1 B0 B0 B1 B0 \
+    B1 B1 B0\n\
+b B80 Bff B7f B81 B80 B80 Bff B7f B80 Bff B80 Bff B7f B0 B0 B80 !o B0 B7f,B1 B7f,B1 B81,B1 B81,B0 Hff80 B0 B1 B1 B0 \
+    B0 B1 B1 B0 B0 B1\n\
+b B80 B1 B81 B7f B80 B0 B81 B81 B80 B1 B1 B80 B0 Bff B80 B0 B80 B0 B81,B0 B81,B0 B7f,B0 B7f,B1 H180 B0 B1 B1 B0 B0 B1 \
+    B0 B1 B1 B0\n\
+b B80 B80 B0 B0 B0 B80 B80 B0 B80 B80 B80 B80 B40 B40 B1 B0 B1 B0 B0,B1 B0,B1 B0,B0 B0,B0 H8080 B1 B0 B0 B1 B0 B1 B0 \
+    B1 B0 B1\n\
+b B7f B1 B80 B7e B7f B1 B7f B7e B1 B7f B1 B7f B0 B0 B7f B0 B7f B0 B80,B0 B80,B1 B7e,B0 B7e,B0 H17f B0 B1 B0 B1 B1 B0 \
+    B0 B1 B1 B0\n\
+b B7f B7f Bfe B0 B1 B7f B7f B0 B7f B7f B7f B7f B3f B3f B1 B0 B1 B0 Bfe,B0 Bfe,B1 B0,B0 B0,B0 H7f7f B1 B0 B0 B1 B0 B1 \
+    B0 B1 B0 B1\n\
+b B80 B7f Bff B1 B80 B0 Bff Bff B80 B7f B7f B80 B3f Bc0 B1 B1 Bff Bff Bff,B0 Bff,B0 B1,B0 B1,B1 H7f80 B0 B1 B1 B0 B0 \
+    B1 B0 B1 B1 B0\n\
+b B7f B80 Bff Bff B80 B0 Bff Bff B80 B7f B7f B80 B3f Bc0 B0 B7f B0 B7f Bff,B0 Bff,B0 Bff,B1 Bff,B1 H807f B0 B1 B0 B1 \
+    B1 B0 B1 B0 B0 B1\n\
+b B22 B48 B6a Bda B90 B0 B6a B6a B22 B48 B22 B48 B9 B9 B0 B22 B0 B22 B6a,B0 B6a,B0 Bda,B1 Bda,B0 H4822 B0 B1 B1 B0 B0 \
+    B1 B1 B0 B0 B1\n\
+b B48 B22 B6a B26 B90 B0 B6a B6a B22 B48 B22 B48 B9 B9 B2 B4 B2 B4 B6a,B0 B6a,B0 B26,B0 B26,B0 H2248 B0 B1 B0 B1 B1 \
+    B0 B0 B1 B1 B0\n\
+b B22 B0 B22 B22 B0 B0 B22 B22 B0 B22 B0 B22 B0 B0 !z !z !z !z B22,B0 B22,B0 B22,B0 B22,B0 H22 B0 B1 B0 B1 B1 B0 B0 \
+    B1 B1 B0\n\
+b B22 B3 B25 B1f B66 B2 B23 B21 B3 B22 B3 B22 B0 B0 Bb B1 Bb B1 B25,B0 B25,B0 B1f,B0 B1f,B0 H322 B0 B1 B0 B1 B1 B0 B0 \
+    B1 B1 B0\n\
+b B22 Bfe B20 B24 Bbc B22 Bfe Bdc Bfe B22 B22 Bfe B21 Bff B0 B22 Bef B0 B20,B1 B20,B0 B24,B1 B24,B0 Hfe22 B0 B1 B0 B1 \
+    B1 B0 B1 B0 B0 B1\n\
 s B1 B0 B1 B1 B1 B1 B1\n\
 s B1 B1 B2 B0 B0 B2 B80\n\
 s B1 B7 B80 B0 B0 B80 B2\n\
@@ -58,28 +76,47 @@ t B1 B22 B48 B22\n\
 t Q0 B22 B48 B48\n\
 u H0 H0 Hffff H0 H10 H10 H0 H0 H0 B0,B0 - W0 D0 Q0 - W0 D0 Q0 B0 - - -\n\
 u H1 Hffff Hfffe H1 Hf H0 H1 H8000 H100 B1,B0 - W1 D1 Q1 - W1 D1 Q1 B1 - - -\n\
-u Hffff H1 H0 H1 H0 H0 H10 Hffff Hffff Bff,Bff - Wffff Dffff Qffff - Wffffffff Dffffffffffffffff Qffffffffffffffffffffffffffffffff Bff - - -\n\
-u H8000 H8000 H7fff H8000 H0 Hf H1 H1 H80 B0,B80 - W8000 D8000 Q8000 - Wffff8000 Dffffffffffff8000 Qffffffffffffffffffffffffffff8000 B0 - - -\n\
+u Hffff H1 H0 H1 H0 H0 H10 Hffff Hffff Bff,Bff - Wffff Dffff Qffff - Wffffffff Dffffffffffffffff \
+    Qffffffffffffffffffffffffffffffff Bff - - -\n\
+u H8000 H8000 H7fff H8000 H0 Hf H1 H1 H80 B0,B80 - W8000 D8000 Q8000 - Wffff8000 Dffffffffffff8000 \
+    Qffffffffffffffffffffffffffff8000 B0 - - -\n\
 u H7fff H8001 H8000 H7fff H1 H0 Hf Hfffe Hff7f Bff,B7f - W7fff D7fff Q7fff - W7fff D7fff Q7fff Bff - - -\n\
-u Hd8f1 H270f H270e H270f H0 H0 H9 H8f1b Hf1d8 Bf1,Bd8 - Wd8f1 Dd8f1 Qd8f1 - Wffffd8f1 Dffffffffffffd8f1 Qffffffffffffffffffffffffffffd8f1 Bf1 - - -\n\
+u Hd8f1 H270f H270e H270f H0 H0 H9 H8f1b Hf1d8 Bf1,Bd8 - Wd8f1 Dd8f1 Qd8f1 - Wffffd8f1 Dffffffffffffd8f1 \
+    Qffffffffffffffffffffffffffffd8f1 Bf1 - - -\n\
 u H66b0 H9950 H994f H66b0 H1 H4 H7 Hd66 Hb066 Bb0,B66 - W66b0 D66b0 Q66b0 - W66b0 D66b0 Q66b0 Bb0 - - -\n\
 b H0 H0 H0 H0 H0 H0 H0 H0 H0 H0 H0 H0 H0 H0 !z !z !z !z H0,B0 H0,B0 H0,B0 H0,B0 W0 B1 B0 B0 B1 B0 B1 B0 B1 B0 B1\n\
-b H0 Hffff Hffff H1 H0 H0 Hffff Hffff Hffff H0 H0 Hffff H0 H0 H0 H0 H0 H0 Hffff,B0 Hffff,B0 H1,B1 H1,B0 Wffff0000 B0 B1 B0 B1 B1 B0 B1 B0 B0 B1\n\
-b H1 Hffff H0 H2 Hffff H1 Hffff Hfffe Hffff H1 H1 Hffff H0 Hffff H0 H1 Hffff H0 H0,B1 H0,B0 H2,B1 H2,B0 Wffff0001 B0 B1 B0 B1 B1 B0 B1 B0 B0 B1\n\
-b Hffff Hffff Hfffe H0 H1 Hffff Hffff H0 Hffff Hffff Hffff Hffff Hfffe H0 H1 H0 H1 H0 Hfffe,B1 Hfffe,B0 H0,B0 H0,B0 Wffffffff B1 B0 B0 B1 B0 B1 B0 B1 B0 B1\n\
-b Hffff H1 H0 Hfffe Hffff H1 Hffff Hfffe Hffff H1 H1 Hffff H0 Hffff Hffff H0 Hffff H0 H0,B1 H0,B0 Hfffe,B0 Hfffe,B0 W1ffff B0 B1 B1 B0 B0 B1 B0 B1 B1 B0\n\
-b H8000 Hffff H7fff H8001 H8000 H8000 Hffff H7fff H8000 Hffff H8000 Hffff H7fff H0 H0 H8000 !o H0 H7fff,B1 H7fff,B1 H8001,B1 H8001,B0 Wffff8000 B0 B1 B1 B0 B0 B1 B1 B0 B0 B1\n\
-b H8000 H1 H8001 H7fff H8000 H0 H8001 H8001 H8000 H1 H1 H8000 H0 Hffff H8000 H0 H8000 H0 H8001,B0 H8001,B0 H7fff,B0 H7fff,B1 W18000 B0 B1 B1 B0 B0 B1 B0 B1 B1 B0\n\
-b H8000 H8000 H0 H0 H0 H8000 H8000 H0 H8000 H8000 H8000 H8000 H4000 H4000 H1 H0 H1 H0 H0,B1 H0,B1 H0,B0 H0,B0 W80008000 B1 B0 B0 B1 B0 B1 B0 B1 B0 B1\n\
-b H7fff H1 H8000 H7ffe H7fff H1 H7fff H7ffe H1 H7fff H1 H7fff H0 H0 H7fff H0 H7fff H0 H8000,B0 H8000,B1 H7ffe,B0 H7ffe,B0 W17fff B0 B1 B0 B1 B1 B0 B0 B1 B1 B0\n\
-b H7fff H7fff Hfffe H0 H1 H7fff H7fff H0 H7fff H7fff H7fff H7fff H3fff H3fff H1 H0 H1 H0 Hfffe,B0 Hfffe,B1 H0,B0 H0,B0 W7fff7fff B1 B0 B0 B1 B0 B1 B0 B1 B0 B1\n\
-b H8000 H7fff Hffff H1 H8000 H0 Hffff Hffff H8000 H7fff H7fff H8000 H3fff Hc000 H1 H1 Hffff Hffff Hffff,B0 Hffff,B0 H1,B0 H1,B1 W7fff8000 B0 B1 B1 B0 B0 B1 B0 B1 B1 B0\n\
-b H7fff H8000 Hffff Hffff H8000 H0 Hffff Hffff H8000 H7fff H7fff H8000 H3fff Hc000 H0 H7fff H0 H7fff Hffff,B0 Hffff,B0 Hffff,B1 Hffff,B1 W80007fff B0 B1 B0 B1 B1 B0 B1 B0 B0 B1\n\
-b Hd8f1 H66b0 H3fa1 H7241 H2bb0 H40b0 Hfef1 Hbe41 Hd8f1 H66b0 H66b0 Hd8f1 H5705 Hf055 H2 Hb91 H0 Hd8f1 H3fa1,B1 H3fa1,B0 H7241,B0 H7241,B1 W66b0d8f1 B0 B1 B1 B0 B0 B1 B0 B1 B1 B0\n\
-b H66b0 Hd8f1 H3fa1 H8dbf H2bb0 H40b0 Hfef1 Hbe41 Hd8f1 H66b0 H66b0 Hd8f1 H5705 Hf055 H0 H66b0 Hfffe H1892 H3fa1,B1 H3fa1,B0 H8dbf,B1 H8dbf,B1 Wd8f166b0 B0 B1 B0 B1 B1 B0 B1 B0 B0 B1\n\
-b Hd8f1 H0 Hd8f1 Hd8f1 H0 H0 Hd8f1 Hd8f1 Hd8f1 H0 H0 Hd8f1 H0 H0 !z !z !z !z Hd8f1,B0 Hd8f1,B0 Hd8f1,B0 Hd8f1,B0 Wd8f1 B0 B1 B1 B0 B0 B1 B0 B1 B1 B0\n\
-b Hd8f1 H3 Hd8f4 Hd8ee H8ad3 H1 Hd8f3 Hd8f2 Hd8f1 H3 H3 Hd8f1 H2 Hffff H4850 H1 Hf2fb H0 Hd8f4,B0 Hd8f4,B0 Hd8ee,B0 Hd8ee,B0 W3d8f1 B0 B1 B1 B0 B0 B1 B0 B1 B1 B0\n\
-b Hd8f1 Hfffe Hd8ef Hd8f3 H4e1e Hd8f0 Hffff H270f Hd8f1 Hfffe Hd8f1 Hfffe Hd8ef H0 H0 Hd8f1 H1387 Hffff Hd8ef,B1 Hd8ef,B0 Hd8f3,B1 Hd8f3,B0 Wfffed8f1 B0 B1 B1 B0 B0 B1 B1 B0 B0 B1\n\
+b H0 Hffff Hffff H1 H0 H0 Hffff Hffff Hffff H0 H0 Hffff H0 H0 H0 H0 H0 H0 Hffff,B0 Hffff,B0 H1,B1 H1,B0 Wffff0000 B0 \
+    B1 B0 B1 B1 B0 B1 B0 B0 B1\n\
+b H1 Hffff H0 H2 Hffff H1 Hffff Hfffe Hffff H1 H1 Hffff H0 Hffff H0 H1 Hffff H0 H0,B1 H0,B0 H2,B1 H2,B0 Wffff0001 B0 \
+    B1 B0 B1 B1 B0 B1 B0 B0 B1\n\
+b Hffff Hffff Hfffe H0 H1 Hffff Hffff H0 Hffff Hffff Hffff Hffff Hfffe H0 H1 H0 H1 H0 Hfffe,B1 Hfffe,B0 H0,B0 H0,B0 \
+    Wffffffff B1 B0 B0 B1 B0 B1 B0 B1 B0 B1\n\
+b Hffff H1 H0 Hfffe Hffff H1 Hffff Hfffe Hffff H1 H1 Hffff H0 Hffff Hffff H0 Hffff H0 H0,B1 H0,B0 Hfffe,B0 Hfffe,B0 \
+    W1ffff B0 B1 B1 B0 B0 B1 B0 B1 B1 B0\n\
+b H8000 Hffff H7fff H8001 H8000 H8000 Hffff H7fff H8000 Hffff H8000 Hffff H7fff H0 H0 H8000 !o H0 H7fff,B1 H7fff,B1 \
+    H8001,B1 H8001,B0 Wffff8000 B0 B1 B1 B0 B0 B1 B1 B0 B0 B1\n\
+b H8000 H1 H8001 H7fff H8000 H0 H8001 H8001 H8000 H1 H1 H8000 H0 Hffff H8000 H0 H8000 H0 H8001,B0 H8001,B0 H7fff,B0 \
+    H7fff,B1 W18000 B0 B1 B1 B0 B0 B1 B0 B1 B1 B0\n\
+b H8000 H8000 H0 H0 H0 H8000 H8000 H0 H8000 H8000 H8000 H8000 H4000 H4000 H1 H0 H1 H0 H0,B1 H0,B1 H0,B0 H0,B0 \
+    W80008000 B1 B0 B0 B1 B0 B1 B0 B1 B0 B1\n\
+b H7fff H1 H8000 H7ffe H7fff H1 H7fff H7ffe H1 H7fff H1 H7fff H0 H0 H7fff H0 H7fff H0 H8000,B0 H8000,B1 H7ffe,B0 \
+    H7ffe,B0 W17fff B0 B1 B0 B1 B1 B0 B0 B1 B1 B0\n\
+b H7fff H7fff Hfffe H0 H1 H7fff H7fff H0 H7fff H7fff H7fff H7fff H3fff H3fff H1 H0 H1 H0 Hfffe,B0 Hfffe,B1 H0,B0 \
+    H0,B0 W7fff7fff B1 B0 B0 B1 B0 B1 B0 B1 B0 B1\n\
+b H8000 H7fff Hffff H1 H8000 H0 Hffff Hffff H8000 H7fff H7fff H8000 H3fff Hc000 H1 H1 Hffff Hffff Hffff,B0 Hffff,B0 \
+    H1,B0 H1,B1 W7fff8000 B0 B1 B1 B0 B0 B1 B0 B1 B1 B0\n\
+b H7fff H8000 Hffff Hffff H8000 H0 Hffff Hffff H8000 H7fff H7fff H8000 H3fff Hc000 H0 H7fff H0 H7fff Hffff,B0 \
+    Hffff,B0 Hffff,B1 Hffff,B1 W80007fff B0 B1 B0 B1 B1 B0 B1 B0 B0 B1\n\
+b Hd8f1 H66b0 H3fa1 H7241 H2bb0 H40b0 Hfef1 Hbe41 Hd8f1 H66b0 H66b0 Hd8f1 H5705 Hf055 H2 Hb91 H0 Hd8f1 H3fa1,B1 \
+    H3fa1,B0 H7241,B0 H7241,B1 W66b0d8f1 B0 B1 B1 B0 B0 B1 B0 B1 B1 B0\n\
+b H66b0 Hd8f1 H3fa1 H8dbf H2bb0 H40b0 Hfef1 Hbe41 Hd8f1 H66b0 H66b0 Hd8f1 H5705 Hf055 H0 H66b0 Hfffe H1892 H3fa1,B1 \
+    H3fa1,B0 H8dbf,B1 H8dbf,B1 Wd8f166b0 B0 B1 B0 B1 B1 B0 B1 B0 B0 B1\n\
+b Hd8f1 H0 Hd8f1 Hd8f1 H0 H0 Hd8f1 Hd8f1 Hd8f1 H0 H0 Hd8f1 H0 H0 !z !z !z !z Hd8f1,B0 Hd8f1,B0 Hd8f1,B0 Hd8f1,B0 \
+    Wd8f1 B0 B1 B1 B0 B0 B1 B0 B1 B1 B0\n\
+b Hd8f1 H3 Hd8f4 Hd8ee H8ad3 H1 Hd8f3 Hd8f2 Hd8f1 H3 H3 Hd8f1 H2 Hffff H4850 H1 Hf2fb H0 Hd8f4,B0 Hd8f4,B0 Hd8ee,B0 \
+    Hd8ee,B0 W3d8f1 B0 B1 B1 B0 B0 B1 B0 B1 B1 B0\n\
+b Hd8f1 Hfffe Hd8ef Hd8f3 H4e1e Hd8f0 Hffff H270f Hd8f1 Hfffe Hd8f1 Hfffe Hd8ef H0 H0 Hd8f1 H1387 Hffff Hd8ef,B1 \
+    Hd8ef,B0 Hd8f3,B1 Hd8f3,B0 Wfffed8f1 B0 B1 B1 B0 B0 B1 B1 B0 B0 B1\n\
 s H1 H0 H1 H1 H1 H1 H1\n\
 s H1 H1 H2 H0 H0 H2 H8000\n\
 s H1 Hf H8000 H0 H0 H8000 H2\n\
@@ -114,28 +151,55 @@ t B1 Hd8f1 H66b0 Hd8f1\n\
 t Q0 Hd8f1 H66b0 H66b0\n\
 u W0 W0 Wffffffff W0 W20 W20 W0 W0 W0 H0,H0 - - D0 Q0 - - D0 Q0 B0 H0 - -\n\
 u W1 Wffffffff Wfffffffe W1 W1f W0 W1 W80000000 W1000000 H1,H0 - - D1 Q1 - - D1 Q1 B1 H1 - -\n\
-u Wffffffff W1 W0 W1 W0 W0 W20 Wffffffff Wffffffff Hffff,Hffff - - Dffffffff Qffffffff - - Dffffffffffffffff Qffffffffffffffffffffffffffffffff Bff Hffff - -\n\
-u W80000000 W80000000 W7fffffff W80000000 W0 W1f W1 W1 W80 H0,H8000 - - D80000000 Q80000000 - - Dffffffff80000000 Qffffffffffffffffffffffff80000000 B0 H0 - -\n\
-u W7fffffff W80000001 W80000000 W7fffffff W1 W0 W1f Wfffffffe Wffffff7f Hffff,H7fff - - D7fffffff Q7fffffff - - D7fffffff Q7fffffff Bff Hffff - -\n\
-u Wc386bbc4 W3c79443c W3c79443b W3c79443c W0 W2 W10 W23dd61c3 Wc4bb86c3 Hbbc4,Hc386 - - Dc386bbc4 Qc386bbc4 - - Dffffffffc386bbc4 Qffffffffffffffffffffffffc386bbc4 Bc4 Hbbc4 - -\n\
-u W813e268 Wf7ec1d98 Wf7ec1d97 W813e268 W4 W3 Wb W1647c810 W68e21308 He268,H813 - - D813e268 Q813e268 - - D813e268 Q813e268 B68 He268 - -\n\
+u Wffffffff W1 W0 W1 W0 W0 W20 Wffffffff Wffffffff Hffff,Hffff - - Dffffffff Qffffffff - - Dffffffffffffffff \
+    Qffffffffffffffffffffffffffffffff Bff Hffff - -\n\
+u W80000000 W80000000 W7fffffff W80000000 W0 W1f W1 W1 W80 H0,H8000 - - D80000000 Q80000000 - - Dffffffff80000000 \
+    Qffffffffffffffffffffffff80000000 B0 H0 - -\n\
+u W7fffffff W80000001 W80000000 W7fffffff W1 W0 W1f Wfffffffe Wffffff7f Hffff,H7fff - - D7fffffff Q7fffffff - - \
+    D7fffffff Q7fffffff Bff Hffff - -\n\
+u Wc386bbc4 W3c79443c W3c79443b W3c79443c W0 W2 W10 W23dd61c3 Wc4bb86c3 Hbbc4,Hc386 - - Dc386bbc4 Qc386bbc4 - - \
+    Dffffffffc386bbc4 Qffffffffffffffffffffffffc386bbc4 Bc4 Hbbc4 - -\n\
+u W813e268 Wf7ec1d98 Wf7ec1d97 W813e268 W4 W3 Wb W1647c810 W68e21308 He268,H813 - - D813e268 Q813e268 - - D813e268 \
+    Q813e268 B68 He268 - -\n\
 b W0 W0 W0 W0 W0 W0 W0 W0 W0 W0 W0 W0 W0 W0 !z !z !z !z W0,B0 W0,B0 W0,B0 W0,B0 D0 B1 B0 B0 B1 B0 B1 B0 B1 B0 B1\n\
-b W0 Wffffffff Wffffffff W1 W0 W0 Wffffffff Wffffffff Wffffffff W0 W0 Wffffffff W0 W0 W0 W0 W0 W0 Wffffffff,B0 Wffffffff,B0 W1,B1 W1,B0 Dffffffff00000000 B0 B1 B0 B1 B1 B0 B1 B0 B0 B1\n\
-b W1 Wffffffff W0 W2 Wffffffff W1 Wffffffff Wfffffffe Wffffffff W1 W1 Wffffffff W0 Wffffffff W0 W1 Wffffffff W0 W0,B1 W0,B0 W2,B1 W2,B0 Dffffffff00000001 B0 B1 B0 B1 B1 B0 B1 B0 B0 B1\n\
-b Wffffffff Wffffffff Wfffffffe W0 W1 Wffffffff Wffffffff W0 Wffffffff Wffffffff Wffffffff Wffffffff Wfffffffe W0 W1 W0 W1 W0 Wfffffffe,B1 Wfffffffe,B0 W0,B0 W0,B0 Dffffffffffffffff B1 B0 B0 B1 B0 B1 B0 B1 B0 B1\n\
-b Wffffffff W1 W0 Wfffffffe Wffffffff W1 Wffffffff Wfffffffe Wffffffff W1 W1 Wffffffff W0 Wffffffff Wffffffff W0 Wffffffff W0 W0,B1 W0,B0 Wfffffffe,B0 Wfffffffe,B0 D1ffffffff B0 B1 B1 B0 B0 B1 B0 B1 B1 B0\n\
-b W80000000 Wffffffff W7fffffff W80000001 W80000000 W80000000 Wffffffff W7fffffff W80000000 Wffffffff W80000000 Wffffffff W7fffffff W0 W0 W80000000 !o W0 W7fffffff,B1 W7fffffff,B1 W80000001,B1 W80000001,B0 Dffffffff80000000 B0 B1 B1 B0 B0 B1 B1 B0 B0 B1\n\
-b W80000000 W1 W80000001 W7fffffff W80000000 W0 W80000001 W80000001 W80000000 W1 W1 W80000000 W0 Wffffffff W80000000 W0 W80000000 W0 W80000001,B0 W80000001,B0 W7fffffff,B0 W7fffffff,B1 D180000000 B0 B1 B1 B0 B0 B1 B0 B1 B1 B0\n\
-b W80000000 W80000000 W0 W0 W0 W80000000 W80000000 W0 W80000000 W80000000 W80000000 W80000000 W40000000 W40000000 W1 W0 W1 W0 W0,B1 W0,B1 W0,B0 W0,B0 D8000000080000000 B1 B0 B0 B1 B0 B1 B0 B1 B0 B1\n\
-b W7fffffff W1 W80000000 W7ffffffe W7fffffff W1 W7fffffff W7ffffffe W1 W7fffffff W1 W7fffffff W0 W0 W7fffffff W0 W7fffffff W0 W80000000,B0 W80000000,B1 W7ffffffe,B0 W7ffffffe,B0 D17fffffff B0 B1 B0 B1 B1 B0 B0 B1 B1 B0\n\
-b W7fffffff W7fffffff Wfffffffe W0 W1 W7fffffff W7fffffff W0 W7fffffff W7fffffff W7fffffff W7fffffff W3fffffff W3fffffff W1 W0 W1 W0 Wfffffffe,B0 Wfffffffe,B1 W0,B0 W0,B0 D7fffffff7fffffff B1 B0 B0 B1 B0 B1 B0 B1 B0 B1\n\
-b W80000000 W7fffffff Wffffffff W1 W80000000 W0 Wffffffff Wffffffff W80000000 W7fffffff W7fffffff W80000000 W3fffffff Wc0000000 W1 W1 Wffffffff Wffffffff Wffffffff,B0 Wffffffff,B0 W1,B0 W1,B1 D7fffffff80000000 B0 B1 B1 B0 B0 B1 B0 B1 B1 B0\n\
-b W7fffffff W80000000 Wffffffff Wffffffff W80000000 W0 Wffffffff Wffffffff W80000000 W7fffffff W7fffffff W80000000 W3fffffff Wc0000000 W0 W7fffffff W0 W7fffffff Wffffffff,B0 Wffffffff,B0 Wffffffff,B1 Wffffffff,B1 D800000007fffffff B0 B1 B0 B1 B1 B0 B1 B0 B0 B1\n\
-b Wc386bbc4 W813e268 Wcb9a9e2c Wbb72d95c W700b4fa0 W2a240 Wcb97fbec Wcb9559ac Wc386bbc4 W813e268 W813e268 Wc386bbc4 W62b65ca Wfe178362 W18 W1a98204 Wfffffff9 Wfc11ec9c Wcb9a9e2c,B0 Wcb9a9e2c,B0 Wbb72d95c,B0 Wbb72d95c,B0 D813e268c386bbc4 B0 B1 B1 B0 B0 B1 B0 B1 B1 B0\n\
-b W813e268 Wc386bbc4 Wcb9a9e2c W448d26a4 W700b4fa0 W2a240 Wcb97fbec Wcb9559ac Wc386bbc4 W813e268 W813e268 Wc386bbc4 W62b65ca Wfe178362 W0 W813e268 W0 W813e268 Wcb9a9e2c,B0 Wcb9a9e2c,B0 W448d26a4,B1 W448d26a4,B0 Dc386bbc40813e268 B0 B1 B0 B1 B1 B0 B1 B0 B0 B1\n\
-b Wc386bbc4 W0 Wc386bbc4 Wc386bbc4 W0 W0 Wc386bbc4 Wc386bbc4 Wc386bbc4 W0 W0 Wc386bbc4 W0 W0 !z !z !z !z Wc386bbc4,B0 Wc386bbc4,B0 Wc386bbc4,B0 Wc386bbc4,B0 Dc386bbc4 B0 B1 B1 B0 B0 B1 B0 B1 B1 B0\n\
-b Wc386bbc4 W3 Wc386bbc7 Wc386bbc1 W4a94334c W0 Wc386bbc7 Wc386bbc7 Wc386bbc4 W3 W3 Wc386bbc4 W2 Wffffffff W412ce941 W1 Webd793ec W0 Wc386bbc7,B0 Wc386bbc7,B0 Wc386bbc1,B0 Wc386bbc1,B0 D3c386bbc4 B0 B1 B1 B0 B0 B1 B0 B1 B1 B0\n\
-b Wc386bbc4 Wfffffffe Wc386bbc2 Wc386bbc6 W78f28878 Wc386bbc4 Wfffffffe W3c79443a Wc386bbc4 Wfffffffe Wc386bbc4 Wfffffffe Wc386bbc2 W0 W0 Wc386bbc4 W1e3ca21e W0 Wc386bbc2,B1 Wc386bbc2,B0 Wc386bbc6,B1 Wc386bbc6,B0 Dfffffffec386bbc4 B0 B1 B1 B0 B0 B1 B1 B0 B0 B1\n\
+b W0 Wffffffff Wffffffff W1 W0 W0 Wffffffff Wffffffff Wffffffff W0 W0 Wffffffff W0 W0 W0 W0 W0 W0 Wffffffff,B0 \
+    Wffffffff,B0 W1,B1 W1,B0 Dffffffff00000000 B0 B1 B0 B1 B1 B0 B1 B0 B0 B1\n\
+b W1 Wffffffff W0 W2 Wffffffff W1 Wffffffff Wfffffffe Wffffffff W1 W1 Wffffffff W0 Wffffffff W0 W1 Wffffffff W0 W0,B1 \
+    W0,B0 W2,B1 W2,B0 Dffffffff00000001 B0 B1 B0 B1 B1 B0 B1 B0 B0 B1\n\
+b Wffffffff Wffffffff Wfffffffe W0 W1 Wffffffff Wffffffff W0 Wffffffff Wffffffff Wffffffff Wffffffff Wfffffffe W0 W1 \
+    W0 W1 W0 Wfffffffe,B1 Wfffffffe,B0 W0,B0 W0,B0 Dffffffffffffffff B1 B0 B0 B1 B0 B1 B0 B1 B0 B1\n\
+b Wffffffff W1 W0 Wfffffffe Wffffffff W1 Wffffffff Wfffffffe Wffffffff W1 W1 Wffffffff W0 Wffffffff Wffffffff W0 \
+    Wffffffff W0 W0,B1 W0,B0 Wfffffffe,B0 Wfffffffe,B0 D1ffffffff B0 B1 B1 B0 B0 B1 B0 B1 B1 B0\n\
+b W80000000 Wffffffff W7fffffff W80000001 W80000000 W80000000 Wffffffff W7fffffff W80000000 Wffffffff W80000000 \
+    Wffffffff W7fffffff W0 W0 W80000000 !o W0 W7fffffff,B1 W7fffffff,B1 W80000001,B1 W80000001,B0 Dffffffff80000000 \
+    B0 B1 B1 B0 B0 B1 B1 B0 B0 B1\n\
+b W80000000 W1 W80000001 W7fffffff W80000000 W0 W80000001 W80000001 W80000000 W1 W1 W80000000 W0 Wffffffff W80000000 \
+    W0 W80000000 W0 W80000001,B0 W80000001,B0 W7fffffff,B0 W7fffffff,B1 D180000000 B0 B1 B1 B0 B0 B1 B0 B1 B1 B0\n\
+b W80000000 W80000000 W0 W0 W0 W80000000 W80000000 W0 W80000000 W80000000 W80000000 W80000000 W40000000 W40000000 W1 \
+    W0 W1 W0 W0,B1 W0,B1 W0,B0 W0,B0 D8000000080000000 B1 B0 B0 B1 B0 B1 B0 B1 B0 B1\n\
+b W7fffffff W1 W80000000 W7ffffffe W7fffffff W1 W7fffffff W7ffffffe W1 W7fffffff W1 W7fffffff W0 W0 W7fffffff W0 \
+    W7fffffff W0 W80000000,B0 W80000000,B1 W7ffffffe,B0 W7ffffffe,B0 D17fffffff B0 B1 B0 B1 B1 B0 B0 B1 B1 B0\n\
+b W7fffffff W7fffffff Wfffffffe W0 W1 W7fffffff W7fffffff W0 W7fffffff W7fffffff W7fffffff W7fffffff W3fffffff \
+    W3fffffff W1 W0 W1 W0 Wfffffffe,B0 Wfffffffe,B1 W0,B0 W0,B0 D7fffffff7fffffff B1 B0 B0 B1 B0 B1 B0 B1 B0 B1\n\
+b W80000000 W7fffffff Wffffffff W1 W80000000 W0 Wffffffff Wffffffff W80000000 W7fffffff W7fffffff W80000000 W3fffffff \
+    Wc0000000 W1 W1 Wffffffff Wffffffff Wffffffff,B0 Wffffffff,B0 W1,B0 W1,B1 D7fffffff80000000 B0 B1 B1 B0 B0 B1 B0 \
+    B1 B1 B0\n\
+b W7fffffff W80000000 Wffffffff Wffffffff W80000000 W0 Wffffffff Wffffffff W80000000 W7fffffff W7fffffff W80000000 \
+    W3fffffff Wc0000000 W0 W7fffffff W0 W7fffffff Wffffffff,B0 Wffffffff,B0 Wffffffff,B1 Wffffffff,B1 \
+    D800000007fffffff B0 B1 B0 B1 B1 B0 B1 B0 B0 B1\n\
+b Wc386bbc4 W813e268 Wcb9a9e2c Wbb72d95c W700b4fa0 W2a240 Wcb97fbec Wcb9559ac Wc386bbc4 W813e268 W813e268 Wc386bbc4 \
+    W62b65ca Wfe178362 W18 W1a98204 Wfffffff9 Wfc11ec9c Wcb9a9e2c,B0 Wcb9a9e2c,B0 Wbb72d95c,B0 Wbb72d95c,B0 \
+    D813e268c386bbc4 B0 B1 B1 B0 B0 B1 B0 B1 B1 B0\n\
+b W813e268 Wc386bbc4 Wcb9a9e2c W448d26a4 W700b4fa0 W2a240 Wcb97fbec Wcb9559ac Wc386bbc4 W813e268 W813e268 Wc386bbc4 \
+    W62b65ca Wfe178362 W0 W813e268 W0 W813e268 Wcb9a9e2c,B0 Wcb9a9e2c,B0 W448d26a4,B1 W448d26a4,B0 Dc386bbc40813e268 \
+    B0 B1 B0 B1 B1 B0 B1 B0 B0 B1\n\
+b Wc386bbc4 W0 Wc386bbc4 Wc386bbc4 W0 W0 Wc386bbc4 Wc386bbc4 Wc386bbc4 W0 W0 Wc386bbc4 W0 W0 !z !z !z !z Wc386bbc4,B0 \
+    Wc386bbc4,B0 Wc386bbc4,B0 Wc386bbc4,B0 Dc386bbc4 B0 B1 B1 B0 B0 B1 B0 B1 B1 B0\n\
+b Wc386bbc4 W3 Wc386bbc7 Wc386bbc1 W4a94334c W0 Wc386bbc7 Wc386bbc7 Wc386bbc4 W3 W3 Wc386bbc4 W2 Wffffffff W412ce941 \
+    W1 Webd793ec W0 Wc386bbc7,B0 Wc386bbc7,B0 Wc386bbc1,B0 Wc386bbc1,B0 D3c386bbc4 B0 B1 B1 B0 B0 B1 B0 B1 B1 B0\n\
+b Wc386bbc4 Wfffffffe Wc386bbc2 Wc386bbc6 W78f28878 Wc386bbc4 Wfffffffe W3c79443a Wc386bbc4 Wfffffffe Wc386bbc4 \
+    Wfffffffe Wc386bbc2 W0 W0 Wc386bbc4 W1e3ca21e W0 Wc386bbc2,B1 Wc386bbc2,B0 Wc386bbc6,B1 Wc386bbc6,B0 \
+    Dfffffffec386bbc4 B0 B1 B1 B0 B0 B1 B1 B0 B0 B1\n\
 s W1 W0 W1 W1 W1 W1 W1\n\
 s W1 W1 W2 W0 W0 W2 W80000000\n\
 s W1 W1f W80000000 W0 W0 W80000000 W2\n\
@@ -169,29 +233,79 @@ t W80000000 Wc386bbc4 W813e268 Wc386bbc4\n\
 t B1 Wc386bbc4 W813e268 Wc386bbc4\n\
 t Q0 Wc386bbc4 W813e268 W813e268\n\
 u D0 D0 Dffffffffffffffff D0 D40 D40 D0 D0 D0 W0,W0 - - - Q0 - - - Q0 B0 H0 W0 -\n\
-u D1 Dffffffffffffffff Dfffffffffffffffe D1 D3f D0 D1 D8000000000000000 D100000000000000 W1,W0 - - - Q1 - - - Q1 B1 H1 W1 -\n\
-u Dffffffffffffffff D1 D0 D1 D0 D0 D40 Dffffffffffffffff Dffffffffffffffff Wffffffff,Wffffffff - - - Qffffffffffffffff - - - Qffffffffffffffffffffffffffffffff Bff Hffff Wffffffff -\n\
-u D8000000000000000 D8000000000000000 D7fffffffffffffff D8000000000000000 D0 D3f D1 D1 D80 W0,W80000000 - - - Q8000000000000000 - - - Qffffffffffffffff8000000000000000 B0 H0 W0 -\n\
-u D7fffffffffffffff D8000000000000001 D8000000000000000 D7fffffffffffffff D1 D0 D3f Dfffffffffffffffe Dffffffffffffff7f Wffffffff,W7fffffff - - - Q7fffffffffffffff - - - Q7fffffffffffffff Bff Hffff Wffffffff -\n\
-u D1e2feb89414c343c De1d01476beb3cbc4 De1d01476beb3cbc3 D1e2feb89414c343c D3 D2 D1e D3c2c328291d7f478 D3c344c4189eb2f1e W414c343c,W1e2feb89 - - - Q1e2feb89414c343c - - - Q1e2feb89414c343c B3c H343c W414c343c -\n\
-u D616737a27ed4d57b D9e98c85d812b2a85 D9e98c85d812b2a84 D616737a27ed4d57b D1 D0 D25 Ddeab2b7e45ece686 D7bd5d47ea2376761 W7ed4d57b,W616737a2 - - - Q616737a27ed4d57b - - - Q616737a27ed4d57b B7b Hd57b W7ed4d57b -\n\
+u D1 Dffffffffffffffff Dfffffffffffffffe D1 D3f D0 D1 D8000000000000000 D100000000000000 W1,W0 - - - Q1 - - - Q1 B1 \
+    H1 W1 -\n\
+u Dffffffffffffffff D1 D0 D1 D0 D0 D40 Dffffffffffffffff Dffffffffffffffff Wffffffff,Wffffffff - - - \
+    Qffffffffffffffff - - - Qffffffffffffffffffffffffffffffff Bff Hffff Wffffffff -\n\
+u D8000000000000000 D8000000000000000 D7fffffffffffffff D8000000000000000 D0 D3f D1 D1 D80 W0,W80000000 - - - \
+    Q8000000000000000 - - - Qffffffffffffffff8000000000000000 B0 H0 W0 -\n\
+u D7fffffffffffffff D8000000000000001 D8000000000000000 D7fffffffffffffff D1 D0 D3f Dfffffffffffffffe \
+    Dffffffffffffff7f Wffffffff,W7fffffff - - - Q7fffffffffffffff - - - Q7fffffffffffffff Bff Hffff Wffffffff -\n\
+u D1e2feb89414c343c De1d01476beb3cbc4 De1d01476beb3cbc3 D1e2feb89414c343c D3 D2 D1e D3c2c328291d7f478 \
+    D3c344c4189eb2f1e W414c343c,W1e2feb89 - - - Q1e2feb89414c343c - - - Q1e2feb89414c343c B3c H343c W414c343c -\n\
+u D616737a27ed4d57b D9e98c85d812b2a85 D9e98c85d812b2a84 D616737a27ed4d57b D1 D0 D25 Ddeab2b7e45ece686 \
+    D7bd5d47ea2376761 W7ed4d57b,W616737a2 - - - Q616737a27ed4d57b - - - Q616737a27ed4d57b B7b Hd57b W7ed4d57b -\n\
 b D0 D0 D0 D0 D0 D0 D0 D0 D0 D0 D0 D0 D0 D0 !z !z !z !z D0,B0 D0,B0 D0,B0 D0,B0 Q0 B1 B0 B0 B1 B0 B1 B0 B1 B0 B1\n\
-b D0 Dffffffffffffffff Dffffffffffffffff D1 D0 D0 Dffffffffffffffff Dffffffffffffffff Dffffffffffffffff D0 D0 Dffffffffffffffff D0 D0 D0 D0 D0 D0 Dffffffffffffffff,B0 Dffffffffffffffff,B0 D1,B1 D1,B0 Qffffffffffffffff0000000000000000 B0 B1 B0 B1 B1 B0 B1 B0 B0 B1\n\
-b D1 Dffffffffffffffff D0 D2 Dffffffffffffffff D1 Dffffffffffffffff Dfffffffffffffffe Dffffffffffffffff D1 D1 Dffffffffffffffff D0 Dffffffffffffffff D0 D1 Dffffffffffffffff D0 D0,B1 D0,B0 D2,B1 D2,B0 Qffffffffffffffff0000000000000001 B0 B1 B0 B1 B1 B0 B1 B0 B0 B1\n\
-b Dffffffffffffffff Dffffffffffffffff Dfffffffffffffffe D0 D1 Dffffffffffffffff Dffffffffffffffff D0 Dffffffffffffffff Dffffffffffffffff Dffffffffffffffff Dffffffffffffffff Dfffffffffffffffe D0 D1 D0 D1 D0 Dfffffffffffffffe,B1 Dfffffffffffffffe,B0 D0,B0 D0,B0 Qffffffffffffffffffffffffffffffff B1 B0 B0 B1 B0 B1 B0 B1 B0 B1\n\
-b Dffffffffffffffff D1 D0 Dfffffffffffffffe Dffffffffffffffff D1 Dffffffffffffffff Dfffffffffffffffe Dffffffffffffffff D1 D1 Dffffffffffffffff D0 Dffffffffffffffff Dffffffffffffffff D0 Dffffffffffffffff D0 D0,B1 D0,B0 Dfffffffffffffffe,B0 Dfffffffffffffffe,B0 Q1ffffffffffffffff B0 B1 B1 B0 B0 B1 B0 B1 B1 B0\n\
-b D8000000000000000 Dffffffffffffffff D7fffffffffffffff D8000000000000001 D8000000000000000 D8000000000000000 Dffffffffffffffff D7fffffffffffffff D8000000000000000 Dffffffffffffffff D8000000000000000 Dffffffffffffffff D7fffffffffffffff D0 D0 D8000000000000000 !o D0 D7fffffffffffffff,B1 D7fffffffffffffff,B1 D8000000000000001,B1 D8000000000000001,B0 Qffffffffffffffff8000000000000000 B0 B1 B1 B0 B0 B1 B1 B0 B0 B1\n\
-b D8000000000000000 D1 D8000000000000001 D7fffffffffffffff D8000000000000000 D0 D8000000000000001 D8000000000000001 D8000000000000000 D1 D1 D8000000000000000 D0 Dffffffffffffffff D8000000000000000 D0 D8000000000000000 D0 D8000000000000001,B0 D8000000000000001,B0 D7fffffffffffffff,B0 D7fffffffffffffff,B1 Q18000000000000000 B0 B1 B1 B0 B0 B1 B0 B1 B1 B0\n\
-b D8000000000000000 D8000000000000000 D0 D0 D0 D8000000000000000 D8000000000000000 D0 D8000000000000000 D8000000000000000 D8000000000000000 D8000000000000000 D4000000000000000 D4000000000000000 D1 D0 D1 D0 D0,B1 D0,B1 D0,B0 D0,B0 Q80000000000000008000000000000000 B1 B0 B0 B1 B0 B1 B0 B1 B0 B1\n\
-b D7fffffffffffffff D1 D8000000000000000 D7ffffffffffffffe D7fffffffffffffff D1 D7fffffffffffffff D7ffffffffffffffe D1 D7fffffffffffffff D1 D7fffffffffffffff D0 D0 D7fffffffffffffff D0 D7fffffffffffffff D0 D8000000000000000,B0 D8000000000000000,B1 D7ffffffffffffffe,B0 D7ffffffffffffffe,B0 Q17fffffffffffffff B0 B1 B0 B1 B1 B0 B0 B1 B1 B0\n\
-b D7fffffffffffffff D7fffffffffffffff Dfffffffffffffffe D0 D1 D7fffffffffffffff D7fffffffffffffff D0 D7fffffffffffffff D7fffffffffffffff D7fffffffffffffff D7fffffffffffffff D3fffffffffffffff D3fffffffffffffff D1 D0 D1 D0 Dfffffffffffffffe,B0 Dfffffffffffffffe,B1 D0,B0 D0,B0 Q7fffffffffffffff7fffffffffffffff B1 B0 B0 B1 B0 B1 B0 B1 B0 B1\n\
-b D8000000000000000 D7fffffffffffffff Dffffffffffffffff D1 D8000000000000000 D0 Dffffffffffffffff Dffffffffffffffff D8000000000000000 D7fffffffffffffff D7fffffffffffffff D8000000000000000 D3fffffffffffffff Dc000000000000000 D1 D1 Dffffffffffffffff Dffffffffffffffff Dffffffffffffffff,B0 Dffffffffffffffff,B0 D1,B0 D1,B1 Q7fffffffffffffff8000000000000000 B0 B1 B1 B0 B0 B1 B0 B1 B1 B0\n\
-b D7fffffffffffffff D8000000000000000 Dffffffffffffffff Dffffffffffffffff D8000000000000000 D0 Dffffffffffffffff Dffffffffffffffff D8000000000000000 D7fffffffffffffff D7fffffffffffffff D8000000000000000 D3fffffffffffffff Dc000000000000000 D0 D7fffffffffffffff D0 D7fffffffffffffff Dffffffffffffffff,B0 Dffffffffffffffff,B0 Dffffffffffffffff,B1 Dffffffffffffffff,B1 Q80000000000000007fffffffffffffff B0 B1 B0 B1 B1 B0 B1 B0 B0 B1\n\
-b D1e2feb89414c343c D616737a27ed4d57b D7f97232bc02109b7 Dbcc8b3e6c2775ec1 D6d62e50f90c304d4 D27238040441438 D7f6fffab7fdcf57f D7f48dc2b3f98e147 D1e2feb89414c343c D616737a27ed4d57b D1e2feb89414c343c D616737a27ed4d57b Db7c54163ad95e1f Db7c54163ad95e1f D0 D1e2feb89414c343c D0 D1e2feb89414c343c D7f97232bc02109b7,B0 D7f97232bc02109b7,B0 Dbcc8b3e6c2775ec1,B1 Dbcc8b3e6c2775ec1,B0 Q616737a27ed4d57b1e2feb89414c343c B0 B1 B1 B0 B0 B1 B1 B0 B0 B1\n\
-b D616737a27ed4d57b D1e2feb89414c343c D7f97232bc02109b7 D43374c193d88a13f D6d62e50f90c304d4 D27238040441438 D7f6fffab7fdcf57f D7f48dc2b3f98e147 D1e2feb89414c343c D616737a27ed4d57b D1e2feb89414c343c D616737a27ed4d57b Db7c54163ad95e1f Db7c54163ad95e1f D3 D6d77506baf038c7 D3 D6d77506baf038c7 D7f97232bc02109b7,B0 D7f97232bc02109b7,B0 D43374c193d88a13f,B0 D43374c193d88a13f,B0 Q1e2feb89414c343c616737a27ed4d57b B0 B1 B0 B1 B1 B0 B0 B1 B1 B0\n\
-b D1e2feb89414c343c D0 D1e2feb89414c343c D1e2feb89414c343c D0 D0 D1e2feb89414c343c D1e2feb89414c343c D0 D1e2feb89414c343c D0 D1e2feb89414c343c D0 D0 !z !z !z !z D1e2feb89414c343c,B0 D1e2feb89414c343c,B0 D1e2feb89414c343c,B0 D1e2feb89414c343c,B0 Q1e2feb89414c343c B0 B1 B0 B1 B1 B0 B0 B1 B1 B0\n\
-b D1e2feb89414c343c D3 D1e2feb89414c343f D1e2feb89414c3439 D5a8fc29bc3e49cb4 D0 D1e2feb89414c343f D1e2feb89414c343f D3 D1e2feb89414c343c D3 D1e2feb89414c343c D0 D0 Da0ff92dc06ebc14 D0 Da0ff92dc06ebc14 D0 D1e2feb89414c343f,B0 D1e2feb89414c343f,B0 D1e2feb89414c3439,B0 D1e2feb89414c3439,B0 Q31e2feb89414c343c B0 B1 B0 B1 B1 B0 B0 B1 B1 B0\n\
-b D1e2feb89414c343c Dfffffffffffffffe D1e2feb89414c343a D1e2feb89414c343e Dc3a028ed7d679788 D1e2feb89414c343c Dfffffffffffffffe De1d01476beb3cbc2 Dfffffffffffffffe D1e2feb89414c343c D1e2feb89414c343c Dfffffffffffffffe D1e2feb89414c343b Dffffffffffffffff D0 D1e2feb89414c343c Df0e80a3b5f59e5e2 D0 D1e2feb89414c343a,B1 D1e2feb89414c343a,B0 D1e2feb89414c343e,B1 D1e2feb89414c343e,B0 Qfffffffffffffffe1e2feb89414c343c B0 B1 B0 B1 B1 B0 B1 B0 B0 B1\n\
+b D0 Dffffffffffffffff Dffffffffffffffff D1 D0 D0 Dffffffffffffffff Dffffffffffffffff Dffffffffffffffff D0 D0 \
+    Dffffffffffffffff D0 D0 D0 D0 D0 D0 Dffffffffffffffff,B0 Dffffffffffffffff,B0 D1,B1 D1,B0 \
+    Qffffffffffffffff0000000000000000 B0 B1 B0 B1 B1 B0 B1 B0 B0 B1\n\
+b D1 Dffffffffffffffff D0 D2 Dffffffffffffffff D1 Dffffffffffffffff Dfffffffffffffffe Dffffffffffffffff D1 D1 \
+    Dffffffffffffffff D0 Dffffffffffffffff D0 D1 Dffffffffffffffff D0 D0,B1 D0,B0 D2,B1 D2,B0 \
+    Qffffffffffffffff0000000000000001 B0 B1 B0 B1 B1 B0 B1 B0 B0 B1\n\
+b Dffffffffffffffff Dffffffffffffffff Dfffffffffffffffe D0 D1 Dffffffffffffffff Dffffffffffffffff D0 \
+    Dffffffffffffffff Dffffffffffffffff Dffffffffffffffff Dffffffffffffffff Dfffffffffffffffe D0 D1 D0 D1 D0 \
+    Dfffffffffffffffe,B1 Dfffffffffffffffe,B0 D0,B0 D0,B0 Qffffffffffffffffffffffffffffffff B1 B0 B0 B1 B0 B1 B0 B1 \
+    B0 B1\n\
+b Dffffffffffffffff D1 D0 Dfffffffffffffffe Dffffffffffffffff D1 Dffffffffffffffff Dfffffffffffffffe \
+    Dffffffffffffffff D1 D1 Dffffffffffffffff D0 Dffffffffffffffff Dffffffffffffffff D0 Dffffffffffffffff D0 D0,B1 \
+    D0,B0 Dfffffffffffffffe,B0 Dfffffffffffffffe,B0 Q1ffffffffffffffff B0 B1 B1 B0 B0 B1 B0 B1 B1 B0\n\
+b D8000000000000000 Dffffffffffffffff D7fffffffffffffff D8000000000000001 D8000000000000000 D8000000000000000 \
+    Dffffffffffffffff D7fffffffffffffff D8000000000000000 Dffffffffffffffff D8000000000000000 Dffffffffffffffff \
+    D7fffffffffffffff D0 D0 D8000000000000000 !o D0 D7fffffffffffffff,B1 D7fffffffffffffff,B1 D8000000000000001,B1 \
+    D8000000000000001,B0 Qffffffffffffffff8000000000000000 B0 B1 B1 B0 B0 B1 B1 B0 B0 B1\n\
+b D8000000000000000 D1 D8000000000000001 D7fffffffffffffff D8000000000000000 D0 D8000000000000001 D8000000000000001 \
+    D8000000000000000 D1 D1 D8000000000000000 D0 Dffffffffffffffff D8000000000000000 D0 D8000000000000000 D0 \
+    D8000000000000001,B0 D8000000000000001,B0 D7fffffffffffffff,B0 D7fffffffffffffff,B1 Q18000000000000000 B0 B1 B1 \
+    B0 B0 B1 B0 B1 B1 B0\n\
+b D8000000000000000 D8000000000000000 D0 D0 D0 D8000000000000000 D8000000000000000 D0 D8000000000000000 \
+    D8000000000000000 D8000000000000000 D8000000000000000 D4000000000000000 D4000000000000000 D1 D0 D1 D0 D0,B1 D0,B1 \
+    D0,B0 D0,B0 Q80000000000000008000000000000000 B1 B0 B0 B1 B0 B1 B0 B1 B0 B1\n\
+b D7fffffffffffffff D1 D8000000000000000 D7ffffffffffffffe D7fffffffffffffff D1 D7fffffffffffffff D7ffffffffffffffe \
+    D1 D7fffffffffffffff D1 D7fffffffffffffff D0 D0 D7fffffffffffffff D0 D7fffffffffffffff D0 D8000000000000000,B0 \
+    D8000000000000000,B1 D7ffffffffffffffe,B0 D7ffffffffffffffe,B0 Q17fffffffffffffff B0 B1 B0 B1 B1 B0 B0 B1 B1 B0\n\
+b D7fffffffffffffff D7fffffffffffffff Dfffffffffffffffe D0 D1 D7fffffffffffffff D7fffffffffffffff D0 \
+    D7fffffffffffffff D7fffffffffffffff D7fffffffffffffff D7fffffffffffffff D3fffffffffffffff D3fffffffffffffff D1 D0 \
+    D1 D0 Dfffffffffffffffe,B0 Dfffffffffffffffe,B1 D0,B0 D0,B0 Q7fffffffffffffff7fffffffffffffff B1 B0 B0 B1 B0 B1 \
+    B0 B1 B0 B1\n\
+b D8000000000000000 D7fffffffffffffff Dffffffffffffffff D1 D8000000000000000 D0 Dffffffffffffffff Dffffffffffffffff \
+    D8000000000000000 D7fffffffffffffff D7fffffffffffffff D8000000000000000 D3fffffffffffffff Dc000000000000000 D1 D1 \
+    Dffffffffffffffff Dffffffffffffffff Dffffffffffffffff,B0 Dffffffffffffffff,B0 D1,B0 D1,B1 \
+    Q7fffffffffffffff8000000000000000 B0 B1 B1 B0 B0 B1 B0 B1 B1 B0\n\
+b D7fffffffffffffff D8000000000000000 Dffffffffffffffff Dffffffffffffffff D8000000000000000 D0 Dffffffffffffffff \
+    Dffffffffffffffff D8000000000000000 D7fffffffffffffff D7fffffffffffffff D8000000000000000 D3fffffffffffffff \
+    Dc000000000000000 D0 D7fffffffffffffff D0 D7fffffffffffffff Dffffffffffffffff,B0 Dffffffffffffffff,B0 \
+    Dffffffffffffffff,B1 Dffffffffffffffff,B1 Q80000000000000007fffffffffffffff B0 B1 B0 B1 B1 B0 B1 B0 B0 B1\n\
+b D1e2feb89414c343c D616737a27ed4d57b D7f97232bc02109b7 Dbcc8b3e6c2775ec1 D6d62e50f90c304d4 D27238040441438 \
+    D7f6fffab7fdcf57f D7f48dc2b3f98e147 D1e2feb89414c343c D616737a27ed4d57b D1e2feb89414c343c D616737a27ed4d57b \
+    Db7c54163ad95e1f Db7c54163ad95e1f D0 D1e2feb89414c343c D0 D1e2feb89414c343c D7f97232bc02109b7,B0 \
+    D7f97232bc02109b7,B0 Dbcc8b3e6c2775ec1,B1 Dbcc8b3e6c2775ec1,B0 Q616737a27ed4d57b1e2feb89414c343c B0 B1 B1 B0 B0 \
+    B1 B1 B0 B0 B1\n\
+b D616737a27ed4d57b D1e2feb89414c343c D7f97232bc02109b7 D43374c193d88a13f D6d62e50f90c304d4 D27238040441438 \
+    D7f6fffab7fdcf57f D7f48dc2b3f98e147 D1e2feb89414c343c D616737a27ed4d57b D1e2feb89414c343c D616737a27ed4d57b \
+    Db7c54163ad95e1f Db7c54163ad95e1f D3 D6d77506baf038c7 D3 D6d77506baf038c7 D7f97232bc02109b7,B0 \
+    D7f97232bc02109b7,B0 D43374c193d88a13f,B0 D43374c193d88a13f,B0 Q1e2feb89414c343c616737a27ed4d57b B0 B1 B0 B1 B1 \
+    B0 B0 B1 B1 B0\n\
+b D1e2feb89414c343c D0 D1e2feb89414c343c D1e2feb89414c343c D0 D0 D1e2feb89414c343c D1e2feb89414c343c D0 \
+    D1e2feb89414c343c D0 D1e2feb89414c343c D0 D0 !z !z !z !z D1e2feb89414c343c,B0 D1e2feb89414c343c,B0 \
+    D1e2feb89414c343c,B0 D1e2feb89414c343c,B0 Q1e2feb89414c343c B0 B1 B0 B1 B1 B0 B0 B1 B1 B0\n\
+b D1e2feb89414c343c D3 D1e2feb89414c343f D1e2feb89414c3439 D5a8fc29bc3e49cb4 D0 D1e2feb89414c343f D1e2feb89414c343f \
+    D3 D1e2feb89414c343c D3 D1e2feb89414c343c D0 D0 Da0ff92dc06ebc14 D0 Da0ff92dc06ebc14 D0 D1e2feb89414c343f,B0 \
+    D1e2feb89414c343f,B0 D1e2feb89414c3439,B0 D1e2feb89414c3439,B0 Q31e2feb89414c343c B0 B1 B0 B1 B1 B0 B0 B1 B1 B0\n\
+b D1e2feb89414c343c Dfffffffffffffffe D1e2feb89414c343a D1e2feb89414c343e Dc3a028ed7d679788 D1e2feb89414c343c \
+    Dfffffffffffffffe De1d01476beb3cbc2 Dfffffffffffffffe D1e2feb89414c343c D1e2feb89414c343c Dfffffffffffffffe \
+    D1e2feb89414c343b Dffffffffffffffff D0 D1e2feb89414c343c Df0e80a3b5f59e5e2 D0 D1e2feb89414c343a,B1 \
+    D1e2feb89414c343a,B0 D1e2feb89414c343e,B1 D1e2feb89414c343e,B0 Qfffffffffffffffe1e2feb89414c343c B0 B1 B0 B1 B1 \
+    B0 B1 B0 B0 B1\n\
 s D1 D0 D1 D1 D1 D1 D1\n\
 s D1 D1 D2 D0 D0 D2 D8000000000000000\n\
 s D1 D3f D8000000000000000 D0 D0 D8000000000000000 D2\n\
@@ -205,7 +319,8 @@ s Dffffffffffffffff D3f D8000000000000000 D1 Dffffffffffffffff Dffffffffffffffff
 s Dffffffffffffffff D40 Dffffffffffffffff Dffffffffffffffff Dffffffffffffffff Dffffffffffffffff Dffffffffffffffff\n\
 s Dffffffffffffffff D41 Dfffffffffffffffe D7fffffffffffffff Dffffffffffffffff Dffffffffffffffff Dffffffffffffffff\n\
 s Dffffffffffffffff Bff D8000000000000000 D1 Dffffffffffffffff Dffffffffffffffff Dffffffffffffffff\n\
-s Dffffffffffffffff Q80000000000000000000000000000005 Dffffffffffffffe0 D7ffffffffffffff Dffffffffffffffff Dffffffffffffffff Dffffffffffffffff\n\
+s Dffffffffffffffff Q80000000000000000000000000000005 Dffffffffffffffe0 D7ffffffffffffff Dffffffffffffffff \
+    Dffffffffffffffff Dffffffffffffffff\n\
 s D8000000000000000 D0 D8000000000000000 D8000000000000000 D8000000000000000 D8000000000000000 D8000000000000000\n\
 s D8000000000000000 D1 D0 D4000000000000000 Dc000000000000000 D1 D4000000000000000\n\
 s D8000000000000000 D3f D0 D1 Dffffffffffffffff D4000000000000000 D1\n\
@@ -219,35 +334,110 @@ s D1e2feb89414c343c D3f D0 D0 D0 Df17f5c4a0a61a1e D3c5fd71282986878\n\
 s D1e2feb89414c343c D40 D1e2feb89414c343c D1e2feb89414c343c D1e2feb89414c343c D1e2feb89414c343c D1e2feb89414c343c\n\
 s D1e2feb89414c343c D41 D3c5fd71282986878 Df17f5c4a0a61a1e Df17f5c4a0a61a1e D3c5fd71282986878 Df17f5c4a0a61a1e\n\
 s D1e2feb89414c343c Bff D0 D0 D0 Df17f5c4a0a61a1e D3c5fd71282986878\n\
-s D1e2feb89414c343c Q80000000000000000000000000000005 Dc5fd712829868780 Df17f5c4a0a61a1 Df17f5c4a0a61a1 Dc5fd712829868783 De0f17f5c4a0a61a1\n\
+s D1e2feb89414c343c Q80000000000000000000000000000005 Dc5fd712829868780 Df17f5c4a0a61a1 Df17f5c4a0a61a1 \
+    Dc5fd712829868783 De0f17f5c4a0a61a1\n\
 t D0 D1e2feb89414c343c D616737a27ed4d57b D616737a27ed4d57b\n\
 t D8000000000000000 D1e2feb89414c343c D616737a27ed4d57b D1e2feb89414c343c\n\
 t B1 D1e2feb89414c343c D616737a27ed4d57b D1e2feb89414c343c\n\
 t Q0 D1e2feb89414c343c D616737a27ed4d57b D616737a27ed4d57b\n\
 u Q0 Q0 Qffffffffffffffffffffffffffffffff Q0 Q80 Q80 Q0 Q0 Q0 D0,D0 - - - - - - - - B0 H0 W0 D0\n\
-u Q1 Qffffffffffffffffffffffffffffffff Qfffffffffffffffffffffffffffffffe Q1 Q7f Q0 Q1 Q80000000000000000000000000000000 Q1000000000000000000000000000000 D1,D0 - - - - - - - - B1 H1 W1 D1\n\
-u Qffffffffffffffffffffffffffffffff Q1 Q0 Q1 Q0 Q0 Q80 Qffffffffffffffffffffffffffffffff Qffffffffffffffffffffffffffffffff Dffffffffffffffff,Dffffffffffffffff - - - - - - - - Bff Hffff Wffffffff Dffffffffffffffff\n\
-u Q80000000000000000000000000000000 Q80000000000000000000000000000000 Q7fffffffffffffffffffffffffffffff Q80000000000000000000000000000000 Q0 Q7f Q1 Q1 Q80 D0,D8000000000000000 - - - - - - - - B0 H0 W0 D0\n\
-u Q7fffffffffffffffffffffffffffffff Q80000000000000000000000000000001 Q80000000000000000000000000000000 Q7fffffffffffffffffffffffffffffff Q1 Q0 Q7f Qfffffffffffffffffffffffffffffffe Qffffffffffffffffffffffffffffff7f Dffffffffffffffff,D7fffffffffffffff - - - - - - - - Bff Hffff Wffffffff Dffffffffffffffff\n\
-u Q612e7696a6cecc1b78e510617311d8a3 Q9ed18969593133e4871aef9e8cee275d Q9ed18969593133e4871aef9e8cee275c Q612e7696a6cecc1b78e510617311d8a3 Q1 Q0 Q3d Qc51b88ce8608a71ed8337365696e7486 Qa3d811736110e5781bcccea696762e61 D78e510617311d8a3,D612e7696a6cecc1b - - - - - - - - Ba3 Hd8a3 W7311d8a3 D78e510617311d8a3\n\
-u Q3e72164118072e8c35bf992dc9e9c616 Qc18de9bee7f8d173ca4066d2361639ea Qc18de9bee7f8d173ca4066d2361639e9 Q3e72164118072e8c35bf992dc9e9c616 Q2 Q1 Q3d Q68639793b499fdac3174e01882684e7c Q16c6e9c92d99bf358c2e07184116723e D35bf992dc9e9c616,D3e72164118072e8c - - - - - - - - B16 Hc616 Wc9e9c616 D35bf992dc9e9c616\n\
+u Q1 Qffffffffffffffffffffffffffffffff Qfffffffffffffffffffffffffffffffe Q1 Q7f Q0 Q1 \
+    Q80000000000000000000000000000000 Q1000000000000000000000000000000 D1,D0 - - - - - - - - B1 H1 W1 D1\n\
+u Qffffffffffffffffffffffffffffffff Q1 Q0 Q1 Q0 Q0 Q80 Qffffffffffffffffffffffffffffffff \
+    Qffffffffffffffffffffffffffffffff Dffffffffffffffff,Dffffffffffffffff - - - - - - - - Bff Hffff Wffffffff \
+    Dffffffffffffffff\n\
+u Q80000000000000000000000000000000 Q80000000000000000000000000000000 Q7fffffffffffffffffffffffffffffff \
+    Q80000000000000000000000000000000 Q0 Q7f Q1 Q1 Q80 D0,D8000000000000000 - - - - - - - - B0 H0 W0 D0\n\
+u Q7fffffffffffffffffffffffffffffff Q80000000000000000000000000000001 Q80000000000000000000000000000000 \
+    Q7fffffffffffffffffffffffffffffff Q1 Q0 Q7f Qfffffffffffffffffffffffffffffffe Qffffffffffffffffffffffffffffff7f \
+    Dffffffffffffffff,D7fffffffffffffff - - - - - - - - Bff Hffff Wffffffff Dffffffffffffffff\n\
+u Q612e7696a6cecc1b78e510617311d8a3 Q9ed18969593133e4871aef9e8cee275d Q9ed18969593133e4871aef9e8cee275c \
+    Q612e7696a6cecc1b78e510617311d8a3 Q1 Q0 Q3d Qc51b88ce8608a71ed8337365696e7486 Qa3d811736110e5781bcccea696762e61 \
+    D78e510617311d8a3,D612e7696a6cecc1b - - - - - - - - Ba3 Hd8a3 W7311d8a3 D78e510617311d8a3\n\
+u Q3e72164118072e8c35bf992dc9e9c616 Qc18de9bee7f8d173ca4066d2361639ea Qc18de9bee7f8d173ca4066d2361639e9 \
+    Q3e72164118072e8c35bf992dc9e9c616 Q2 Q1 Q3d Q68639793b499fdac3174e01882684e7c Q16c6e9c92d99bf358c2e07184116723e \
+    D35bf992dc9e9c616,D3e72164118072e8c - - - - - - - - B16 Hc616 Wc9e9c616 D35bf992dc9e9c616\n\
 b Q0 Q0 Q0 Q0 Q0 Q0 Q0 Q0 Q0 Q0 Q0 Q0 - - - - - - Q0,B0 Q0,B0 Q0,B0 Q0,B0 - B1 B0 B0 B1 B0 B1 B0 B1 B0 B1\n\
-b Q0 Qffffffffffffffffffffffffffffffff Qffffffffffffffffffffffffffffffff Q1 Q0 Q0 Qffffffffffffffffffffffffffffffff Qffffffffffffffffffffffffffffffff Qffffffffffffffffffffffffffffffff Q0 Q0 Qffffffffffffffffffffffffffffffff - - - - - - Qffffffffffffffffffffffffffffffff,B0 Qffffffffffffffffffffffffffffffff,B0 Q1,B1 Q1,B0 - B0 B1 B0 B1 B1 B0 B1 B0 B0 B1\n\
-b Q1 Qffffffffffffffffffffffffffffffff Q0 Q2 Qffffffffffffffffffffffffffffffff Q1 Qffffffffffffffffffffffffffffffff Qfffffffffffffffffffffffffffffffe Qffffffffffffffffffffffffffffffff Q1 Q1 Qffffffffffffffffffffffffffffffff - - - - - - Q0,B1 Q0,B0 Q2,B1 Q2,B0 - B0 B1 B0 B1 B1 B0 B1 B0 B0 B1\n\
-b Qffffffffffffffffffffffffffffffff Qffffffffffffffffffffffffffffffff Qfffffffffffffffffffffffffffffffe Q0 Q1 Qffffffffffffffffffffffffffffffff Qffffffffffffffffffffffffffffffff Q0 Qffffffffffffffffffffffffffffffff Qffffffffffffffffffffffffffffffff Qffffffffffffffffffffffffffffffff Qffffffffffffffffffffffffffffffff - - - - - - Qfffffffffffffffffffffffffffffffe,B1 Qfffffffffffffffffffffffffffffffe,B0 Q0,B0 Q0,B0 - B1 B0 B0 B1 B0 B1 B0 B1 B0 B1\n\
-b Qffffffffffffffffffffffffffffffff Q1 Q0 Qfffffffffffffffffffffffffffffffe Qffffffffffffffffffffffffffffffff Q1 Qffffffffffffffffffffffffffffffff Qfffffffffffffffffffffffffffffffe Qffffffffffffffffffffffffffffffff Q1 Q1 Qffffffffffffffffffffffffffffffff - - - - - - Q0,B1 Q0,B0 Qfffffffffffffffffffffffffffffffe,B0 Qfffffffffffffffffffffffffffffffe,B0 - B0 B1 B1 B0 B0 B1 B0 B1 B1 B0\n\
-b Q80000000000000000000000000000000 Qffffffffffffffffffffffffffffffff Q7fffffffffffffffffffffffffffffff Q80000000000000000000000000000001 Q80000000000000000000000000000000 Q80000000000000000000000000000000 Qffffffffffffffffffffffffffffffff Q7fffffffffffffffffffffffffffffff Q80000000000000000000000000000000 Qffffffffffffffffffffffffffffffff Q80000000000000000000000000000000 Qffffffffffffffffffffffffffffffff - - - - - - Q7fffffffffffffffffffffffffffffff,B1 Q7fffffffffffffffffffffffffffffff,B1 Q80000000000000000000000000000001,B1 Q80000000000000000000000000000001,B0 - B0 B1 B1 B0 B0 B1 B1 B0 B0 B1\n\
-b Q80000000000000000000000000000000 Q1 Q80000000000000000000000000000001 Q7fffffffffffffffffffffffffffffff Q80000000000000000000000000000000 Q0 Q80000000000000000000000000000001 Q80000000000000000000000000000001 Q80000000000000000000000000000000 Q1 Q1 Q80000000000000000000000000000000 - - - - - - Q80000000000000000000000000000001,B0 Q80000000000000000000000000000001,B0 Q7fffffffffffffffffffffffffffffff,B0 Q7fffffffffffffffffffffffffffffff,B1 - B0 B1 B1 B0 B0 B1 B0 B1 B1 B0\n\
-b Q80000000000000000000000000000000 Q80000000000000000000000000000000 Q0 Q0 Q0 Q80000000000000000000000000000000 Q80000000000000000000000000000000 Q0 Q80000000000000000000000000000000 Q80000000000000000000000000000000 Q80000000000000000000000000000000 Q80000000000000000000000000000000 - - - - - - Q0,B1 Q0,B1 Q0,B0 Q0,B0 - B1 B0 B0 B1 B0 B1 B0 B1 B0 B1\n\
-b Q7fffffffffffffffffffffffffffffff Q1 Q80000000000000000000000000000000 Q7ffffffffffffffffffffffffffffffe Q7fffffffffffffffffffffffffffffff Q1 Q7fffffffffffffffffffffffffffffff Q7ffffffffffffffffffffffffffffffe Q1 Q7fffffffffffffffffffffffffffffff Q1 Q7fffffffffffffffffffffffffffffff - - - - - - Q80000000000000000000000000000000,B0 Q80000000000000000000000000000000,B1 Q7ffffffffffffffffffffffffffffffe,B0 Q7ffffffffffffffffffffffffffffffe,B0 - B0 B1 B0 B1 B1 B0 B0 B1 B1 B0\n\
-b Q7fffffffffffffffffffffffffffffff Q7fffffffffffffffffffffffffffffff Qfffffffffffffffffffffffffffffffe Q0 Q1 Q7fffffffffffffffffffffffffffffff Q7fffffffffffffffffffffffffffffff Q0 Q7fffffffffffffffffffffffffffffff Q7fffffffffffffffffffffffffffffff Q7fffffffffffffffffffffffffffffff Q7fffffffffffffffffffffffffffffff - - - - - - Qfffffffffffffffffffffffffffffffe,B0 Qfffffffffffffffffffffffffffffffe,B1 Q0,B0 Q0,B0 - B1 B0 B0 B1 B0 B1 B0 B1 B0 B1\n\
-b Q80000000000000000000000000000000 Q7fffffffffffffffffffffffffffffff Qffffffffffffffffffffffffffffffff Q1 Q80000000000000000000000000000000 Q0 Qffffffffffffffffffffffffffffffff Qffffffffffffffffffffffffffffffff Q80000000000000000000000000000000 Q7fffffffffffffffffffffffffffffff Q7fffffffffffffffffffffffffffffff Q80000000000000000000000000000000 - - - - - - Qffffffffffffffffffffffffffffffff,B0 Qffffffffffffffffffffffffffffffff,B0 Q1,B0 Q1,B1 - B0 B1 B1 B0 B0 B1 B0 B1 B1 B0\n\
-b Q7fffffffffffffffffffffffffffffff Q80000000000000000000000000000000 Qffffffffffffffffffffffffffffffff Qffffffffffffffffffffffffffffffff Q80000000000000000000000000000000 Q0 Qffffffffffffffffffffffffffffffff Qffffffffffffffffffffffffffffffff Q80000000000000000000000000000000 Q7fffffffffffffffffffffffffffffff Q7fffffffffffffffffffffffffffffff Q80000000000000000000000000000000 - - - - - - Qffffffffffffffffffffffffffffffff,B0 Qffffffffffffffffffffffffffffffff,B0 Qffffffffffffffffffffffffffffffff,B1 Qffffffffffffffffffffffffffffffff,B1 - B0 B1 B0 B1 B1 B0 B1 B0 B0 B1\n\
-b Q612e7696a6cecc1b78e510617311d8a3 Q3e72164118072e8c35bf992dc9e9c616 Q9fa08cd7bed5faa7aea4a98f3cfb9eb9 Q22bc60558ec79d8f43257733a928128d Qf3101ef7824a1a6b3f9f055cd871b002 Q2022160000060c0830a510214101c002 Q7f7e76d7becfee9f7dff996dfbf9deb7 Q5f5c60d7bec9e2974d5a894cbaf81eb5 Q3e72164118072e8c35bf992dc9e9c616 Q612e7696a6cecc1b78e510617311d8a3 Q3e72164118072e8c35bf992dc9e9c616 Q612e7696a6cecc1b78e510617311d8a3 - - - - - - Q9fa08cd7bed5faa7aea4a98f3cfb9eb9,B0 Q9fa08cd7bed5faa7aea4a98f3cfb9eb9,B1 Q22bc60558ec79d8f43257733a928128d,B0 Q22bc60558ec79d8f43257733a928128d,B0 - B0 B1 B0 B1 B1 B0 B0 B1 B1 B0\n\
-b Q3e72164118072e8c35bf992dc9e9c616 Q612e7696a6cecc1b78e510617311d8a3 Q9fa08cd7bed5faa7aea4a98f3cfb9eb9 Qdd439faa71386270bcda88cc56d7ed73 Qf3101ef7824a1a6b3f9f055cd871b002 Q2022160000060c0830a510214101c002 Q7f7e76d7becfee9f7dff996dfbf9deb7 Q5f5c60d7bec9e2974d5a894cbaf81eb5 Q3e72164118072e8c35bf992dc9e9c616 Q612e7696a6cecc1b78e510617311d8a3 Q3e72164118072e8c35bf992dc9e9c616 Q612e7696a6cecc1b78e510617311d8a3 - - - - - - Q9fa08cd7bed5faa7aea4a98f3cfb9eb9,B0 Q9fa08cd7bed5faa7aea4a98f3cfb9eb9,B1 Qdd439faa71386270bcda88cc56d7ed73,B1 Qdd439faa71386270bcda88cc56d7ed73,B0 - B0 B1 B1 B0 B0 B1 B1 B0 B0 B1\n\
-b Q612e7696a6cecc1b78e510617311d8a3 Q0 Q612e7696a6cecc1b78e510617311d8a3 Q612e7696a6cecc1b78e510617311d8a3 Q0 Q0 Q612e7696a6cecc1b78e510617311d8a3 Q612e7696a6cecc1b78e510617311d8a3 Q0 Q612e7696a6cecc1b78e510617311d8a3 Q0 Q612e7696a6cecc1b78e510617311d8a3 - - - - - - Q612e7696a6cecc1b78e510617311d8a3,B0 Q612e7696a6cecc1b78e510617311d8a3,B0 Q612e7696a6cecc1b78e510617311d8a3,B0 Q612e7696a6cecc1b78e510617311d8a3,B0 - B0 B1 B0 B1 B1 B0 B0 B1 B1 B0\n\
-b Q612e7696a6cecc1b78e510617311d8a3 Q3 Q612e7696a6cecc1b78e510617311d8a6 Q612e7696a6cecc1b78e510617311d8a0 Q238b63c3f46c64526aaf3124593589e9 Q3 Q612e7696a6cecc1b78e510617311d8a3 Q612e7696a6cecc1b78e510617311d8a0 Q3 Q612e7696a6cecc1b78e510617311d8a3 Q3 Q612e7696a6cecc1b78e510617311d8a3 - - - - - - Q612e7696a6cecc1b78e510617311d8a6,B0 Q612e7696a6cecc1b78e510617311d8a6,B0 Q612e7696a6cecc1b78e510617311d8a0,B0 Q612e7696a6cecc1b78e510617311d8a0,B0 - B0 B1 B0 B1 B1 B0 B0 B1 B1 B0\n\
-b Q612e7696a6cecc1b78e510617311d8a3 Qfffffffffffffffffffffffffffffffe Q612e7696a6cecc1b78e510617311d8a1 Q612e7696a6cecc1b78e510617311d8a5 Q3da312d2b26267c90e35df3d19dc4eba Q612e7696a6cecc1b78e510617311d8a2 Qffffffffffffffffffffffffffffffff Q9ed18969593133e4871aef9e8cee275d Qfffffffffffffffffffffffffffffffe Q612e7696a6cecc1b78e510617311d8a3 Q612e7696a6cecc1b78e510617311d8a3 Qfffffffffffffffffffffffffffffffe - - - - - - Q612e7696a6cecc1b78e510617311d8a1,B1 Q612e7696a6cecc1b78e510617311d8a1,B0 Q612e7696a6cecc1b78e510617311d8a5,B1 Q612e7696a6cecc1b78e510617311d8a5,B0 - B0 B1 B0 B1 B1 B0 B1 B0 B0 B1\n\
+b Q0 Qffffffffffffffffffffffffffffffff Qffffffffffffffffffffffffffffffff Q1 Q0 Q0 Qffffffffffffffffffffffffffffffff \
+    Qffffffffffffffffffffffffffffffff Qffffffffffffffffffffffffffffffff Q0 Q0 Qffffffffffffffffffffffffffffffff - - - \
+    - - - Qffffffffffffffffffffffffffffffff,B0 Qffffffffffffffffffffffffffffffff,B0 Q1,B1 Q1,B0 - B0 B1 B0 B1 B1 B0 \
+    B1 B0 B0 B1\n\
+b Q1 Qffffffffffffffffffffffffffffffff Q0 Q2 Qffffffffffffffffffffffffffffffff Q1 Qffffffffffffffffffffffffffffffff \
+    Qfffffffffffffffffffffffffffffffe Qffffffffffffffffffffffffffffffff Q1 Q1 Qffffffffffffffffffffffffffffffff - - - \
+    - - - Q0,B1 Q0,B0 Q2,B1 Q2,B0 - B0 B1 B0 B1 B1 B0 B1 B0 B0 B1\n\
+b Qffffffffffffffffffffffffffffffff Qffffffffffffffffffffffffffffffff Qfffffffffffffffffffffffffffffffe Q0 Q1 \
+    Qffffffffffffffffffffffffffffffff Qffffffffffffffffffffffffffffffff Q0 Qffffffffffffffffffffffffffffffff \
+    Qffffffffffffffffffffffffffffffff Qffffffffffffffffffffffffffffffff Qffffffffffffffffffffffffffffffff - - - - - - \
+    Qfffffffffffffffffffffffffffffffe,B1 Qfffffffffffffffffffffffffffffffe,B0 Q0,B0 Q0,B0 - B1 B0 B0 B1 B0 B1 B0 B1 \
+    B0 B1\n\
+b Qffffffffffffffffffffffffffffffff Q1 Q0 Qfffffffffffffffffffffffffffffffe Qffffffffffffffffffffffffffffffff Q1 \
+    Qffffffffffffffffffffffffffffffff Qfffffffffffffffffffffffffffffffe Qffffffffffffffffffffffffffffffff Q1 Q1 \
+    Qffffffffffffffffffffffffffffffff - - - - - - Q0,B1 Q0,B0 Qfffffffffffffffffffffffffffffffe,B0 \
+    Qfffffffffffffffffffffffffffffffe,B0 - B0 B1 B1 B0 B0 B1 B0 B1 B1 B0\n\
+b Q80000000000000000000000000000000 Qffffffffffffffffffffffffffffffff Q7fffffffffffffffffffffffffffffff \
+    Q80000000000000000000000000000001 Q80000000000000000000000000000000 Q80000000000000000000000000000000 \
+    Qffffffffffffffffffffffffffffffff Q7fffffffffffffffffffffffffffffff Q80000000000000000000000000000000 \
+    Qffffffffffffffffffffffffffffffff Q80000000000000000000000000000000 Qffffffffffffffffffffffffffffffff - - - - - - \
+    Q7fffffffffffffffffffffffffffffff,B1 Q7fffffffffffffffffffffffffffffff,B1 Q80000000000000000000000000000001,B1 \
+    Q80000000000000000000000000000001,B0 - B0 B1 B1 B0 B0 B1 B1 B0 B0 B1\n\
+b Q80000000000000000000000000000000 Q1 Q80000000000000000000000000000001 Q7fffffffffffffffffffffffffffffff \
+    Q80000000000000000000000000000000 Q0 Q80000000000000000000000000000001 Q80000000000000000000000000000001 \
+    Q80000000000000000000000000000000 Q1 Q1 Q80000000000000000000000000000000 - - - - - - \
+    Q80000000000000000000000000000001,B0 Q80000000000000000000000000000001,B0 Q7fffffffffffffffffffffffffffffff,B0 \
+    Q7fffffffffffffffffffffffffffffff,B1 - B0 B1 B1 B0 B0 B1 B0 B1 B1 B0\n\
+b Q80000000000000000000000000000000 Q80000000000000000000000000000000 Q0 Q0 Q0 Q80000000000000000000000000000000 \
+    Q80000000000000000000000000000000 Q0 Q80000000000000000000000000000000 Q80000000000000000000000000000000 \
+    Q80000000000000000000000000000000 Q80000000000000000000000000000000 - - - - - - Q0,B1 Q0,B1 Q0,B0 Q0,B0 - B1 B0 \
+    B0 B1 B0 B1 B0 B1 B0 B1\n\
+b Q7fffffffffffffffffffffffffffffff Q1 Q80000000000000000000000000000000 Q7ffffffffffffffffffffffffffffffe \
+    Q7fffffffffffffffffffffffffffffff Q1 Q7fffffffffffffffffffffffffffffff Q7ffffffffffffffffffffffffffffffe Q1 \
+    Q7fffffffffffffffffffffffffffffff Q1 Q7fffffffffffffffffffffffffffffff - - - - - - \
+    Q80000000000000000000000000000000,B0 Q80000000000000000000000000000000,B1 Q7ffffffffffffffffffffffffffffffe,B0 \
+    Q7ffffffffffffffffffffffffffffffe,B0 - B0 B1 B0 B1 B1 B0 B0 B1 B1 B0\n\
+b Q7fffffffffffffffffffffffffffffff Q7fffffffffffffffffffffffffffffff Qfffffffffffffffffffffffffffffffe Q0 Q1 \
+    Q7fffffffffffffffffffffffffffffff Q7fffffffffffffffffffffffffffffff Q0 Q7fffffffffffffffffffffffffffffff \
+    Q7fffffffffffffffffffffffffffffff Q7fffffffffffffffffffffffffffffff Q7fffffffffffffffffffffffffffffff - - - - - - \
+    Qfffffffffffffffffffffffffffffffe,B0 Qfffffffffffffffffffffffffffffffe,B1 Q0,B0 Q0,B0 - B1 B0 B0 B1 B0 B1 B0 B1 \
+    B0 B1\n\
+b Q80000000000000000000000000000000 Q7fffffffffffffffffffffffffffffff Qffffffffffffffffffffffffffffffff Q1 \
+    Q80000000000000000000000000000000 Q0 Qffffffffffffffffffffffffffffffff Qffffffffffffffffffffffffffffffff \
+    Q80000000000000000000000000000000 Q7fffffffffffffffffffffffffffffff Q7fffffffffffffffffffffffffffffff \
+    Q80000000000000000000000000000000 - - - - - - Qffffffffffffffffffffffffffffffff,B0 \
+    Qffffffffffffffffffffffffffffffff,B0 Q1,B0 Q1,B1 - B0 B1 B1 B0 B0 B1 B0 B1 B1 B0\n\
+b Q7fffffffffffffffffffffffffffffff Q80000000000000000000000000000000 Qffffffffffffffffffffffffffffffff \
+    Qffffffffffffffffffffffffffffffff Q80000000000000000000000000000000 Q0 Qffffffffffffffffffffffffffffffff \
+    Qffffffffffffffffffffffffffffffff Q80000000000000000000000000000000 Q7fffffffffffffffffffffffffffffff \
+    Q7fffffffffffffffffffffffffffffff Q80000000000000000000000000000000 - - - - - - \
+    Qffffffffffffffffffffffffffffffff,B0 Qffffffffffffffffffffffffffffffff,B0 Qffffffffffffffffffffffffffffffff,B1 \
+    Qffffffffffffffffffffffffffffffff,B1 - B0 B1 B0 B1 B1 B0 B1 B0 B0 B1\n\
+b Q612e7696a6cecc1b78e510617311d8a3 Q3e72164118072e8c35bf992dc9e9c616 Q9fa08cd7bed5faa7aea4a98f3cfb9eb9 \
+    Q22bc60558ec79d8f43257733a928128d Qf3101ef7824a1a6b3f9f055cd871b002 Q2022160000060c0830a510214101c002 \
+    Q7f7e76d7becfee9f7dff996dfbf9deb7 Q5f5c60d7bec9e2974d5a894cbaf81eb5 Q3e72164118072e8c35bf992dc9e9c616 \
+    Q612e7696a6cecc1b78e510617311d8a3 Q3e72164118072e8c35bf992dc9e9c616 Q612e7696a6cecc1b78e510617311d8a3 - - - - - - \
+    Q9fa08cd7bed5faa7aea4a98f3cfb9eb9,B0 Q9fa08cd7bed5faa7aea4a98f3cfb9eb9,B1 Q22bc60558ec79d8f43257733a928128d,B0 \
+    Q22bc60558ec79d8f43257733a928128d,B0 - B0 B1 B0 B1 B1 B0 B0 B1 B1 B0\n\
+b Q3e72164118072e8c35bf992dc9e9c616 Q612e7696a6cecc1b78e510617311d8a3 Q9fa08cd7bed5faa7aea4a98f3cfb9eb9 \
+    Qdd439faa71386270bcda88cc56d7ed73 Qf3101ef7824a1a6b3f9f055cd871b002 Q2022160000060c0830a510214101c002 \
+    Q7f7e76d7becfee9f7dff996dfbf9deb7 Q5f5c60d7bec9e2974d5a894cbaf81eb5 Q3e72164118072e8c35bf992dc9e9c616 \
+    Q612e7696a6cecc1b78e510617311d8a3 Q3e72164118072e8c35bf992dc9e9c616 Q612e7696a6cecc1b78e510617311d8a3 - - - - - - \
+    Q9fa08cd7bed5faa7aea4a98f3cfb9eb9,B0 Q9fa08cd7bed5faa7aea4a98f3cfb9eb9,B1 Qdd439faa71386270bcda88cc56d7ed73,B1 \
+    Qdd439faa71386270bcda88cc56d7ed73,B0 - B0 B1 B1 B0 B0 B1 B1 B0 B0 B1\n\
+b Q612e7696a6cecc1b78e510617311d8a3 Q0 Q612e7696a6cecc1b78e510617311d8a3 Q612e7696a6cecc1b78e510617311d8a3 Q0 Q0 \
+    Q612e7696a6cecc1b78e510617311d8a3 Q612e7696a6cecc1b78e510617311d8a3 Q0 Q612e7696a6cecc1b78e510617311d8a3 Q0 \
+    Q612e7696a6cecc1b78e510617311d8a3 - - - - - - Q612e7696a6cecc1b78e510617311d8a3,B0 \
+    Q612e7696a6cecc1b78e510617311d8a3,B0 Q612e7696a6cecc1b78e510617311d8a3,B0 Q612e7696a6cecc1b78e510617311d8a3,B0 - \
+    B0 B1 B0 B1 B1 B0 B0 B1 B1 B0\n\
+b Q612e7696a6cecc1b78e510617311d8a3 Q3 Q612e7696a6cecc1b78e510617311d8a6 Q612e7696a6cecc1b78e510617311d8a0 \
+    Q238b63c3f46c64526aaf3124593589e9 Q3 Q612e7696a6cecc1b78e510617311d8a3 Q612e7696a6cecc1b78e510617311d8a0 Q3 \
+    Q612e7696a6cecc1b78e510617311d8a3 Q3 Q612e7696a6cecc1b78e510617311d8a3 - - - - - - \
+    Q612e7696a6cecc1b78e510617311d8a6,B0 Q612e7696a6cecc1b78e510617311d8a6,B0 Q612e7696a6cecc1b78e510617311d8a0,B0 \
+    Q612e7696a6cecc1b78e510617311d8a0,B0 - B0 B1 B0 B1 B1 B0 B0 B1 B1 B0\n\
+b Q612e7696a6cecc1b78e510617311d8a3 Qfffffffffffffffffffffffffffffffe Q612e7696a6cecc1b78e510617311d8a1 \
+    Q612e7696a6cecc1b78e510617311d8a5 Q3da312d2b26267c90e35df3d19dc4eba Q612e7696a6cecc1b78e510617311d8a2 \
+    Qffffffffffffffffffffffffffffffff Q9ed18969593133e4871aef9e8cee275d Qfffffffffffffffffffffffffffffffe \
+    Q612e7696a6cecc1b78e510617311d8a3 Q612e7696a6cecc1b78e510617311d8a3 Qfffffffffffffffffffffffffffffffe - - - - - - \
+    Q612e7696a6cecc1b78e510617311d8a1,B1 Q612e7696a6cecc1b78e510617311d8a1,B0 Q612e7696a6cecc1b78e510617311d8a5,B1 \
+    Q612e7696a6cecc1b78e510617311d8a5,B0 - B0 B1 B0 B1 B1 B0 B1 B0 B0 B1\n\
 s Q1 Q0 Q1 Q1 Q1 Q1 Q1\n\
 s Q1 Q1 Q2 Q0 Q0 Q2 Q80000000000000000000000000000000\n\
 s Q1 Q7f Q80000000000000000000000000000000 Q0 Q0 Q80000000000000000000000000000000 Q2\n\
@@ -255,29 +445,51 @@ s Q1 Q80 Q1 Q1 Q1 Q1 Q1\n\
 s Q1 Q81 Q2 Q0 Q0 Q2 Q80000000000000000000000000000000\n\
 s Q1 Bff Q80000000000000000000000000000000 Q0 Q0 Q80000000000000000000000000000000 Q2\n\
 s Q1 Q80000000000000000000000000000005 Q20 Q0 Q0 Q20 Q8000000000000000000000000000000\n\
-s Qffffffffffffffffffffffffffffffff Q0 Qffffffffffffffffffffffffffffffff Qffffffffffffffffffffffffffffffff Qffffffffffffffffffffffffffffffff Qffffffffffffffffffffffffffffffff Qffffffffffffffffffffffffffffffff\n\
-s Qffffffffffffffffffffffffffffffff Q1 Qfffffffffffffffffffffffffffffffe Q7fffffffffffffffffffffffffffffff Qffffffffffffffffffffffffffffffff Qffffffffffffffffffffffffffffffff Qffffffffffffffffffffffffffffffff\n\
-s Qffffffffffffffffffffffffffffffff Q7f Q80000000000000000000000000000000 Q1 Qffffffffffffffffffffffffffffffff Qffffffffffffffffffffffffffffffff Qffffffffffffffffffffffffffffffff\n\
-s Qffffffffffffffffffffffffffffffff Q80 Qffffffffffffffffffffffffffffffff Qffffffffffffffffffffffffffffffff Qffffffffffffffffffffffffffffffff Qffffffffffffffffffffffffffffffff Qffffffffffffffffffffffffffffffff\n\
-s Qffffffffffffffffffffffffffffffff Q81 Qfffffffffffffffffffffffffffffffe Q7fffffffffffffffffffffffffffffff Qffffffffffffffffffffffffffffffff Qffffffffffffffffffffffffffffffff Qffffffffffffffffffffffffffffffff\n\
-s Qffffffffffffffffffffffffffffffff Bff Q80000000000000000000000000000000 Q1 Qffffffffffffffffffffffffffffffff Qffffffffffffffffffffffffffffffff Qffffffffffffffffffffffffffffffff\n\
-s Qffffffffffffffffffffffffffffffff Q80000000000000000000000000000005 Qffffffffffffffffffffffffffffffe0 Q7ffffffffffffffffffffffffffffff Qffffffffffffffffffffffffffffffff Qffffffffffffffffffffffffffffffff Qffffffffffffffffffffffffffffffff\n\
-s Q80000000000000000000000000000000 Q0 Q80000000000000000000000000000000 Q80000000000000000000000000000000 Q80000000000000000000000000000000 Q80000000000000000000000000000000 Q80000000000000000000000000000000\n\
-s Q80000000000000000000000000000000 Q1 Q0 Q40000000000000000000000000000000 Qc0000000000000000000000000000000 Q1 Q40000000000000000000000000000000\n\
+s Qffffffffffffffffffffffffffffffff Q0 Qffffffffffffffffffffffffffffffff Qffffffffffffffffffffffffffffffff \
+    Qffffffffffffffffffffffffffffffff Qffffffffffffffffffffffffffffffff Qffffffffffffffffffffffffffffffff\n\
+s Qffffffffffffffffffffffffffffffff Q1 Qfffffffffffffffffffffffffffffffe Q7fffffffffffffffffffffffffffffff \
+    Qffffffffffffffffffffffffffffffff Qffffffffffffffffffffffffffffffff Qffffffffffffffffffffffffffffffff\n\
+s Qffffffffffffffffffffffffffffffff Q7f Q80000000000000000000000000000000 Q1 Qffffffffffffffffffffffffffffffff \
+    Qffffffffffffffffffffffffffffffff Qffffffffffffffffffffffffffffffff\n\
+s Qffffffffffffffffffffffffffffffff Q80 Qffffffffffffffffffffffffffffffff Qffffffffffffffffffffffffffffffff \
+    Qffffffffffffffffffffffffffffffff Qffffffffffffffffffffffffffffffff Qffffffffffffffffffffffffffffffff\n\
+s Qffffffffffffffffffffffffffffffff Q81 Qfffffffffffffffffffffffffffffffe Q7fffffffffffffffffffffffffffffff \
+    Qffffffffffffffffffffffffffffffff Qffffffffffffffffffffffffffffffff Qffffffffffffffffffffffffffffffff\n\
+s Qffffffffffffffffffffffffffffffff Bff Q80000000000000000000000000000000 Q1 Qffffffffffffffffffffffffffffffff \
+    Qffffffffffffffffffffffffffffffff Qffffffffffffffffffffffffffffffff\n\
+s Qffffffffffffffffffffffffffffffff Q80000000000000000000000000000005 Qffffffffffffffffffffffffffffffe0 \
+    Q7ffffffffffffffffffffffffffffff Qffffffffffffffffffffffffffffffff Qffffffffffffffffffffffffffffffff \
+    Qffffffffffffffffffffffffffffffff\n\
+s Q80000000000000000000000000000000 Q0 Q80000000000000000000000000000000 Q80000000000000000000000000000000 \
+    Q80000000000000000000000000000000 Q80000000000000000000000000000000 Q80000000000000000000000000000000\n\
+s Q80000000000000000000000000000000 Q1 Q0 Q40000000000000000000000000000000 Qc0000000000000000000000000000000 Q1 \
+    Q40000000000000000000000000000000\n\
 s Q80000000000000000000000000000000 Q7f Q0 Q1 Qffffffffffffffffffffffffffffffff Q40000000000000000000000000000000 Q1\n\
-s Q80000000000000000000000000000000 Q80 Q80000000000000000000000000000000 Q80000000000000000000000000000000 Q80000000000000000000000000000000 Q80000000000000000000000000000000 Q80000000000000000000000000000000\n\
-s Q80000000000000000000000000000000 Q81 Q0 Q40000000000000000000000000000000 Qc0000000000000000000000000000000 Q1 Q40000000000000000000000000000000\n\
+s Q80000000000000000000000000000000 Q80 Q80000000000000000000000000000000 Q80000000000000000000000000000000 \
+    Q80000000000000000000000000000000 Q80000000000000000000000000000000 Q80000000000000000000000000000000\n\
+s Q80000000000000000000000000000000 Q81 Q0 Q40000000000000000000000000000000 Qc0000000000000000000000000000000 Q1 \
+    Q40000000000000000000000000000000\n\
 s Q80000000000000000000000000000000 Bff Q0 Q1 Qffffffffffffffffffffffffffffffff Q40000000000000000000000000000000 Q1\n\
-s Q80000000000000000000000000000000 Q80000000000000000000000000000005 Q0 Q4000000000000000000000000000000 Qfc000000000000000000000000000000 Q10 Q4000000000000000000000000000000\n\
-s Q612e7696a6cecc1b78e510617311d8a3 Q0 Q612e7696a6cecc1b78e510617311d8a3 Q612e7696a6cecc1b78e510617311d8a3 Q612e7696a6cecc1b78e510617311d8a3 Q612e7696a6cecc1b78e510617311d8a3 Q612e7696a6cecc1b78e510617311d8a3\n\
-s Q612e7696a6cecc1b78e510617311d8a3 Q1 Qc25ced2d4d9d9836f1ca20c2e623b146 Q30973b4b5367660dbc728830b988ec51 Q30973b4b5367660dbc728830b988ec51 Qc25ced2d4d9d9836f1ca20c2e623b146 Qb0973b4b5367660dbc728830b988ec51\n\
-s Q612e7696a6cecc1b78e510617311d8a3 Q7f Q80000000000000000000000000000000 Q0 Q0 Qb0973b4b5367660dbc728830b988ec51 Qc25ced2d4d9d9836f1ca20c2e623b146\n\
-s Q612e7696a6cecc1b78e510617311d8a3 Q80 Q612e7696a6cecc1b78e510617311d8a3 Q612e7696a6cecc1b78e510617311d8a3 Q612e7696a6cecc1b78e510617311d8a3 Q612e7696a6cecc1b78e510617311d8a3 Q612e7696a6cecc1b78e510617311d8a3\n\
-s Q612e7696a6cecc1b78e510617311d8a3 Q81 Qc25ced2d4d9d9836f1ca20c2e623b146 Q30973b4b5367660dbc728830b988ec51 Q30973b4b5367660dbc728830b988ec51 Qc25ced2d4d9d9836f1ca20c2e623b146 Qb0973b4b5367660dbc728830b988ec51\n\
-s Q612e7696a6cecc1b78e510617311d8a3 Bff Q80000000000000000000000000000000 Q0 Q0 Qb0973b4b5367660dbc728830b988ec51 Qc25ced2d4d9d9836f1ca20c2e623b146\n\
-s Q612e7696a6cecc1b78e510617311d8a3 Q80000000000000000000000000000005 Q25ced2d4d9d9836f1ca20c2e623b1460 Q30973b4b5367660dbc728830b988ec5 Q30973b4b5367660dbc728830b988ec5 Q25ced2d4d9d9836f1ca20c2e623b146c Q1b0973b4b5367660dbc728830b988ec5\n\
+s Q80000000000000000000000000000000 Q80000000000000000000000000000005 Q0 Q4000000000000000000000000000000 \
+    Qfc000000000000000000000000000000 Q10 Q4000000000000000000000000000000\n\
+s Q612e7696a6cecc1b78e510617311d8a3 Q0 Q612e7696a6cecc1b78e510617311d8a3 Q612e7696a6cecc1b78e510617311d8a3 \
+    Q612e7696a6cecc1b78e510617311d8a3 Q612e7696a6cecc1b78e510617311d8a3 Q612e7696a6cecc1b78e510617311d8a3\n\
+s Q612e7696a6cecc1b78e510617311d8a3 Q1 Qc25ced2d4d9d9836f1ca20c2e623b146 Q30973b4b5367660dbc728830b988ec51 \
+    Q30973b4b5367660dbc728830b988ec51 Qc25ced2d4d9d9836f1ca20c2e623b146 Qb0973b4b5367660dbc728830b988ec51\n\
+s Q612e7696a6cecc1b78e510617311d8a3 Q7f Q80000000000000000000000000000000 Q0 Q0 Qb0973b4b5367660dbc728830b988ec51 \
+    Qc25ced2d4d9d9836f1ca20c2e623b146\n\
+s Q612e7696a6cecc1b78e510617311d8a3 Q80 Q612e7696a6cecc1b78e510617311d8a3 Q612e7696a6cecc1b78e510617311d8a3 \
+    Q612e7696a6cecc1b78e510617311d8a3 Q612e7696a6cecc1b78e510617311d8a3 Q612e7696a6cecc1b78e510617311d8a3\n\
+s Q612e7696a6cecc1b78e510617311d8a3 Q81 Qc25ced2d4d9d9836f1ca20c2e623b146 Q30973b4b5367660dbc728830b988ec51 \
+    Q30973b4b5367660dbc728830b988ec51 Qc25ced2d4d9d9836f1ca20c2e623b146 Qb0973b4b5367660dbc728830b988ec51\n\
+s Q612e7696a6cecc1b78e510617311d8a3 Bff Q80000000000000000000000000000000 Q0 Q0 Qb0973b4b5367660dbc728830b988ec51 \
+    Qc25ced2d4d9d9836f1ca20c2e623b146\n\
+s Q612e7696a6cecc1b78e510617311d8a3 Q80000000000000000000000000000005 Q25ced2d4d9d9836f1ca20c2e623b1460 \
+    Q30973b4b5367660dbc728830b988ec5 Q30973b4b5367660dbc728830b988ec5 Q25ced2d4d9d9836f1ca20c2e623b146c \
+    Q1b0973b4b5367660dbc728830b988ec5\n\
 t Q0 Q612e7696a6cecc1b78e510617311d8a3 Q3e72164118072e8c35bf992dc9e9c616 Q3e72164118072e8c35bf992dc9e9c616\n\
-t Q80000000000000000000000000000000 Q612e7696a6cecc1b78e510617311d8a3 Q3e72164118072e8c35bf992dc9e9c616 Q612e7696a6cecc1b78e510617311d8a3\n\
+t Q80000000000000000000000000000000 Q612e7696a6cecc1b78e510617311d8a3 Q3e72164118072e8c35bf992dc9e9c616 \
+    Q612e7696a6cecc1b78e510617311d8a3\n\
 t B1 Q612e7696a6cecc1b78e510617311d8a3 Q3e72164118072e8c35bf992dc9e9c616 Q612e7696a6cecc1b78e510617311d8a3\n\
 t Q0 Q612e7696a6cecc1b78e510617311d8a3 Q3e72164118072e8c35bf992dc9e9c616 Q3e72164118072e8c35bf992dc9e9c616\n\
 b B1 H1 - - - - - - - - - - - - - - - - - - - - - - - - - - - - - - -\n\

@@ -161,8 +161,8 @@ impl Func {
         self.first.is_some() && self.defined == self.types.len()
     }
 
-    /// The function's size: the number of its parts that the limits on sizes count. The greatest number of the type where
-    /// it is greater.
+    /// The function's size: the number of its parts that the limits on sizes count. The greatest number of the type
+    /// where it is greater.
     pub fn size(&self) -> usize
         ensures { result ≡ capped (size_of self.now.function) }
     {

@@ -1,10 +1,12 @@
 //! Calls that change a function in place and take no memory.
-ghost use Rattle.std.specs.Prelude.{All, ◌≡◌, ◌≢◌, ℕ, ◌+◌, ◌-◌, ◌<◌, ◌≤◌, ◌++◌, ◌^◌, List, [], ◌∷◌, length, map, take, drop, slice_get, vec_len, vec_capacity, insert, IfOk, OnOk, OnErr};
+ghost use Rattle.std.specs.Prelude.{All, ◌≡◌, ◌≢◌, ℕ, ◌+◌, ◌-◌, ◌<◌, ◌≤◌, ◌++◌, ◌^◌, List, [], ◌∷◌, length, map, take};
+ghost use Rattle.std.specs.Prelude.{drop, slice_get, vec_len, vec_capacity, insert, IfOk, OnOk, OnErr};
 ghost use Rattle.std.specs.List.{enumerate_from};
 ghost use Rattle.ir_core.specs.Lookup.{block_numbers, definitions};
 ghost use Rattle.ir_core.specs.Lists.{In, Different, Below, Each};
 ghost use Rattle.ir_core.specs.Sound.{CanAdd, LineInRange, counts_of, instruction_count};
-ghost use Rattle.ir_core.specs.Edits.{HasRoom, at_block, insert_after, put_param, put_line, lines_of, with_lines, change_last};
+ghost use Rattle.ir_core.specs.Edits.{HasRoom, at_block, insert_after, put_param, put_line, lines_of, with_lines};
+ghost use Rattle.ir_core.specs.Edits.{change_last};
 ghost use Rattle.ir_core.specs.Viewed.{line_of};
 ghost use Rattle.ir_core.specs.Shift.{shifted};
 
@@ -21,7 +23,8 @@ use std::alloc::{AllocError, Global};
 use std::mem;
 
 impl Func {
-    /// Makes room for so many more of each kind. All lists are as before, and no room shrinks. Only `AllocError` refuses.
+    /// Makes room for so many more of each kind. All lists are as before, and no room shrinks. Only `AllocError`
+    /// refuses.
     pub fn reserve(&mut self, room: Room) -> Result<(), AllocError>
         ensures same { self.new.function ≡ self.old.function }
         ensures ok { OnOk result (HasRoom room self.new.room) }
@@ -36,8 +39,8 @@ impl Func {
         Ok(())
     }
 
-    /// Appends slots, signatures, callees and values of these types, for which there is room. A callee may name one of the
-    /// new signatures.
+    /// Appends slots, signatures, callees and values of these types, for which there is room. A callee may name one of
+    /// the new signatures.
     pub fn append(
         &mut self,
         slots: List<SlotDecl>,
@@ -45,14 +48,36 @@ impl Func {
         callees: List<Callee>,
         values: List<Ty>,
     )
-        requires room { HasRoom (record { slots = length slots; sigs = length sigs; callees = length callees; values = length values; blocks = 0; insts = 0 }) self.old.room }
+        requires room { HasRoom
+            (record {
+              slots = length slots;
+              sigs = length sigs;
+              callees = length callees;
+              values = length values;
+              blocks = 0;
+              insts = 0;
+            }) self.old.room }
         requires few_slots { length self.old.function.slots + length slots < 2 ^ 32 - 1 }
         requires few_sigs { length self.old.function.sigs + length sigs < 2 ^ 32 - 1 }
         requires few_callees { length self.old.function.callees + length callees < 2 ^ 32 - 1 }
         requires few_values { length self.old.function.types + length values < 2 ^ 32 - 1 }
         requires in_range { Each (λ callee. callee.sig < length self.old.function.sigs + length sigs) callees }
-        ensures body { self.new.function ≡ record self.old.function { slots = self.old.function.slots ++ slots; sigs = self.old.function.sigs ++ sigs; callees = self.old.function.callees ++ callees; types = self.old.function.types ++ enumerate_from (length self.old.function.types) values } }
-        ensures room { HasRoom self.old.room (record self.new.room { slots = self.new.room.slots + length slots; sigs = self.new.room.sigs + length sigs; callees = self.new.room.callees + length callees; values = self.new.room.values + length values }) }
+        ensures body { self.new.function
+            ≡ record self.old.function {
+              slots = self.old.function.slots ++ slots;
+              sigs = self.old.function.sigs
+                  ++ sigs;
+              callees = self.old.function.callees ++ callees;
+              types = self.old.function.types
+                  ++ enumerate_from (length self.old.function.types) values;
+            } }
+        ensures room { HasRoom self.old.room
+            (record self.new.room {
+              slots = self.new.room.slots + length slots;
+              sigs = self.new.room.sigs + length sigs;
+              callees = self.new.room.callees + length callees;
+              values = self.new.room.values + length values;
+            }) }
     {
         append_reserved(&mut self.slots, slots);
         append_reserved(&mut self.sigs, sigs);
@@ -68,7 +93,11 @@ impl Func {
         requires declared { Below (length self.old.function.types) params }
         requires different { Different params }
         requires undefined { (v : ℕ) → In v params → In v (definitions self.old.function.blocks) → ⊥ }
-        ensures body { self.new.function ≡ record self.old.function { blocks = insert_after after (record { number = result; params = params; lines = [] }) self.old.function.blocks } }
+        ensures body { self.new.function
+            ≡ record self.old.function {
+              blocks = insert_after after (record { number = result; params = params; lines = [] })
+                  self.old.function.blocks;
+            } }
         ensures number { result ≡ length self.old.function.blocks }
         ensures room { self.old.room ≡ record self.new.room { blocks = self.new.room.blocks + 1 } }
         ensures blocks_differ { Different (block_numbers self.old.function.blocks) }
@@ -102,7 +131,8 @@ impl Func {
         requires undefined { (v : ℕ) → In v added.results → In v (definitions self.old.function.blocks) → ⊥ }
         requires few { CanAdd (instruction_count self.old.function.blocks) }
         requires room { 0 < self.old.room.insts }
-        ensures body { self.new.function ≡ record self.old.function { blocks = at_block block (put_line (line_of added)) self.old.function.blocks } }
+        ensures body { self.new.function
+            ≡ record self.old.function { blocks = at_block block (put_line (line_of added)) self.old.function.blocks } }
         ensures room { self.new.room ≡ record self.old.room { insts = self.new.room.insts } }
         ensures room_insts { self.old.room.insts ≤ self.new.room.insts + 1 }
     {
@@ -133,7 +163,9 @@ impl Func {
     pub fn take_last(&mut self, block: Block) -> InstData
         requires there { In block (block_numbers self.old.function.blocks) }
         requires some { lines_of block self.old.function.blocks ≢ [] }
-        ensures body { self.old.function ≡ record self.new.function { blocks = at_block block (put_line (line_of result)) self.new.function.blocks } }
+        ensures body { self.old.function
+            ≡ record self.new.function
+            { blocks = at_block block (put_line (line_of result)) self.new.function.blocks } }
         ensures room { self.new.room ≡ self.old.room }
     {
         let entry = &mut self.blocks[block.number() as usize];
@@ -151,7 +183,12 @@ impl Func {
         requires other { block ≢ into }
         requires within { index ≤ length (lines_of block self.old.function.blocks) }
         requires empty { lines_of into self.old.function.blocks ≡ [] }
-        ensures body { self.new.function ≡ record self.old.function { blocks = at_block into (with_lines (drop index (lines_of block self.old.function.blocks))) (at_block block (with_lines (take index (lines_of block self.old.function.blocks))) self.old.function.blocks) } }
+        ensures body { self.new.function
+            ≡ record self.old.function {
+              blocks = at_block into (with_lines (drop index (lines_of block self.old.function.blocks)))
+                  (at_block block (with_lines (take index (lines_of block self.old.function.blocks)))
+                  self.old.function.blocks);
+            } }
         ensures room { self.new.room ≡ self.old.room }
     {
         let index = index as usize;

@@ -1,5 +1,5 @@
 use Rattle.std.proofs.Common.{◌<◌, ◌≤◌, ℕ}
-use Rattle.clif_lex.specs.Pieces.{IsLineWith}
+use Rattle.clif_lex.specs.Stretches.{IsLineWith}
 use Rattle.clif_lex.proofs.lines.next_line_with.Given as goal
 
 abbrev pub invariant-bytes : goal.invariant-bytes

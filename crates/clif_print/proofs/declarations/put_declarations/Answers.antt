@@ -1,6 +1,6 @@
 use Rattle.std.proofs.Common.{◌∷◌, suc, ℕ, List, drop, ap, sym, ◌∙◌, drop-cons, add-one}
-use Rattle.ir_core.specs.Pieces.{spelled}
-use Rattle.ir_core.specs.Text.{declarations}
+use Rattle.ir_text.specs.TextTree.{spelled}
+use Rattle.ir_text.specs.TextDeclarations.{declarations}
 use Rattle.clif_print.proofs.Puts.{goes}
 use Rattle.clif_print.proofs.declarations.put_declarations.Goals as goal
 

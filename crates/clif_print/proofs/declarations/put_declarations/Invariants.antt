@@ -1,6 +1,6 @@
 use Rattle.std.proofs.Common.{drop}
-use Rattle.ir_core.specs.Pieces.{spelled}
-use Rattle.ir_core.specs.Text.{declarations}
+use Rattle.ir_text.specs.TextTree.{spelled}
+use Rattle.ir_text.specs.TextDeclarations.{declarations}
 use Rattle.clif_print.proofs.Puts.{Going}
 use Rattle.clif_print.proofs.declarations.put_declarations.Given as goal
 

@@ -2,13 +2,13 @@ use Rattle.std.proofs.Common.{◌++◌, List, ℕ, length, ap, sym, subst, arith
 use Rattle.ir_core.specs.Edits.{params_of, lines_of}
 use Rattle.ir_core.specs.Lookup.{definitions, line_definitions}
 use Rattle.ir_core.specs.Module.{Block}
-use Rattle.ir_core.specs.Pieces.{spelled}
-use Rattle.ir_core.specs.Text.{blocks}
+use Rattle.ir_text.specs.TextTree.{spelled}
+use Rattle.ir_text.specs.Text.{blocks}
 use Rattle.clif_print.specs.Output.{Puts}
-use Rattle.clif_print.specs.Walk.{blocks_at}
-use Rattle.clif_print.proofs.Blocks.{first_block}
+use Rattle.clif_numbers.specs.Walk.{blocks_at}
+use Rattle.clif_numbers.proofs.Blocks.{first_block}
 use Rattle.clif_print.proofs.Puts.{◌▸◌}
-use Rattle.clif_print.proofs.Ranges.{all_few}
+use Rattle.clif_numbers.proofs.Ranges.{all_few}
 use Rattle.clif_print.proofs.functions.put_blocks.Goals as goal
 
 pub put_block-next-requires-clause-few : goal.put_block-next-requires-clause-few

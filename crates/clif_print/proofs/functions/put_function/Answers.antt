@@ -1,7 +1,7 @@
 use Rattle.std.proofs.Common.{subst}
-use Rattle.ir_core.specs.Numbering.{Numbering}
-use Rattle.ir_core.specs.Pieces.{spelled}
-use Rattle.ir_core.specs.Text.{blocks}
+use Rattle.ir_text.specs.Numbering.{Numbering}
+use Rattle.ir_text.specs.TextTree.{spelled}
+use Rattle.ir_text.specs.Text.{blocks}
 use Rattle.clif_print.specs.Output.{Puts}
 use Rattle.clif_print.proofs.Puts.{◌▸◌}
 use Rattle.clif_print.proofs.functions.put_function.Goals as goal

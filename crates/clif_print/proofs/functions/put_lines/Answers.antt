@@ -1,8 +1,8 @@
 use Rattle.std.proofs.Common.{◌≡◌, ◌∷◌, List, length, map, ap, arith, length-append}
 use Rattle.ir_core.specs.Lookup.{line_definitions}
 use Rattle.ir_core.specs.Module.{Line}
-use Rattle.ir_core.specs.Pieces.{spelled}
-use Rattle.ir_core.specs.Text.{lines}
+use Rattle.ir_text.specs.TextTree.{spelled}
+use Rattle.ir_text.specs.Text.{lines}
 use Rattle.ir_core.specs.Viewed.{line_of}
 use Rattle.clif_print.proofs.Puts.{goes}
 use Rattle.clif_print.proofs.functions.put_lines.Goals as goal

@@ -1,7 +1,7 @@
 use Rattle.std.proofs.Common.{◌≡◌, ◌+◌, length, map}
 use Rattle.ir_core.specs.Lookup.{line_definitions}
-use Rattle.ir_core.specs.Pieces.{spelled}
-use Rattle.ir_core.specs.Text.{lines}
+use Rattle.ir_text.specs.TextTree.{spelled}
+use Rattle.ir_text.specs.Text.{lines}
 use Rattle.ir_core.specs.Viewed.{line_of}
 use Rattle.clif_print.proofs.Puts.{Going}
 use Rattle.clif_print.proofs.functions.put_lines.Given as goal

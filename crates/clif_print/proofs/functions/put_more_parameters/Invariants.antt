@@ -1,6 +1,6 @@
 use Rattle.std.proofs.Common.{length}
-use Rattle.ir_core.specs.Pieces.{spelled, more}
-use Rattle.ir_core.specs.Text.{block_parameter}
+use Rattle.ir_text.specs.TextTree.{spelled, more}
+use Rattle.ir_text.specs.Text.{block_parameter}
 use Rattle.clif_print.proofs.Puts.{Going}
 use Rattle.clif_print.proofs.functions.put_more_parameters.Given as goal
 

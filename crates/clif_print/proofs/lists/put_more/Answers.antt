@@ -1,5 +1,5 @@
 use Rattle.std.proofs.Common.{List, ap}
-use Rattle.ir_core.specs.Pieces.{spelled, more}
+use Rattle.ir_text.specs.TextTree.{spelled, more}
 use Rattle.clif_print.proofs.Puts.{goes, ◌▸◌}
 use Rattle.clif_print.proofs.lists.put_more.Goals as goal
 

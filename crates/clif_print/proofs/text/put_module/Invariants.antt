@@ -1,6 +1,6 @@
 use Rattle.std.proofs.Common.{drop}
-use Rattle.ir_core.specs.Pieces.{spelled}
-use Rattle.ir_core.specs.Text.{more_functions, text_of}
+use Rattle.ir_text.specs.TextTree.{spelled}
+use Rattle.ir_text.specs.Text.{more_functions, text_of}
 use Rattle.clif_print.proofs.Puts.{Going}
 use Rattle.clif_print.proofs.text.put_module.Given as goal
 

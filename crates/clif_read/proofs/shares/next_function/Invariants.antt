@@ -1,5 +1,5 @@
 use Rattle.std.proofs.Common.{◌-◌}
-use Rattle.clif_read.specs.Pieces.{IsShare}
+use Rattle.clif_read.specs.Stretches.{IsShare}
 use Rattle.clif_read.proofs.shares.next_function.Given as goal
 
 abbrev pub invariant-tokens : goal.invariant-tokens

@@ -2,7 +2,7 @@ use Rattle.std.proofs.Common.{[], sym, subst}
 use Rattle.std.proofs.lemmas.Option.{IfSome_then}
 use Rattle.clif_words.specs.Lexemes.{lexemes}
 use Rattle.clif_read.specs.Texts.{IsModule}
-use Rattle.clif_read.proofs.PieceLaws.{whole_share, no_share, none_listed, whole_list}
+use Rattle.clif_read.proofs.StretchLaws.{whole_share, no_share, none_listed, whole_list}
 use Rattle.clif_read.proofs.shares.read_in_shares.Goals as goal
 
 pub next_function-first-requires : goal.next_function-first-requires

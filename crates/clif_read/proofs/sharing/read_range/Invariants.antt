@@ -1,9 +1,9 @@
 use Rattle.std.proofs.Common.{◌-◌}
-use Rattle.clif_read.specs.Pieces.{Follow}
+use Rattle.clif_read.specs.Stretches.{Follow}
 use Rattle.clif_read.proofs.sharing.read_range.Given as goal
 
-abbrev pub invariant-pieces : goal.invariant-pieces
-invariant-pieces g l = g.P.Ranges.range l.fn.ranges l.at l.fn.end × Follow (g.P.Ranges.stand l.fn.ranges) l.fn.from l.at l.found.items
+abbrev pub invariant-stretches : goal.invariant-stretches
+invariant-stretches g l = g.P.Ranges.range l.fn.ranges l.at l.fn.end × Follow (g.P.Ranges.stand l.fn.ranges) l.fn.from l.at l.found.items
 
-abbrev pub decreases-pieces : goal.decreases-pieces
-decreases-pieces g l = l.fn.end - l.at
+abbrev pub decreases-stretches : goal.decreases-stretches
+decreases-stretches g l = l.fn.end - l.at

@@ -1,4 +1,4 @@
-use Rattle.clif_lex.proofs.Pieces.{tokens_are_in}
+use Rattle.clif_lex.proofs.Stretches.{tokens_are_in}
 use Rattle.clif_read.specs.SimpleWords.{rest}
 use Rattle.clif_read.proofs.SimpleWhole.{found, is_only, not_simple}
 use Rattle.clif_read.proofs.simple.read_simple.Goals as goal

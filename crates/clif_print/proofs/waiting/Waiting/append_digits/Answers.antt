@@ -9,14 +9,11 @@ overflow_add-end c = omega (arith, c.digits.ensures, length_most c.args.number (
 pub write_digits-requires : goal.write_digits-requires
 write_digits-requires c =
     let waits : length c.args.self.now ≡ c.self.inside.len = ap length (sym c.self.view_is) ∙ length-take-le c.self.inside.len c.self.inside.bytes (omega (arith, c.self.invariant, c.self.told)) in
-    let same : length (decimal c.from.result) ≡ length (decimal c.args.number) = ap (λ (n : ℕ). length (decimal n)) c.from.ensures in
     let most = length_most c.args.number (omega (arith, c.ranges.number.fits)) in
-    (omega (arith, same, c.digits.ensures), omega (arith, waits, c.requires, c.digits.ensures, most, c.self.told))
+    (omega (arith, c.digits.ensures), omega (arith, waits, c.requires, c.digits.ensures, most, c.self.told))
 
 pub returns : goal.returns
 returns c =
-    let same : decimal c.from.result ≡ decimal c.args.number = ap decimal c.from.ensures in
-    let end : c.self.inside.len + c.digits.result ≡ c.self.inside.len + length (decimal c.from.result) = ap (λ (n : ℕ). c.self.inside.len + n) (c.digits.ensures ∙ ap length (sym same)) in
-    digits_behind c.self.inside.bytes c.write_digits.new.buf (decimal c.from.result) c.self.inside.len (c.self.inside.len + c.digits.result) c.write_digits.result c.write_digits.ensures.start end c.write_digits.ensures.written c.write_digits.ensures.before
-    ∙ ap (λ (l : List ℕ). l ++ decimal c.from.result) c.self.view_is
-    ∙ ap (λ (l : List ℕ). c.args.self.now ++ l) same
+    let end : c.self.inside.len + c.digits.result ≡ c.self.inside.len + length (decimal c.args.number) = ap (λ (n : ℕ). c.self.inside.len + n) c.digits.ensures in
+    digits_behind c.self.inside.bytes c.write_digits.new.buf (decimal c.args.number) c.self.inside.len (c.self.inside.len + c.digits.result) c.write_digits.result c.write_digits.ensures.start end c.write_digits.ensures.written c.write_digits.ensures.before
+    ∙ ap (λ (l : List ℕ). l ++ decimal c.args.number) c.self.view_is

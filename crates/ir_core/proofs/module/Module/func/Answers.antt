@@ -3,7 +3,7 @@ use Rattle.std.specs.Prelude.{slice_get}
 use Rattle.std.proofs.lemmas.List.{length-map}
 use Rattle.std.proofs.lemmas.Option.{slice_get_read}
 use Rattle.ir_core.specs.Sound.{IsWhole}
-use Rattle.ir_core.specs.Whole.{Whole}
+use Rattle.ir_core.specs.WellFormed.{WellFormed}
 use Rattle.ir_core.specs.Named.{function_in}
 use Rattle.ir_core.proofs.Indexing.{each_mapped}
 use Rattle.ir_core.proofs.module.Module.func.Goals as goal
@@ -14,7 +14,7 @@ place c =
     slice_get_read c.self.inside.funcs.items (length c.self.inside.funcs.items) c.args.i c.index.result.now refl within c.index.ensures
 
 pub returns-clause-whole : goal.returns-clause-whole
-returns-clause-whole c = each_mapped Whole function_in c.self.inside.funcs.items c.args.i c.index.result.now c.self.invariant.functions.whole (place c)
+returns-clause-whole c = each_mapped WellFormed function_in c.self.inside.funcs.items c.args.i c.index.result.now c.self.invariant.functions.whole (place c)
 
 pub returns-clause-defined : goal.returns-clause-defined
 returns-clause-defined c = each_mapped IsWhole function_in c.self.inside.funcs.items c.args.i c.index.result.now c.self.invariant.defined (place c)

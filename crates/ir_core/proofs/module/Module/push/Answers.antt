@@ -6,7 +6,7 @@ use Rattle.ir_core.specs.declared.names.FuncName.TheVariants as name
 use Rattle.ir_core.specs.Lookup.{find_function}
 use Rattle.ir_core.specs.Lists.{Each}
 use Rattle.ir_core.specs.Sound.{IsWhole}
-use Rattle.ir_core.specs.Whole.{Whole, IsModule}
+use Rattle.ir_core.specs.WellFormed.{WellFormed, IsModule}
 use Rattle.ir_core.specs.Named.{function_in, functions_of, place_of, compare_texts, compare_users}
 use Rattle.ir_core.proofs.Members.{each_join}
 use Rattle.ir_core.proofs.Wholeness.{whole_of, names_more}
@@ -28,7 +28,7 @@ functions c =
     let before : IsModule (functions_of c.self.inside) = c.self.invariant.functions in
     record {
       names = names_more (functions_of c.self.inside) c.args.func.function before.names (new c);
-      whole = each_join Whole (functions_of c.self.inside) (c.args.func.function ∷ []) before.whole (whole_of c.args.func.function c.name.ensures.sound c.requires.whole, tt);
+      whole = each_join WellFormed (functions_of c.self.inside) (c.args.func.function ∷ []) before.whole (whole_of c.args.func.function c.name.ensures.sound c.requires.whole, tt);
     }
 
 pub invariant_of-self-2 : goal.invariant_of-self-2

@@ -1,0 +1,4 @@
+pub mod Blocks
+pub mod Left
+pub mod PlacesLemmas
+pub mod Ranges

@@ -1,0 +1,11 @@
+use Rattle.std.proofs.Common.{◌≡◌, ◌++◌, ℕ}
+use Rattle.ir_core.specs.Lists.{In}
+use Rattle.ir_core.specs.Lookup.{block_numbers, definitions}
+use Rattle.clif_numbers.specs.Walk.{blocks_at}
+use Rattle.clif_numbers.proofs.numbers.definitions.Given as goal
+
+abbrev pub invariant-loop-block : goal.invariant-loop-block
+invariant-loop-block l = record {
+  left : l.order.items ++ definitions (blocks_at l.func.function.blocks l.block-iterator) ≡ definitions l.func.function.blocks;
+  there : (n : ℕ) → In n l.block-iterator → In n (block_numbers l.func.function.blocks);
+}

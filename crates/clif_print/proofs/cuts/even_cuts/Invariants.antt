@@ -1,9 +1,0 @@
-use Rattle.std.proofs.Common.{◌≤◌, ◌-◌, length}
-use Rattle.clif_print.specs.Parts.{AreCuts}
-use Rattle.clif_print.proofs.cuts.even_cuts.Given as goal
-
-abbrev pub invariant-loop-i : goal.invariant-loop-i
-invariant-loop-i l = record {
-  are : AreCuts l.reached.func (l.i - 1) l.cuts.items;
-  within : l.reached.func ≤ length l.module;
-}

@@ -1,5 +1,0 @@
-use Rattle.clif_print.proofs.Puts.{◌▸◌}
-use Rattle.clif_print.proofs.instructions.put_trapnz.Goals as goal
-
-pub returns : goal.returns
-returns g c = c.put.ensures ▸ c.put_suffix_if.ensures ▸ c.put-2.ensures ▸ c.put_value.ensures ▸ c.put-3.ensures ▸ c.put_trap_code.ensures

@@ -1,7 +1,0 @@
-use Rattle.ir_core.specs.Sound.{counts_of}
-use Rattle.clif_print.proofs.Ranges.{below_blocks}
-use Rattle.clif_print.proofs.numbers.func_numbers.Goals as goal
-
-pub new-requires-clause-range : goal.new-requires-clause-range
-new-requires-clause-range c =
-    rw (c.values.ensures.count, c.in_ok-values.ensures) (below_blocks (counts_of c.args.func.now.function) c.args.func.now.function.blocks c.values.ensures.sound.blocks)

@@ -1,6 +1,0 @@
-use Rattle.std.proofs.Common.{◌≡◌, ◌++◌, drop}
-use Rattle.ir_core.specs.Numbering.{numberings_of}
-use Rattle.clif_print.proofs.numbers.numbering.Given as goal
-
-abbrev pub invariant-loop-i : goal.invariant-loop-i
-invariant-loop-i l = l.funcs.items ++ numberings_of (drop l.i l.module) ≡ numberings_of l.module

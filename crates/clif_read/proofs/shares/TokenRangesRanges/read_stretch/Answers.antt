@@ -1,0 +1,11 @@
+use Rattle.std.proofs.Common.{subst}
+use Rattle.std.proofs.lemmas.Option.{IfSome_then}
+use Rattle.clif_read.specs.Stretches.{Functions}
+use Rattle.clif_read.proofs.StretchLaws.{share_follows}
+use Rattle.clif_read.proofs.shares.TokenRangesRanges.read_stretch.Goals as goal
+
+pub returns : goal.returns
+returns c =
+    let ranges = c.args.self.now in
+    IfSome_then c.all_functions.result c.all_functions.ensures
+    (λ found f. share_follows ranges.text.now ranges.tokens.now c.args.from c.args.end found.items c.requires (subst (λ us. Functions us found.items) c.between-reader.ensures f))

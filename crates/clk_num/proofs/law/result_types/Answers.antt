@@ -1,5 +1,0 @@
-use Rattle.clk_num.proofs.ResultLemmas.{keeps_row}
-use Rattle.clk_num.proofs.law.result_types.Goals as goal
-
-pub returns : goal.returns
-returns c = keeps_row

@@ -1,5 +1,0 @@
-use Rattle.grammar.proofs.Exact.{exact}
-use Rattle.grammar.proofs.exact_reading.Goals as goal
-
-pub returns : goal.returns
-returns c = exact

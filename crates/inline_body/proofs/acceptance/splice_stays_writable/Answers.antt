@@ -1,6 +1,0 @@
--- The lemma is the law.
-use Rattle.inline_body.proofs.KeptWritable.{splice_writable}
-use Rattle.inline_body.proofs.acceptance.splice_stays_writable.Goals as goal
-
-pub returns : goal.returns
-returns c = splice_writable

@@ -1,0 +1,14 @@
+use Rattle.std.proofs.Common.{◌≡◌, ◌++◌, map, length}
+use Rattle.ir_core.specs.Lookup.{block_numbers}
+use Rattle.ir_core.specs.Lists.{In, Each}
+use Rattle.inline_body.specs.Inlined.{inlined_block, block_at, blocks_from, BlockReached}
+use Rattle.inline_body.proofs.blocks.inline_blocks.Given as goal
+
+abbrev pub invariant-loop-block : goal.invariant-loop-block
+invariant-loop-block l =
+    record {
+      left : blocks_from l.block_params.items l.block_lines.items ++ map (inlined_block l.fn.names l.fn.outer l.after l.starts l.count) (map (block_at l.fn.callee.function.blocks) l.block-iterator) ≡ map (inlined_block l.fn.names l.fn.outer l.after l.starts l.count) l.fn.callee.function.blocks;
+      as_many : length l.block_params.items ≡ length l.block_lines.items;
+      there : Each (λ k. In k (block_numbers l.fn.callee.function.blocks)) l.block-iterator;
+      reached : Each (BlockReached l.fn.names l.starts l.count) (map (block_at l.fn.callee.function.blocks) l.block-iterator);
+    }

@@ -1,0 +1,17 @@
+use Rattle.std.proofs.Common.{◌≡◌, ◌+◌, ◌*◌, ◌≤◌, length}
+use Rattle.ir_core.specs.Lists.{Below}
+use Rattle.ir_core.specs.Lookup.{block_numbers}
+use Rattle.inline_body.specs.Dense.{written}
+use Rattle.inline_body.proofs.tables.number_blocks.Given as goal
+
+abbrev pub invariant-loop-block : goal.invariant-loop-block
+invariant-loop-block l = length l.table.items + length l._block-iterator ≡ length l.fn.callee.function.blocks
+
+abbrev pub invariant-written : goal.invariant-written
+invariant-written l =
+    record {
+      left : written l.first l.table.items l.block-iterator l.number ≡ written l.first l.initial.table.items (block_numbers l.fn.callee.function.blocks) l.first;
+      long : length l.table.items ≡ length l.fn.callee.function.blocks;
+      below : Below (length l.fn.callee.function.blocks) l.block-iterator;
+      small : l.number + 2 * length l.block-iterator ≤ l.first + 2 * length l.fn.callee.function.blocks;
+    }

@@ -1,0 +1,15 @@
+pub mod Effects
+pub mod Frames
+pub mod Functions
+pub mod Keeping
+pub mod Linking
+pub mod Local
+pub mod Merging
+pub mod Numbering
+pub mod Ordering
+pub mod Places
+pub mod Related
+pub mod Returning
+pub mod Runs
+pub mod Showing
+pub mod Stepping

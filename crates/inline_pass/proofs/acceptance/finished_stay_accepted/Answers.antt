@@ -1,6 +1,0 @@
--- The lemma is the law.
-use Rattle.inline_pass.proofs.Kept.{finished_accepted}
-use Rattle.inline_pass.proofs.acceptance.finished_stay_accepted.Goals as goal
-
-pub returns : goal.returns
-returns c = finished_accepted

@@ -1,6 +1,0 @@
--- The lemma is the law.
-use Rattle.inline_pass.proofs.Kept.{renumbered_pass_writable}
-use Rattle.inline_pass.proofs.acceptance.renumbered_pass_stays_writable.Goals as goal
-
-pub returns : goal.returns
-returns c = renumbered_pass_writable

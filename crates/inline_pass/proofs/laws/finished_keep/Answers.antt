@@ -1,0 +1,6 @@
+-- The lemma is the law, where an accepted module never gets stuck.
+use Rattle.inline_pass.proofs.Outcomes.{finished_keep}
+use Rattle.inline_pass.proofs.laws.finished_keep.Goals as goal
+
+pub returns : goal.returns
+returns c = finished_keep c.accepted_never_sticks.ensures

@@ -1,0 +1,10 @@
+pub mod Acts
+pub mod Addresses
+pub mod Entering
+pub mod Finding
+pub mod Entries
+pub mod Fitting
+pub mod Hosting
+pub mod Programs
+pub mod Reading
+pub mod Storing

@@ -1,0 +1,65 @@
+-- Values read and bound one after another.
+use Rattle.std.proofs.Common.{◌≡◌, ℕ, suc, ◌+◌, ◌<◌, List, [], ◌∷◌, ◌++◌, length, drop, Option, Some, None, Bool, true, false, nat_eq, if◌then◌else◌, get_or, refl, arith, ap, ◌∙◌, sym, drop-cons, ◌≢◌, append-nil, append_assoc}
+use Rattle.std.proofs.Math.Path.{fun_ext}
+use Rattle.std.proofs.Math.Seq.{drop-length}
+use Rattle.std.proofs.Math.Numerals.{add-one}
+use Rattle.std.specs.Option.{option_map}
+use Rattle.clk_num.specs.declared.bits.Bits.{Bits}
+use Rattle.clk_num.specs.Operations.{DataValue}
+use Rattle.clk_num.specs.Views.{data_of, data_of_all}
+use Rattle.ir_semantics.specs.Values.{Env, cons_some, all_of, join, put, bind}
+use Rattle.byte_store.specs.Cells.{cell_of, put_cell}
+use Rattle.interp.specs.State.{env_of}
+
+pub next_some : {B : Type 0} (out : List B) (x : B) (o : Option (List B)) → join (Some out) (cons_some (Some x) o) ≡ join (Some (out ++ x ∷ [])) o
+next_some out x None = refl
+next_some out x (Some ys) = ap Some (sym (append_assoc out (x ∷ []) ys))
+
+pub next_none : {B : Type 0} (out : List B) (o : Option (List B)) → join (Some out) (cons_some None o) ≡ None
+next_none out None = refl
+next_none out (Some ys) = refl
+
+pub more : (out : List Bits) (x : Bits) → data_of_all (out ++ x ∷ []) ≡ data_of_all out ++ data_of x ∷ []
+more [] x = refl
+more (y ∷ ys) x = ap (λ t. data_of y ∷ t) (more ys x)
+
+pub all_step : {A : Type 0} (get : A → Option DataValue) (as' : List A) (i : ℕ) (d : A) (out : List Bits) (x : Bits) → i < length as' → Some (data_of x) ≡ get (get_or as' i d) → join (Some (data_of_all (out ++ x ∷ []))) (all_of get (drop (i + 1) as')) ≡ join (Some (data_of_all out)) (all_of get (drop i as'))
+all_step get as' i d out x h e =
+    rw (drop-cons as' i d h, ← e, add-one i, more out x) (sym (next_some (data_of_all out) (data_of x) (all_of get (drop (suc i) as'))))
+
+pub all_stop : {A : Type 0} (get : A → Option DataValue) (as' : List A) (i : ℕ) (d : A) (out : List DataValue) → i < length as' → None ≡ get (get_or as' i d) → join (Some out) (all_of get (drop i as')) ≡ None
+all_stop get as' i d out h e = rw (drop-cons as' i d h, ← e) (next_none out (all_of get (drop (suc i) as')))
+
+pub all_end : {A : Type 0} (get : A → Option DataValue) (as' : List A) (i : ℕ) (out : List DataValue) → i ≡ length as' → join (Some out) (all_of get (drop i as')) ≡ Some out
+all_end get as' i out e = rw (e, drop-length as') (ap Some (append-nil out))
+
+pub all_start : {B : Type 0} (o : Option (List B)) → join (Some []) o ≡ o
+all_start None = refl
+all_start (Some ys) = refl
+
+-- a value written is a value put
+put_if : (c : Bool) (x : Bits) (o : Option Bits) → option_map data_of (if c then Some x else o) ≡ (if c then Some (data_of x) else option_map data_of o)
+put_if true x o = refl
+put_if false x o = refl
+
+pub env_put : (cells cells' : List (Option Bits)) (v : ℕ) (x : Bits) → cell_of cells' ≡ put_cell (cell_of cells) v x → env_of cells' ≡ put (env_of cells) v (data_of x)
+env_put cells cells' v x e = fun_ext (λ w. ap (λ (f : ℕ → Option Bits). option_map data_of (f w)) e ∙ put_if (nat_eq w v) x (cell_of cells w))
+
+pub bind_apart : (ns : List ℕ) (xs : List Bits) (e : Env) → length ns ≢ length xs → bind ns (data_of_all xs) e ≡ None
+bind_apart [] [] e h = absurd (h refl)
+bind_apart [] (x ∷ xs) e h = refl
+bind_apart (n ∷ ns) [] e h = refl
+bind_apart (n ∷ ns) (x ∷ xs) e h = bind_apart ns xs (put e n (data_of x)) (λ q. h (ap suc q))
+
+pub bind_step : (ns : List ℕ) (xs : List Bits) (i dn : ℕ) (d : Bits) (e : Env) → i < length ns → length ns ≡ length xs → bind (drop (i + 1) ns) (data_of_all (drop (i + 1) xs)) (put e (get_or ns i dn) (data_of (get_or xs i d))) ≡ bind (drop i ns) (data_of_all (drop i xs)) e
+bind_step ns xs i dn d e h q = let k : i < length xs = omega arith in rw (drop-cons ns i dn h, drop-cons xs i d k, add-one i) refl
+
+pub bind_end : (ns : List ℕ) (xs : List Bits) (i : ℕ) (e : Env) → i ≡ length ns → length ns ≡ length xs → bind (drop i ns) (data_of_all (drop i xs)) e ≡ Some e
+bind_end ns xs i e p q = rw (p, drop-length ns, q, drop-length xs) refl
+
+-- the same as code finds it
+pub bind_next : (ns : List ℕ) (xs : List Bits) (i v dn : ℕ) (x d : Bits) (e : Env) → i < length ns → length ns ≡ length xs → v ≡ get_or ns i dn → x ≡ get_or xs i d → bind (drop (i + 1) ns) (data_of_all (drop (i + 1) xs)) (put e v (data_of x)) ≡ bind (drop i ns) (data_of_all (drop i xs)) e
+bind_next ns xs i v dn x d e h q ev ex =
+    ap (λ k. bind (drop (i + 1) ns) (data_of_all (drop (i + 1) xs)) (put e k (data_of x))) ev
+    ∙ (ap (λ (t : Bits). bind (drop (i + 1) ns) (data_of_all (drop (i + 1) xs)) (put e (get_or ns i dn) (data_of t))) ex
+    ∙ bind_step ns xs i dn d e h q)

@@ -1,0 +1,5 @@
+pub mod Entries
+pub mod Lines
+pub mod Linking
+pub mod Outcome
+pub mod State

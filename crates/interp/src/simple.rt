@@ -1,0 +1,141 @@
+//! Instructions that give values.
+ghost use Rattle.std.specs.Prelude.{◌≡◌, IfOk, List};
+ghost use Rattle.clk_num.specs.Operations.{operation};
+ghost use Rattle.clk_num.specs.Views.{data_of, data_of_all};
+ghost use Rattle.ir_core.specs.Module.{Module as RunModule, Pure, PureImm, Trapz, Trapnz};
+ghost use Rattle.ir_semantics.specs.Machine.{World as RunWorld};
+ghost use Rattle.ir_semantics.specs.Effect.{Go, evaluated};
+ghost use Rattle.byte_store.specs.Cells.{bytes_at};
+ghost use Rattle.interp.specs.declared.state.Wait.{Wait as DeclaredWait};
+ghost use Rattle.interp.specs.State.{moment, done, simply};
+
+use crate::moves::{bind, read_all};
+use crate::outcome::End;
+use crate::state::{Frame, Stop};
+use clk_num::{Bits, Evaled, Op, TrapCode, eval, fits};
+use ir_core::{InstData, Value};
+use std::alloc::AllocError;
+
+/// The results get these values.
+pub fn give_results(
+    frame: &mut Frame,
+    line: &InstData,
+    xs: &[Bits],
+) -> Result<Option<Stop>, AllocError>
+    ensures { IfOk result (λ r. (m : RunModule) (below : List DeclaredWait) (w : RunWorld)
+        → moment m frame.new below w r
+        ≡ done m frame.old below w line.now (Go (data_of_all xs.now) (bytes_at frame.old.slots) w.memory)) }
+{
+    if bind(&mut frame.values, line.results.as_slice(), xs)? {
+        Ok(None)
+    } else {
+        Ok(Some(Stop::Stuck))
+    }
+}
+
+/// The results get what an operation gives.
+pub fn compute(
+    frame: &mut Frame,
+    line: &InstData,
+    op: Op,
+    args: &[Bits],
+) -> Result<Option<Stop>, AllocError>
+    ensures { IfOk result (λ r. (m : RunModule) (below : List DeclaredWait) (w : RunWorld)
+        → moment m frame.new below w r
+        ≡ done m frame.old below w line.now
+        (evaluated (bytes_at frame.old.slots) w.memory (operation op (data_of_all args.now)))) }
+{
+    if !fits(op, args) {
+        return Ok(Some(Stop::Stuck));
+    }
+    match eval(op, args) {
+        Evaled::One(x) => {
+            let moved = give_results(frame, line, &[x])?;
+            Ok(moved)
+        }
+        Evaled::Two(x, y) => {
+            let moved = give_results(frame, line, &[x, y])?;
+            Ok(moved)
+        }
+        Evaled::Trap(code) => Ok(Some(Stop::At(End::Trapped(code)))),
+    }
+}
+
+/// An operation on values.
+pub fn pure_op(
+    frame: &mut Frame,
+    line: &InstData,
+    op: Op,
+    args: &[Value],
+    xs: &mut Vec<Bits>,
+) -> Result<Option<Stop>, AllocError>
+    ensures { IfOk result (λ r. (m : RunModule) (below : List DeclaredWait) (w : RunWorld)
+        → moment m frame.new below w r
+        ≡ done m frame.old below w line.now (simply m frame.old w (Pure op args.now))) }
+{
+    if !read_all(&frame.values, args, xs)? {
+        return Ok(Some(Stop::Stuck));
+    }
+    let moved = compute(frame, line, op, xs)?;
+    Ok(moved)
+}
+
+/// An operation on a value and an immediate.
+pub fn pure_imm(
+    frame: &mut Frame,
+    line: &InstData,
+    op: Op,
+    arg: Value,
+    imm: Bits,
+) -> Result<Option<Stop>, AllocError>
+    ensures { IfOk result (λ r. (m : RunModule) (below : List DeclaredWait) (w : RunWorld)
+        → moment m frame.new below w r
+        ≡ done m frame.old below w line.now (simply m frame.old w (PureImm op arg (data_of imm)))) }
+{
+    let Some(x) = frame.values.get(arg.number() as usize) else {
+        return Ok(Some(Stop::Stuck));
+    };
+    let moved = compute(frame, line, op, &[x, imm])?;
+    Ok(moved)
+}
+
+/// Traps where a value is 0.
+pub fn trapz(
+    frame: &mut Frame,
+    line: &InstData,
+    cond: Value,
+    code: TrapCode,
+) -> Result<Option<Stop>, AllocError>
+    ensures { IfOk result (λ r. (m : RunModule) (below : List DeclaredWait) (w : RunWorld)
+        → moment m frame.new below w r ≡ done m frame.old below w line.now (simply m frame.old w (Trapz cond code))) }
+{
+    let Some(x) = frame.values.get(cond.number() as usize) else {
+        return Ok(Some(Stop::Stuck));
+    };
+    if x.value() == 0 {
+        return Ok(Some(Stop::At(End::Trapped(code))));
+    }
+    let moved = give_results(frame, line, &[])?;
+    Ok(moved)
+}
+
+/// Traps where a value is not 0.
+pub fn trapnz(
+    frame: &mut Frame,
+    line: &InstData,
+    cond: Value,
+    code: TrapCode,
+) -> Result<Option<Stop>, AllocError>
+    ensures { IfOk result (λ r. (m : RunModule) (below : List DeclaredWait) (w : RunWorld)
+        → moment m frame.new below w r
+        ≡ done m frame.old below w line.now (simply m frame.old w (Trapnz cond code))) }
+{
+    let Some(x) = frame.values.get(cond.number() as usize) else {
+        return Ok(Some(Stop::Stuck));
+    };
+    if x.value() != 0 {
+        return Ok(Some(Stop::At(End::Trapped(code))));
+    }
+    let moved = give_results(frame, line, &[])?;
+    Ok(moved)
+}

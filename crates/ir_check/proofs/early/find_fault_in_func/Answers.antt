@@ -1,0 +1,13 @@
+use Rattle.std.proofs.Common.{subst}
+use Rattle.ir_check.specs.Faults.{first_rules, tried_at, callee_items}
+use Rattle.ir_check.specs.Found.{Finds}
+use Rattle.ir_check.proofs.Searching.{items_find, callees_find}
+use Rattle.ir_check.proofs.early.find_fault_in_func.Goals as goal
+
+pub returns-in-Some : goal.returns-in-Some
+returns-in-Some c = callees_find c.args.«module».now c.args.number c.args.func.now.function first_rules c.in-Some.fault c.in-Some.ensures
+
+pub returns : goal.returns
+returns c =
+    items_find c.args.«module».now c.args.number c.args.func.now.function first_rules c.find_fault_in_blocks.result
+    (subst (λ o. Finds c.args.«module».now c.args.func.now.function (tried_at first_rules c.args.number c.args.func.now.function (callee_items 0 c.args.func.now.function.callees)) o) c.in_default.is c.find_fault_in_callees.ensures) (c.find_fault_in_blocks.ensures c.args.«module».now)

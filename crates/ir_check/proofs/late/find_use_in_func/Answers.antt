@@ -1,0 +1,5 @@
+use Rattle.ir_check.proofs.Searching.{late_items}
+use Rattle.ir_check.proofs.late.find_use_in_func.Goals as goal
+
+pub returns : goal.returns
+returns c = λ m. late_items m c.args.number c.args.func.now.function c.find_use_in_blocks.result (c.find_use_in_blocks.ensures m)

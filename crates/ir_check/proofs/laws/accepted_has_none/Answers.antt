@@ -1,0 +1,6 @@
+-- The lemma is the law.
+use Rattle.ir_check.proofs.Firsts as firsts
+use Rattle.ir_check.proofs.laws.accepted_has_none.Goals as goal
+
+pub returns : goal.returns
+returns c = firsts.accepted_has_none

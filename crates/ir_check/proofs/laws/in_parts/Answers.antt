@@ -1,0 +1,6 @@
+-- The lemma is the law.
+use Rattle.ir_check.proofs.Walking as walking
+use Rattle.ir_check.proofs.laws.in_parts.Goals as goal
+
+pub returns : goal.returns
+returns c = walking.in_parts

@@ -1,0 +1,23 @@
+//! Accepted modules: the rules as tests, and the first fault of a module.
+#![tactic(auto)]
+
+mod calls;
+mod checked;
+mod checking;
+mod counts;
+mod early;
+mod faults;
+mod forms;
+mod kinds;
+mod late;
+pub mod laws;
+mod lines;
+mod row_types;
+mod rules;
+mod types;
+mod typing;
+mod uses;
+
+pub use checked::Checked;
+pub use checking::{CheckErr, Rejected, check};
+pub use kinds::CheckKind;

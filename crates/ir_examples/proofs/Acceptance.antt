@@ -1,0 +1,465 @@
+-- Worked examples: which rule of acceptance refuses a line, and which values are available.
+use Rattle.std.specs.Prelude.{◌≡◌, ◌≢◌, ℕ, zero, suc, pos, Bool, nat_eq, length, if◌then◌else◌, List, [], ◌∷◌, Option, Some, None, false, true, IsSomeAnd, slice_get}
+use Rattle.std.proofs.Common.{refl, inl, inr, sym, ap, ◌∙◌, subst}
+use Rattle.clk_num.specs.declared.width.Width.TheVariants.{W32, W128}
+use Rattle.clk_num.specs.declared.op.Op.TheVariants.{Iadd, Udiv, Iconcat}
+use Rattle.clk_num.specs.declared.op.TrapCode.TheVariants as code
+use Rattle.clk_num.specs.Rows.{row}
+use Rattle.debug_tags.specs.declared.tags.Tag.TheVariants.{Slot}
+use Rattle.ir_core.specs.declared.signatures.Ty.TheVariants.{I8, I32, I64, I128}
+use Rattle.ir_core.specs.declared.signatures.Conv.TheVariants.{Fast, Tail}
+use Rattle.ir_core.specs.Module.{Const, Pure, StackLoad, StackStore, Trap, Jump, Brif, Direct, Plain, Branches, Return, ReturnCall, Line, Block, Function}
+use Rattle.ir_core.specs.declared.signatures.Sig.{Sig}
+use Rattle.ir_core.specs.declared.instructions.BlockCall.{BlockCall}
+use Rattle.ir_semantics.specs.Splice.{first_number}
+use Rattle.ir_core.specs.Uses.{targets}
+use Rattle.ir_core.specs.Lookup.{find_block}
+use Rattle.ir_core.specs.Lists.{In, Each}
+use Rattle.ir_semantics.specs.Available.{Reach, begin, next, branch, Available}
+use Rattle.ir_semantics.specs.Accepted.{Rule, no_terminator, entry_target, count_mismatch, type_mismatch, convention, signature_mismatch, slot_range, tag_place, not_available, HoldsAtLine}
+use Rattle.ir_semantics.specs.CallRules.{Declared}
+use Rattle.ir_semantics.proofs.Written.{signature, slot, declares, f, h}
+
+-- a rule holds at a line of a block
+abbrev KeptAt : Function → ℕ → ℕ → Rule → Type 0
+KeptAt f b i rule = IsSomeAnd (find_block b f.blocks) (λ block. IsSomeAnd (slice_get block.lines i) (λ l. HoldsAtLine f b block i l rule))
+
+-- A slot tag on a tail call.
+abbrev tail_tag : Function
+tail_tag =
+    record {
+      name = f;
+      sig = signature [] [] Tail;
+      slots = slot 4 ∷ [];
+      sigs = signature [] [] Tail ∷ [];
+      callees = declares h 0 ∷ [];
+      types = [];
+      blocks =
+          record {
+            number = 0;
+            params = [];
+            lines =
+                record { inst = ReturnCall (Direct 0) []; ty = None; results = []; tags = Slot 0 ∷ [] } ∷
+                [];
+          } ∷
+          [];
+    }
+
+tail_tag_refused : KeptAt tail_tag 0 0 tag_place → ⊥
+unfolding row
+tail_tag_refused p = cc
+
+tail_tag_else : KeptAt tail_tag 0 0 no_terminator × KeptAt tail_tag 0 0 entry_target × KeptAt tail_tag 0 0 count_mismatch × KeptAt tail_tag 0 0 type_mismatch × KeptAt tail_tag 0 0 convention × KeptAt tail_tag 0 0 signature_mismatch × KeptAt tail_tag 0 0 slot_range
+tail_tag_else = (tt, tt, (refl, (refl, refl)), (refl, tt, (refl, refl)), (refl, refl), tt, tt)
+
+-- A suffix that is not the operand's type.
+abbrev other_type : Function
+other_type =
+    record {
+      name = f;
+      sig = signature (I64 ∷ []) (I64 ∷ []) Fast;
+      slots = [];
+      sigs = [];
+      callees = [];
+      types = (0, I64) ∷ (1, I32) ∷ [];
+      blocks =
+          record {
+            number = 0;
+            params = 0 ∷ [];
+            lines =
+                record { inst = Plain (Pure Iadd (0 ∷ 0 ∷ [])); ty = Some I32; results = 1 ∷ []; tags = [] } ∷
+                record { inst = Return (0 ∷ []); ty = None; results = []; tags = [] } ∷
+                [];
+          } ∷
+          [];
+    }
+
+other_type_refused : KeptAt other_type 0 0 type_mismatch → ⊥
+unfolding row
+other_type_refused p = cc
+
+-- Two results of an operation that has one.
+abbrev two_results : Function
+two_results =
+    record {
+      name = f;
+      sig = signature (I64 ∷ []) (I64 ∷ []) Fast;
+      slots = [];
+      sigs = [];
+      callees = [];
+      types = (0, I64) ∷ (1, I64) ∷ (2, I8) ∷ [];
+      blocks =
+          record {
+            number = 0;
+            params = 0 ∷ [];
+            lines =
+                record { inst = Plain (Pure Iadd (0 ∷ 0 ∷ [])); ty = Some I64; results = 1 ∷ 2 ∷ []; tags = [] } ∷
+                record { inst = Return (0 ∷ []); ty = None; results = []; tags = [] } ∷
+                [];
+          } ∷
+          [];
+    }
+
+two_results_refused : KeptAt two_results 0 0 count_mismatch → ⊥
+unfolding row
+two_results_refused p = cc
+
+-- A terminator that does not stand last.
+abbrev too_soon : Function
+too_soon =
+    record {
+      name = f;
+      sig = signature (I64 ∷ []) (I64 ∷ []) Fast;
+      slots = [];
+      sigs = [];
+      callees = [];
+      types = (0, I64) ∷ [];
+      blocks =
+          record {
+            number = 0;
+            params = 0 ∷ [];
+            lines =
+                record { inst = Plain (Trap (code.User 1)); ty = None; results = []; tags = [] } ∷
+                record { inst = Return (0 ∷ []); ty = None; results = []; tags = [] } ∷
+                [];
+          } ∷
+          [];
+    }
+
+too_soon_refused : KeptAt too_soon 0 0 no_terminator → ⊥
+unfolding row
+too_soon_refused p = p
+
+-- A jump to the first block.
+abbrev to_entry : Function
+to_entry =
+    record {
+      name = f;
+      sig = signature [] [] Fast;
+      slots = [];
+      sigs = [];
+      callees = [];
+      types = [];
+      blocks =
+          record {
+            number = 0;
+            params = [];
+            lines =
+                record { inst = Branches (Jump (record { block = 0; args = [] })); ty = None; results = []; tags = [] } ∷
+                [];
+          } ∷
+          [];
+    }
+
+to_entry_refused : KeptAt to_entry 0 0 entry_target → ⊥
+unfolding row
+to_entry_refused p = p.0 refl
+
+-- Eight bytes of a slot of four.
+abbrev beyond_slot : Function
+beyond_slot =
+    record {
+      name = f;
+      sig = signature [] [] Fast;
+      slots = slot 4 ∷ [];
+      sigs = [];
+      callees = [];
+      types = (0, I64) ∷ [];
+      blocks =
+          record {
+            number = 0;
+            params = [];
+            lines =
+                record { inst = Plain (StackLoad I64 0 (pos 0)); ty = None; results = 0 ∷ []; tags = [] } ∷
+                record { inst = Return []; ty = None; results = []; tags = [] } ∷
+                [];
+          } ∷
+          [];
+    }
+
+beyond_slot_refused : KeptAt beyond_slot 0 0 slot_range → ⊥
+unfolding row
+beyond_slot_refused p = cc
+
+-- A tail call under another convention.
+abbrev fast_tail : Function
+fast_tail =
+    record {
+      name = f;
+      sig = signature [] [] Fast;
+      slots = [];
+      sigs = signature [] [] Fast ∷ [];
+      callees = declares h 0 ∷ [];
+      types = [];
+      blocks =
+          record {
+            number = 0;
+            params = [];
+            lines =
+                record { inst = ReturnCall (Direct 0) []; ty = None; results = []; tags = [] } ∷
+                [];
+          } ∷
+          [];
+    }
+
+fast_tail_refused : KeptAt fast_tail 0 0 convention → ⊥
+unfolding row
+fast_tail_refused p = cc
+
+-- No division of an i128.
+abbrev wide_division : Function
+wide_division =
+    record {
+      name = f;
+      sig = signature (I64 ∷ I64 ∷ []) (I64 ∷ []) Fast;
+      slots = [];
+      sigs = [];
+      callees = [];
+      types = (0, I64) ∷ (1, I64) ∷ (2, I128) ∷ (3, I128) ∷ [];
+      blocks =
+          record {
+            number = 0;
+            params = 0 ∷ 1 ∷ [];
+            lines =
+                record { inst = Plain (Pure Iconcat (0 ∷ 1 ∷ [])); ty = Some I64; results = 2 ∷ []; tags = [] } ∷
+                record { inst = Plain (Pure Udiv (2 ∷ 2 ∷ [])); ty = Some I128; results = 3 ∷ []; tags = [] } ∷
+                record { inst = Return (0 ∷ []); ty = None; results = []; tags = [] } ∷
+                [];
+          } ∷
+          [];
+    }
+
+wide_division_refused : KeptAt wide_division 0 1 type_mismatch → ⊥
+unfolding row
+wide_division_refused p = p.0
+
+-- No constant of an i128.
+abbrev wide_constant : Function
+wide_constant =
+    record {
+      name = f;
+      sig = signature (I64 ∷ []) (I64 ∷ []) Fast;
+      slots = [];
+      sigs = [];
+      callees = [];
+      types = (0, I64) ∷ (1, I128) ∷ [];
+      blocks =
+          record {
+            number = 0;
+            params = 0 ∷ [];
+            lines =
+                record { inst = Plain (Const (record { width = W128; value = 1 })); ty = None; results = 1 ∷ []; tags = [] } ∷
+                record { inst = Return (0 ∷ []); ty = None; results = []; tags = [] } ∷
+                [];
+          } ∷
+          [];
+    }
+
+wide_constant_refused : KeptAt wide_constant 0 0 type_mismatch → ⊥
+unfolding row
+wide_constant_refused p = p.1 refl
+
+-- An i128 into a slot of eight bytes.
+abbrev wide_store : Function
+wide_store =
+    record {
+      name = f;
+      sig = signature (I64 ∷ []) (I64 ∷ []) Fast;
+      slots = slot 8 ∷ [];
+      sigs = [];
+      callees = [];
+      types = (0, I64) ∷ (1, I128) ∷ [];
+      blocks =
+          record {
+            number = 0;
+            params = 0 ∷ [];
+            lines =
+                record { inst = Plain (Pure Iconcat (0 ∷ 0 ∷ [])); ty = Some I64; results = 1 ∷ []; tags = [] } ∷
+                record { inst = Plain (StackStore 1 0 (pos 0)); ty = Some I128; results = []; tags = [] } ∷
+                record { inst = Return (0 ∷ []); ty = None; results = []; tags = [] } ∷
+                [];
+          } ∷
+          [];
+    }
+
+wide_store_refused : KeptAt wide_store 0 1 slot_range → ⊥
+unfolding row
+wide_store_refused p = cc
+
+-- A declaration of the function itself with another signature.
+abbrev other_signature : Function
+other_signature =
+    record {
+      name = f;
+      sig = signature [] [] Fast;
+      slots = [];
+      sigs = signature (I8 ∷ []) [] Fast ∷ [];
+      callees = declares f 0 ∷ [];
+      types = [];
+      blocks =
+          record {
+            number = 0;
+            params = [];
+            lines =
+                record { inst = Return []; ty = None; results = []; tags = [] } ∷
+                [];
+          } ∷
+          [];
+    }
+
+other_signature_refused : Declared (other_signature ∷ []) other_signature (declares f 0) → ⊥
+other_signature_refused p = let e : Path ℕ 1 0 = ap params (p other_signature refl) in cc
+  where
+    params : Option Sig → ℕ
+    params None = 0
+    params (Some s) = length s.params
+
+-- A value whose definition stands before the use in the text, and not on every path.
+abbrev by_text : Function
+by_text =
+    record {
+      name = f;
+      sig = signature (I8 ∷ []) (I32 ∷ []) Fast;
+      slots = [];
+      sigs = [];
+      callees = [];
+      types = (0, I8) ∷ (1, I32) ∷ [];
+      blocks =
+          record {
+            number = 0;
+            params = 0 ∷ [];
+            lines =
+                record { inst = Branches (Brif 0 (record { block = 1; args = [] }) (record { block = 2; args = [] })); ty = Some I8; results = []; tags = [] } ∷
+                [];
+          } ∷
+          record {
+            number = 1;
+            params = [];
+            lines =
+                record { inst = Plain (Const (record { width = W32; value = 1 })); ty = None; results = 1 ∷ []; tags = [] } ∷
+                record { inst = Branches (Jump (record { block = 2; args = [] })); ty = None; results = []; tags = [] } ∷
+                [];
+          } ∷
+          record {
+            number = 2;
+            params = [];
+            lines =
+                record { inst = Return (1 ∷ []); ty = None; results = []; tags = [] } ∷
+                [];
+          } ∷
+          [];
+    }
+
+by_text_path : Reach by_text 2 0 (0 ∷ [])
+by_text_path = branch (begin _ _ refl) _ refl _ refl (record { block = 2; args = [] }) (inr (inl refl)) _ refl
+
+by_text_refused : Available by_text 2 0 1 → ⊥
+by_text_refused p = elim (p (0 ∷ []) by_text_path) [ inl q ↦ cc | inr q ↦ q ]
+
+-- A value that is used before the line that defines it, with a suffix that says its type.
+abbrev too_early : Function
+too_early =
+    record {
+      name = f;
+      sig = signature (I64 ∷ []) (I64 ∷ []) Fast;
+      slots = [];
+      sigs = [];
+      callees = [];
+      types = (0, I64) ∷ (1, I64) ∷ (2, I64) ∷ [];
+      blocks =
+          record {
+            number = 0;
+            params = 0 ∷ [];
+            lines =
+                record { inst = Plain (Pure Iadd (2 ∷ 0 ∷ [])); ty = Some I64; results = 1 ∷ []; tags = [] } ∷
+                record { inst = Plain (Pure Iadd (0 ∷ 0 ∷ [])); ty = Some I64; results = 2 ∷ []; tags = [] } ∷
+                record { inst = Return (0 ∷ []); ty = None; results = []; tags = [] } ∷
+                [];
+          } ∷
+          [];
+    }
+
+too_early_refused : KeptAt too_early 0 0 not_available → ⊥
+too_early_refused p = elim (p.0 (0 ∷ []) (begin _ _ refl)) [ inl q ↦ cc | inr q ↦ q ]
+
+too_early_else : KeptAt too_early 0 0 no_terminator × KeptAt too_early 0 0 entry_target × KeptAt too_early 0 0 count_mismatch × KeptAt too_early 0 0 type_mismatch × KeptAt too_early 0 0 convention × KeptAt too_early 0 0 signature_mismatch × KeptAt too_early 0 0 slot_range × KeptAt too_early 0 0 tag_place
+unfolding row
+too_early_else = (tt, tt, refl, (refl, refl), tt, tt, tt, refl)
+
+-- A block that nothing enters: every value is available there.
+abbrev no_path : Function
+no_path =
+    record {
+      name = f;
+      sig = signature (I8 ∷ []) (I32 ∷ []) Fast;
+      slots = [];
+      sigs = [];
+      callees = [];
+      types = (0, I8) ∷ (1, I32) ∷ (2, I32) ∷ [];
+      blocks =
+          record {
+            number = 0;
+            params = 0 ∷ [];
+            lines =
+                record { inst = Branches (Brif 0 (record { block = 1; args = [] }) (record { block = 2; args = [] })); ty = Some I8; results = []; tags = [] } ∷
+                [];
+          } ∷
+          record {
+            number = 1;
+            params = [];
+            lines =
+                record { inst = Plain (Const (record { width = W32; value = 1 })); ty = None; results = 1 ∷ []; tags = [] } ∷
+                record { inst = Branches (Jump (record { block = 2; args = [] })); ty = None; results = []; tags = [] } ∷
+                [];
+          } ∷
+          record {
+            number = 2;
+            params = [];
+            lines =
+                record { inst = Plain (Const (record { width = W32; value = 2 })); ty = None; results = 2 ∷ []; tags = [] } ∷
+                record { inst = Return (2 ∷ []); ty = None; results = []; tags = [] } ∷
+                [];
+          } ∷
+          record {
+            number = 3;
+            params = [];
+            lines =
+                record { inst = Return (1 ∷ []); ty = None; results = []; tags = [] } ∷
+                [];
+          } ∷
+          [];
+    }
+
+abbrev NotThird : List BlockCall → Type 0
+NotThird ts = Each (λ (t : BlockCall). t.block ≢ 3) ts
+
+-- no line of the function has the block as a target
+lines_lead : Each (λ (b : Block). Each (λ (l : Line). NotThird (targets l.inst)) b.lines) no_path.blocks
+lines_lead = ((((λ e. cc), ((λ e. cc), tt)), tt), ((tt, (((λ e. cc), tt), tt)), ((tt, (tt, tt)), ((tt, tt), tt))))
+
+found_each : (P : Block → Type 0) (bs : List Block) → Each P bs → (b : ℕ) (block : Block) → find_block b bs ≡ Some block → P block
+found_each P [] each b block q = cc
+found_each P (x ∷ bs) each b block q = go (λ e. found_each P bs each.1 b block e) (nat_eq x.number b) q
+  where
+    go : (find_block b bs ≡ Some block → P block) → (c : Bool) → (if c then Some x else find_block b bs) ≡ Some block → P block
+    go ih true q = subst P (let e : Some x ≡ Some block = q in cc) each.0
+    go ih false q = ih q
+
+got_each : (P : Line → Type 0) (ls : List Line) → Each P ls → (i : ℕ) (l : Line) → slice_get ls i ≡ Some l → P l
+got_each P [] each i l q = cc
+got_each P (x ∷ ls) each zero l q = subst P (let e : Some x ≡ Some l = q in cc) each.0
+got_each P (x ∷ ls) each (suc i) l q = got_each P ls each.1 i l q
+
+in_each : (P : BlockCall → Type 0) (ts : List BlockCall) → Each P ts → (t : BlockCall) → In t ts → P t
+in_each P [] each t i = elim i [ ]
+in_each P (x ∷ ts) each t (inl q) = subst P (sym q) each.0
+in_each P (x ∷ ts) each t (inr q) = in_each P ts each.1 t q
+
+not_reached : {b i : ℕ} {defs : List ℕ} → Reach no_path b i defs → b ≢ 3
+not_reached (begin first others q) = λ e. let n : Path ℕ 0 3 = ap first_number q ∙ e in cc
+not_reached (next r block q l p goes) = not_reached r
+not_reached (branch {b = b} {i = i} r block q l p t is entered e) =
+    in_each (λ (t : BlockCall). t.block ≢ 3) (targets l.inst) (got_each (λ (l : Line). NotThird (targets l.inst)) block.lines (found_each (λ (b : Block). Each (λ (l : Line). NotThird (targets l.inst)) b.lines) no_path.blocks lines_lead b block q) i l p) t is
+
+no_path_available : Available no_path 3 0 1
+no_path_available defs r = absurd (not_reached r refl)

@@ -1,0 +1,15 @@
+pub mod Acceptance
+pub mod AcceptedModule
+pub mod Certificate
+pub mod Halves
+pub mod InRange
+pub mod IndirectTails
+pub mod IndirectTries
+pub mod Loops
+pub mod Operations
+pub mod SafetyExample
+pub mod Slots
+pub mod Tails
+pub mod Throws
+pub mod FirstFaults
+pub mod FinishedBodies

@@ -1,0 +1,6 @@
+pub mod SafetyPlaces
+pub mod SafetyRuns
+pub mod SafetyStands
+pub mod SafetySteps
+pub mod SafetyTypes
+pub mod Written

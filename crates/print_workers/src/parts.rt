@@ -1,0 +1,189 @@
+//! The text of a module, written in parts by several workers.
+ghost use Rattle.std.specs.Prelude.{◌≡◌, ℕ, ◌≤◌, ◌<◌, ◌+◌, IfErr, IfOk, OnErr, OnOk, Ok, length, map, flat_map};
+ghost use Rattle.std.specs.Prelude.{slice_index, slice_index_or};
+ghost use Rattle.std.specs.Io.KnownBytes.{Appends};
+ghost use Rattle.clk_flow.specs.Faults.{Rose, HasCause};
+ghost use Rattle.clk_flow.specs.Whole.{AppendsPrefix};
+ghost use Rattle.ir_core.specs.Sound.{IsWhole};
+ghost use Rattle.ir_text.specs.Text.{text_of, function_text_of};
+ghost use Rattle.clif_print.specs.Output.{Start, Puts};
+ghost use Rattle.print_workers.specs.Parts.{AreCuts, IsPart, PutsPart, before_function};
+ghost use Rattle.print_workers.specs.declared.parts.PrintErr.TheVariants as why;
+
+use crate::cuts::even_cuts;
+use clif_numbers::func_numbers;
+use clif_print::{MemoryOutput, Output, SinkOutput, put_function};
+use clk_flow::{Failed, Sink};
+use ir_core::{Func, Module};
+use std::alloc::{AllocError, Global};
+use std::thread::{Threads, map_indices};
+use thiserror::Error;
+
+/// Why a module was not printed.
+#[derive(Clone, Copy, PartialEq, Eq, Debug, Error)]
+pub enum PrintErr {
+    /// The sink failed.
+    #[error("the sink failed")]
+    Failed,
+    /// There was no memory.
+    #[error("out of memory")]
+    NoMemory,
+}
+
+/// Appends the canonical text of the module. At most so many workers write it into memory, a part each, before the sink
+/// is given the first byte. `Failed` comes only where the sink's count of faults rose; a beginning of the text was
+/// appended then. After `NoMemory` the sink is as it was.
+pub fn print_with<R: Threads + Sync, K: Sink>(
+    rt: &R,
+    alloc: Global,
+    module: &Module,
+    workers: usize,
+    sink: &mut K,
+) -> Result<(), PrintErr>
+    requires { 0 < workers }
+    ensures whole { OnOk result (Appends (K.written sink.old) (K.written sink.new) (text_of «module».now)) }
+    ensures part { IfErr result
+        (λ e. e ≡ why.Failed → AppendsPrefix (K.written sink.old) (K.written sink.new) (text_of «module».now)) }
+    ensures cause { IfErr result (λ e. e ≡ why.Failed → Rose (K.faults sink.old) (K.faults sink.new)) }
+    ensures unwritten { IfErr result (λ e. e ≡ why.NoMemory → sink.new ≡ sink.old) }
+    ensures later { K.faults sink.old ≤ K.faults sink.new }
+{
+    let Ok(texts) = part_texts(rt, alloc, module, workers) else {
+        return Err(PrintErr::NoMemory);
+    };
+    match put_texts(sink, texts.as_slice()) {
+        Ok(()) => Ok(()),
+        Err(_) => Err(PrintErr::Failed),
+    }
+}
+
+/// Appends texts, one behind the other.
+fn put_texts<K: Sink>(sink: &mut K, texts: &[Vec<u8>]) -> Result<(), Failed>
+    ensures whole { OnOk result
+        (Appends (K.written sink.old) (K.written sink.new) (flat_map (λ text. text.items) texts.now)) }
+    ensures part { OnErr result
+        (AppendsPrefix (K.written sink.old) (K.written sink.new) (flat_map (λ text. text.items) texts.now)) }
+    ensures cause { HasCause (K.faults sink.old) (K.faults sink.new) result }
+{
+    let mut out = SinkOutput::new(sink);
+    put_all(&mut out, texts);
+    out.finish()
+}
+
+/// Puts texts, one behind the other.
+fn put_all<O: Output>(out: &mut O, texts: &[Vec<u8>])
+    ensures { Puts O.holds out.old out.new (flat_map (λ text. text.items) texts.now) }
+{
+    let mut rest = texts;
+    'texts: while let Some((text, after)) = rest.split_first() {
+        out.put(text.as_slice());
+        rest = after;
+    }
+}
+
+/// The text of the module in parts, which at most so many workers write. Only `AllocError` refuses.
+fn part_texts<R: Threads + Sync>(
+    rt: &R,
+    alloc: Global,
+    module: &Module,
+    workers: usize,
+) -> Result<Vec<Vec<u8>>, AllocError>
+    requires { 0 < workers }
+    ensures { IfOk result (λ texts. flat_map (λ text. text.items) texts.items ≡ text_of «module».now) }
+{
+    if module.is_empty() {
+        return Ok(Vec::new(alloc));
+    }
+    let parts = workers.min(module.len());
+    let cuts = even_cuts(alloc, module, parts)?;
+    all_texts(
+        alloc,
+        texts_between(rt, alloc, module, parts, cuts.as_slice())?,
+    )
+}
+
+/// The parts of the module's text between its cuts, each by a worker, if there was memory for it.
+fn texts_between<R: Threads + Sync>(
+    rt: &R,
+    alloc: Global,
+    module: &Module,
+    parts: usize,
+    cuts: &[usize],
+) -> Result<Vec<Result<Vec<u8>, AllocError>>, AllocError>
+    requires { AreCuts (length «module».now) parts cuts.now }
+    ensures number { IfOk result (λ answers. length answers.items ≡ parts) }
+    ensures each { IfOk result
+        (λ answers. (i : ℕ) (d : _) → i < parts
+        → IfOk (slice_index_or answers.items i d)
+        (λ text. IsPart «module».now (slice_index cuts.now i) (slice_index cuts.now (i + 1)) text.items)) }
+{
+    let write = |i: usize| -> Result<Vec<u8>, AllocError>
+        requires { (i + 1 < length cuts.now) × (slice_index cuts.now i ≤ slice_index cuts.now (i + 1))
+            × (slice_index cuts.now (i + 1) ≤ length «module».now) }
+        ensures { IfOk result
+            (λ text. IsPart «module».entry.now (slice_index cuts.entry.now i)
+            (slice_index cuts.entry.now (i + 1)) text.items) }
+    { part_text(alloc, module, cuts[i], cuts[i + 1]) };
+    map_indices(rt, alloc, parts, &write)
+}
+
+/// The texts, where each of them was written. Only `AllocError` refuses.
+fn all_texts(
+    alloc: Global,
+    answers: Vec<Result<Vec<u8>, AllocError>>,
+) -> Result<Vec<Vec<u8>>, AllocError>
+    ensures { IfOk result (λ texts. answers.items ≡ map (λ text. Ok text) texts.items) }
+{
+    let mut texts = Vec::new(alloc);
+    for answer in answers {
+        texts.push(answer?)?;
+    }
+    Ok(texts)
+}
+
+/// The part of the module's text from a function on and before another. Only `AllocError` refuses.
+fn part_text(alloc: Global, module: &Module, from: usize, end: usize) -> Result<Vec<u8>, AllocError>
+    requires { (from ≤ end) × (end ≤ length «module».now) }
+    ensures { IfOk result (λ text. IsPart «module».now from end text.items) }
+{
+    let mut out = MemoryOutput::new(alloc);
+    put_part(&mut out, alloc, module, from, end)?;
+    out.finish()
+}
+
+/// Puts the part of the module's text from a function on and before another. Only `AllocError` refuses.
+fn put_part<O: Output>(
+    out: &mut O,
+    alloc: Global,
+    module: &Module,
+    from: usize,
+    end: usize,
+) -> Result<(), AllocError>
+    requires { (from ≤ end) × (end ≤ length «module».now) }
+    ensures { OnOk result (PutsPart O.holds out.old out.new «module».now from end) }
+{
+    for i in from..end {
+        put_before_function(out, i);
+        put_alone(out, alloc, module.func(i))?;
+    }
+    Ok(())
+}
+
+/// Puts the empty line that stands before each function but the first.
+fn put_before_function<O: Output>(out: &mut O, place: usize)
+    ensures { Puts O.holds out.old out.new (before_function place) }
+{
+    if place != 0 {
+        out.put(b"\n");
+    }
+}
+
+/// Numbers a whole function and puts it. Only `AllocError` refuses.
+fn put_alone<O: Output>(out: &mut O, alloc: Global, func: &Func) -> Result<(), AllocError>
+    requires { IsWhole func.now.function }
+    ensures { OnOk result (Puts O.holds out.old out.new (function_text_of func.now.function)) }
+{
+    let numbers = func_numbers(alloc, func)?;
+    put_function(out, func, &numbers);
+    Ok(())
+}

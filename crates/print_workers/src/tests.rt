@@ -1,0 +1,67 @@
+//! What no clause says: that memory suffices for a small module, whose text several workers print as one does.
+ghost use Rattle.std.specs.Prelude.{IfOk};
+ghost use Rattle.ir_core.specs.Sound.{IsWhole};
+
+use crate::{PrintErr, print_with};
+use clif_numbers::numbering;
+use clif_print::print;
+use clk_flow::MemSink;
+use debug_tags::Tags;
+use ir_core::{Conv, Func, FuncName, Inst, InstData, List, Module, Sig, Values};
+use std::alloc::{AllocError, Global};
+
+const TEXT: &[u8] =
+    b"function u0:0() fast {\nblock0:\n    return\n}\n\nfunction u0:1() fast {\nblock0:\n    return\n}\n\nfunction u0:2() fast {\nblock0:\n    return\n}\n";
+
+/// A function that returns at once.
+fn returning(alloc: Global, number: u32) -> Result<Func, AllocError>
+    ensures { IfOk result (λ func. IsWhole func.function) }
+{
+    let sig = Sig {
+        params: List::from_vec(Vec::new(alloc)),
+        results: List::from_vec(Vec::new(alloc)),
+        conv: Conv::Fast,
+    };
+    let mut func = Func::new(alloc, FuncName::User(0, number), sig)?;
+    let block = func.add_block()?;
+    let line = InstData {
+        inst: Inst::Return(Values::none()),
+        ty: None,
+        results: Values::none(),
+        tags: Tags::new(Vec::new(alloc)),
+    };
+    func.add_inst(block, line)?;
+    Ok(func)
+}
+
+/// Three functions that return at once.
+fn three(alloc: Global) -> Result<Module, AllocError> {
+    let mut module = Module::new(alloc);
+    for number in 0..3 {
+        let func = returning(alloc, number)?;
+        if module.find(func.name()).is_none() {
+            module.push(func)?;
+        }
+    }
+    Ok(module)
+}
+
+#[test]
+fn workers_print_what_one_prints(rt: HostRuntime) -> Result<(), AllocError> {
+    let alloc = rt.alloc();
+    let module = three(alloc)?;
+    let numbers = numbering(alloc, &module)?;
+    let mut out = MemSink::new(alloc, Vec::new(alloc), 1000)?;
+    assert!(rt; print(&module, &numbers, &mut out).is_ok());
+    assert!(rt; out.bytes() == TEXT);
+    for workers in [1, 2, 5] {
+        let mut out = MemSink::new(alloc, Vec::new(alloc), 1000)?;
+        assert!(rt; print_with(&rt, alloc, &module, workers, &mut out) == Ok(()));
+        assert!(rt; out.bytes() == TEXT, "{workers} workers");
+        let mut small = MemSink::new(alloc, Vec::new(alloc), 60)?;
+        let failed = print_with(&rt, alloc, &module, workers, &mut small);
+        assert!(rt; failed == Err(PrintErr::Failed));
+        assert!(rt; small.bytes() == &TEXT[..60]);
+    }
+    Ok(())
+}

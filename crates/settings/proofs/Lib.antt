@@ -1,0 +1,4 @@
+pub mod Builders
+pub mod Faultless
+pub mod Lines
+pub mod Numbers

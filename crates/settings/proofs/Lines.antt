@@ -1,0 +1,29 @@
+-- The command lines of the laws, computed.
+use Rattle.std.proofs.Common.{refl}
+use Rattle.clap.proofs.OnLiterals.{clap_on_literals}
+use Rattle.settings.specs.Options.{number_of}
+use Rattle.settings.specs.Laws.{SomeAreRefused, SomeHaveSettings, TablesAreSimple}
+
+pub some_are_refused : SomeAreRefused
+unfolding clap_on_literals number_of
+some_are_refused = record {
+  no_word = refl;
+  help = refl;
+  help_of_a_command = refl;
+  no_command = refl;
+  not_there_yet = refl;
+  two_commands = refl;
+  no_entry = refl;
+  no_worker = refl;
+  many_workers = refl;
+  large_callee = refl;
+  repeated = refl;
+}
+
+pub some_have_settings : SomeHaveSettings
+unfolding clap_on_literals number_of
+some_have_settings = record { check = refl; print = refl; inline = refl; run = refl }
+
+pub tables_are_simple : TablesAreSimple
+unfolding clap_on_literals
+tables_are_simple = record { now = refl; whole = refl; gen = refl; gen_alone = refl }

@@ -1,0 +1,41 @@
+-- What the table says of some command lines, without the program's name.
+use Rattle.std.specs.Prelude.{◌≡◌, List, [], ◌∷◌, Some, None, codes, true}
+use Rattle.clap.specs.Words.{Text, fault_of, is_simple_and_free}
+use Rattle.clap.specs.declared.error.kind.ErrorKind.TheVariants as kind
+use Rattle.settings.specs.Settings.{Settings, Check, Print, Inline, Run}
+use Rattle.settings.specs.Table.{table, whole_table}
+use Rattle.settings.specs.Meaning.{settings_of}
+
+abbrev pub AreRefused : List Text → Type 0
+AreRefused words = settings_of (codes "clifinl" ∷ words) ≡ None
+
+abbrev pub Have : Settings → List Text → Type 0
+Have settings words = settings_of (codes "clifinl" ∷ words) ≡ Some settings
+
+pub record SomeAreRefused : Type 0 where
+  pub no_word : AreRefused []
+  pub help : AreRefused (codes "--help" ∷ [])
+  pub help_of_a_command : AreRefused (codes "run" ∷ codes "--help" ∷ [])
+  pub no_command : AreRefused (codes "optimise" ∷ [])
+  pub not_there_yet : AreRefused (codes "gen" ∷ codes "--functions" ∷ codes "9" ∷ [])
+  pub two_commands : AreRefused (codes "check" ∷ codes "check" ∷ [])
+  pub no_entry : AreRefused (codes "run" ∷ [])
+  pub no_worker : AreRefused (codes "inline" ∷ codes "--workers" ∷ codes "0" ∷ [])
+  pub many_workers : AreRefused (codes "inline" ∷ codes "--workers" ∷ codes "65" ∷ [])
+  pub large_callee : AreRefused (codes "inline" ∷ codes "--callee-size" ∷ codes "262145" ∷ [])
+  pub repeated : AreRefused (codes "inline" ∷ codes "--workers" ∷ codes "1" ∷ codes "--workers" ∷ codes "2" ∷ [])
+
+pub record SomeHaveSettings : Type 0 where
+  pub check : Have Check (codes "check" ∷ [])
+  pub print : Have Print (codes "print" ∷ [])
+  pub inline : Have (Inline (record { callee_size = 64; caller_size = 4096; workers = 4 })) (codes "inline" ∷ [])
+  pub run : Have (Run (record { entry = codes "%f"; args = codes "-5"; script = []; memory = 65536; steps = 1000000 }))
+      (codes "run" ∷ codes "--entry" ∷ codes "%f" ∷ codes "--args=-5" ∷ [])
+
+-- `clap`'s clauses speak of these tables
+pub record TablesAreSimple : Type 0 where
+  pub now : is_simple_and_free table ≡ true
+  pub whole : is_simple_and_free whole_table ≡ true
+  pub gen : fault_of whole_table (codes "clifinl" ∷ codes "gen" ∷ codes "--functions" ∷ codes "20000" ∷ codes "--text"
+      ∷ []) ≡ []
+  pub gen_alone : fault_of whole_table (codes "clifinl" ∷ codes "gen" ∷ []) ≡ kind.MissingRequiredArgument ∷ []

@@ -1,0 +1,79 @@
+//! The command table, as `clap` has it.
+ghost use Rattle.std.specs.Prelude.{◌≡◌, IfOk, [], false, codes};
+ghost use Rattle.clap.specs.Words.{app_of, rule_of, shape_of};
+ghost use Rattle.clap.specs.declared.builder.command.Command.TheViews.{out-Command};
+ghost use Rattle.settings.specs.Options.{number_or, required_text, text_or_empty};
+ghost use Rattle.settings.specs.Table as spec;
+
+use clap::builder::ValueParser;
+use clap::{Arg, Command};
+use std::alloc::{AllocError, Global};
+
+/// `clifinl` with its commands, one of which has to be named.
+pub(crate) fn command_table<'a>(alloc: Global) -> Result<Command<'a>, AllocError>
+    ensures { IfOk result (λ c. app_of c ≡ spec.table) }
+{
+    let check = plain_command(alloc, "check");
+    let print = plain_command(alloc, "print");
+    let inline = inline_command(alloc)?;
+    let run = run_command(alloc)?;
+    Command::new(alloc, "clifinl")
+        .subcommand_required(true)
+        .subcommand(check)?
+        .subcommand(print)?
+        .subcommand(inline)?
+        .subcommand(run)
+}
+
+fn plain_command<'a>(alloc: Global, name: &'a str) -> Command<'a>
+    ensures { (shape_of result ≡ spec.command name.entry.now []) × ((out-Command result).has_globals ≡ false) }
+{
+    Command::new(alloc, name)
+}
+
+fn inline_command<'a>(alloc: Global) -> Result<Command<'a>, AllocError>
+    ensures { IfOk result (λ c. (shape_of c ≡ spec.command (codes "inline") spec.inline_options)
+        × ((out-Command c).has_globals ≡ false)) }
+{
+    Command::new(alloc, "inline")
+        .arg(number_option(alloc, "callee-size", 0, 262_144, "64"))?
+        .arg(number_option(alloc, "caller-size", 0, 262_144, "4096"))?
+        .arg(number_option(alloc, "workers", 1, 64, "4"))
+}
+
+fn run_command<'a>(alloc: Global) -> Result<Command<'a>, AllocError>
+    ensures { IfOk result (λ c. (shape_of c ≡ spec.command (codes "run") spec.run_options)
+        × ((out-Command c).has_globals ≡ false)) }
+{
+    Command::new(alloc, "run")
+        .arg(required_option(alloc, "entry"))?
+        .arg(text_option(alloc, "args"))?
+        .arg(text_option(alloc, "script"))?
+        .arg(number_option(alloc, "memory", 0, 16_777_216, "65536"))?
+        .arg(number_option(alloc, "steps", 0, 1_000_000_000, "1000000"))
+}
+
+/// An option whose value is a number from `least` to `most`, or else `usual`.
+fn number_option<'a>(alloc: Global, name: &'a str, least: u64, most: u64, usual: &'a str) -> Arg<'a>
+    ensures { (rule_of result ≡ number_or (record { name = name.entry.now; least = least; most = most }) usual.entry.now)
+        × (result.global ≡ false) }
+{
+    Arg::new(alloc, name)
+        .long(name)
+        .value_parser(ValueParser::unsigned(least, most))
+        .default_value(usual)
+}
+
+/// An option whose value is a text, which is empty where the words have none.
+fn text_option<'a>(alloc: Global, name: &'a str) -> Arg<'a>
+    ensures { (rule_of result ≡ text_or_empty name.entry.now) × (result.global ≡ false) }
+{
+    Arg::new(alloc, name).long(name).default_value("")
+}
+
+/// An option whose value is a text that has to be given.
+fn required_option<'a>(alloc: Global, name: &'a str) -> Arg<'a>
+    ensures { (rule_of result ≡ required_text name.entry.now) × (result.global ≡ false) }
+{
+    Arg::new(alloc, name).long(name).required(true)
+}

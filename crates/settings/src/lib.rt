@@ -1,0 +1,12 @@
+//! What the words of the command line ask for, by the command table.
+#![tactic(auto)]
+
+mod command_table;
+pub mod laws;
+mod reading;
+mod requests;
+#[cfg(test)]
+mod tests;
+
+pub use reading::{Stopped, read_settings};
+pub use requests::{InlineSettings, RunSettings, Settings};

@@ -2,7 +2,10 @@
 """Writes the vectors of the test of `eval`: operands, and the results that Python's own integers give.
 
 Run at the top of the repository:
-    python3 bench/eval_vectors.py > crates/clk_num/src/operations/vectors.rt
+    python3 bench/eval_vectors.py narrow > crates/clk_num/src/operations/narrow_vectors.rt
+    python3 bench/eval_vectors.py wide > crates/clk_num/src/operations/wide_vectors.rt
+
+The narrow ones are those of i8, i16 and i32, the wide ones those of i64 and i128.
 
 A line has a kind, its operands, and one result for each opcode of the kind, in the order of the lists below, which the test
 has too. A value is a letter for its type (B i8, H i16, W i32, D i64, Q i128) and its bits in hexadecimal digits. A result is a
@@ -178,32 +181,33 @@ def line(kind, operands, results):
 
 
 def lines():
+    """Each line with the width that it is about."""
     draw = random.Random(1)
     for w in WIDTHS:
         least, most, minus = 1 << (w - 1), mask(w - 1), mask(w)
         a, b = draw.getrandbits(w), draw.getrandbits(w - 1)
         for x in [0, 1, minus, least, most, a, b]:
-            yield line("u", [(w, x)], [f(w, x) for f in UNARY.values()])
+            yield w, line("u", [(w, x)], [f(w, x) for f in UNARY.values()])
         pairs = [(0, 0), (0, minus), (1, minus), (minus, minus), (minus, 1), (least, minus), (least, 1), (least, least)]
         pairs += [(most, 1), (most, most), (least, most), (most, least), (a, b), (b, a), (a, 0), (a, 3), (a, minus - 1)]
         for x, y in pairs:
-            yield line("b", [(w, x), (w, y)], [f(w, x, y) for f in BINARY.values()])
+            yield w, line("b", [(w, x), (w, y)], [f(w, x, y) for f in BINARY.values()])
         amounts = [(w, 0), (w, 1), (w, w - 1), (w, w), (w, w + 1)]
         amounts += [(8, 255), (128, (1 << 127) + 5)]
         for x in [1, minus, least, a]:
             for v, k in amounts:
-                yield line("s", [(w, x), (v, k)], [f(w, x, k) for f in SHIFTS.values()])
+                yield w, line("s", [(w, x), (v, k)], [f(w, x, k) for f in SHIFTS.values()])
         for v, c in [(w, 0), (w, least), (8, 1), (128, 0)]:
-            yield line("t", [(v, c), (w, a), (w, b)], [(w, a if c else b)])
+            yield w, line("t", [(v, c), (w, a), (w, b)], [(w, a if c else b)])
     for x, y in [(8, 16), (64, 8)]:
-        yield line("b", [(x, 1), (y, 1)], [None] * len(BINARY))
+        yield x, line("b", [(x, 1), (y, 1)], [None] * len(BINARY))
 
 
-def main():
-    text = list(lines())
+def main(name):
+    text = [l for w, l in lines() if (w > 32) == (name == "wide")]
     cases = sum(len(l.split()) - 1 - {"u": 1, "b": 2, "s": 2, "t": 3}[l[0]] for l in text)
     print("// Written by bench/eval_vectors.py, which says what a line means: %d cases." % cases)
-    print("pub const VECTORS: &str = \"\\")
+    print("pub const %s: &str = \"\\" % name.upper())
     for l in text:
         for part in broken(l + "\\n\\"):
             print(part)
@@ -228,4 +232,9 @@ def orders():
 if __name__ == "__main__":
     import sys
 
-    orders() if "--orders" in sys.argv else main()
+    if sys.argv[1:] == ["--orders"]:
+        orders()
+    elif sys.argv[1:] in (["narrow"], ["wide"]):
+        main(sys.argv[1])
+    else:
+        sys.exit("eval_vectors.py: narrow, wide or --orders")

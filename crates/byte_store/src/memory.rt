@@ -61,7 +61,8 @@ impl Memory {
         big: bool,
         value: u128,
     ) -> Result<(), OutOfRange>
-        ensures ok { OnOk result (Some self.new ≡ memory_write self.old address (by_endian big (bytes_of bytes value))) }
+        ensures ok { OnOk result
+            (Some self.new ≡ memory_write self.old address (by_endian big (bytes_of bytes value))) }
         ensures err { OnErr result (None ≡ memory_write self.old address (by_endian big (bytes_of bytes value))) }
         ensures kept { OnErr result (self.new ≡ self.old) }
     {

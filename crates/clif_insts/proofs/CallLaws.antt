@@ -2,7 +2,7 @@
 use Rattle.std.proofs.Common.{[], None, Ok}
 use Rattle.grammar.specs.Rules.{Opt, ◌>>=◌}
 use Rattle.clif_words.specs.declared.class.Class.TheVariants as classes
-use Rattle.clif_insts.specs.declared.targets.Place.TheVariants as places
+use Rattle.clif_insts.specs.declared.targets.TargetRole.TheVariants as roles
 use Rattle.clif_insts.specs.declared.raw.RawOperands.TheVariants as operands
 use Rattle.clif_words.specs.Terminals.{◌then◌, value, comma, sig, callee, br_table, return_word, trap, trap_if, call, try_call, call_indirect, try_call_indirect}
 use Rattle.clif_insts.specs.Grammar.{suffix, suffix_i64, any_trap, target, normal_target, table, args, target_list}
@@ -22,11 +22,11 @@ pub br_table_is : Is (br_table then value then comma then target then comma then
 unfolding br_table_at
 br_table_is =
     then_is (opcode_is classes.BrTable) (value then comma then target then comma then target_list) (λ opcode v. raw opcode None (operands.BrTable (name v.0) (branch_value v.1.1.0) (target_list_value v.1.1.1.1)))
-    (λ opcode ts. name_at classes.Value ts >>= λ index. name_at classes.Comma index.1 >>= λ s1. target_at places.Branch s1.1 >>= λ default. name_at classes.Comma default.1 >>= λ s3. target_list_at s3.1 >>= λ entries. Ok (raw opcode None (operands.BrTable index.0 default.0 entries.0), entries.1))
+    (λ opcode ts. name_at classes.Value ts >>= λ index. name_at classes.Comma index.1 >>= λ s1. target_at roles.Branch s1.1 >>= λ default. name_at classes.Comma default.1 >>= λ s3. target_list_at s3.1 >>= λ entries. Ok (raw opcode None (operands.BrTable index.0 default.0 entries.0), entries.1))
     (λ opcode. then_is (name_is classes.Value) (comma then target then comma then target_list) (λ index v. raw opcode None (operands.BrTable index (branch_value v.1.0) (target_list_value v.1.1.1)))
-    (λ index ts. name_at classes.Comma ts >>= λ s1. target_at places.Branch s1.1 >>= λ default. name_at classes.Comma default.1 >>= λ s3. target_list_at s3.1 >>= λ entries. Ok (raw opcode None (operands.BrTable index default.0 entries.0), entries.1))
+    (λ index ts. name_at classes.Comma ts >>= λ s1. target_at roles.Branch s1.1 >>= λ default. name_at classes.Comma default.1 >>= λ s3. target_list_at s3.1 >>= λ entries. Ok (raw opcode None (operands.BrTable index default.0 entries.0), entries.1))
     (λ index. then_is (name_is classes.Comma) (target then comma then target_list) (λ s1 v. raw opcode None (operands.BrTable index (branch_value v.0) (target_list_value v.1.1)))
-    (λ s1 ts. target_at places.Branch ts >>= λ default. name_at classes.Comma default.1 >>= λ s3. target_list_at s3.1 >>= λ entries. Ok (raw opcode None (operands.BrTable index default.0 entries.0), entries.1))
+    (λ s1 ts. target_at roles.Branch ts >>= λ default. name_at classes.Comma default.1 >>= λ s3. target_list_at s3.1 >>= λ entries. Ok (raw opcode None (operands.BrTable index default.0 entries.0), entries.1))
     (λ s1. then_is (branch_is) (comma then target_list) (λ default v. raw opcode None (operands.BrTable index default (target_list_value v.1)))
     (λ default ts. name_at classes.Comma ts >>= λ s3. target_list_at s3.1 >>= λ entries. Ok (raw opcode None (operands.BrTable index default entries.0), entries.1))
     (λ default. then_is (name_is classes.Comma) target_list (λ s3 v. raw opcode None (operands.BrTable index default (target_list_value v)))
@@ -71,17 +71,17 @@ pub try_call_is : Is (try_call then callee then args then comma then sig then co
 unfolding try_call_at
 try_call_is =
     then_is (opcode_is classes.TryCall) (callee then args then comma then sig then comma then normal_target then comma then table) (λ opcode v. raw opcode None (operands.TryCall (name v.0) (args_value v.1.0) (name v.1.1.1.0) (normal_value v.1.1.1.1.1.0) (table_value v.1.1.1.1.1.1.1)))
-    (λ opcode ts. name_at classes.Callee ts >>= λ the_callee. args_at the_callee.1 >>= λ the_args. name_at classes.Comma the_args.1 >>= λ s2. name_at classes.Sig s2.1 >>= λ the_sig. name_at classes.Comma the_sig.1 >>= λ s4. target_at places.Normal s4.1 >>= λ normal. name_at classes.Comma normal.1 >>= λ s6. table_at s6.1 >>= λ the_table. Ok (raw opcode None (operands.TryCall the_callee.0 the_args.0 the_sig.0 normal.0 the_table.0), the_table.1))
+    (λ opcode ts. name_at classes.Callee ts >>= λ the_callee. args_at the_callee.1 >>= λ the_args. name_at classes.Comma the_args.1 >>= λ s2. name_at classes.Sig s2.1 >>= λ the_sig. name_at classes.Comma the_sig.1 >>= λ s4. target_at roles.Normal s4.1 >>= λ normal. name_at classes.Comma normal.1 >>= λ s6. table_at s6.1 >>= λ the_table. Ok (raw opcode None (operands.TryCall the_callee.0 the_args.0 the_sig.0 normal.0 the_table.0), the_table.1))
     (λ opcode. then_is (name_is classes.Callee) (args then comma then sig then comma then normal_target then comma then table) (λ the_callee v. raw opcode None (operands.TryCall the_callee (args_value v.0) (name v.1.1.0) (normal_value v.1.1.1.1.0) (table_value v.1.1.1.1.1.1)))
-    (λ the_callee ts. args_at ts >>= λ the_args. name_at classes.Comma the_args.1 >>= λ s2. name_at classes.Sig s2.1 >>= λ the_sig. name_at classes.Comma the_sig.1 >>= λ s4. target_at places.Normal s4.1 >>= λ normal. name_at classes.Comma normal.1 >>= λ s6. table_at s6.1 >>= λ the_table. Ok (raw opcode None (operands.TryCall the_callee the_args.0 the_sig.0 normal.0 the_table.0), the_table.1))
+    (λ the_callee ts. args_at ts >>= λ the_args. name_at classes.Comma the_args.1 >>= λ s2. name_at classes.Sig s2.1 >>= λ the_sig. name_at classes.Comma the_sig.1 >>= λ s4. target_at roles.Normal s4.1 >>= λ normal. name_at classes.Comma normal.1 >>= λ s6. table_at s6.1 >>= λ the_table. Ok (raw opcode None (operands.TryCall the_callee the_args.0 the_sig.0 normal.0 the_table.0), the_table.1))
     (λ the_callee. then_is (args_is) (comma then sig then comma then normal_target then comma then table) (λ the_args v. raw opcode None (operands.TryCall the_callee the_args (name v.1.0) (normal_value v.1.1.1.0) (table_value v.1.1.1.1.1)))
-    (λ the_args ts. name_at classes.Comma ts >>= λ s2. name_at classes.Sig s2.1 >>= λ the_sig. name_at classes.Comma the_sig.1 >>= λ s4. target_at places.Normal s4.1 >>= λ normal. name_at classes.Comma normal.1 >>= λ s6. table_at s6.1 >>= λ the_table. Ok (raw opcode None (operands.TryCall the_callee the_args the_sig.0 normal.0 the_table.0), the_table.1))
+    (λ the_args ts. name_at classes.Comma ts >>= λ s2. name_at classes.Sig s2.1 >>= λ the_sig. name_at classes.Comma the_sig.1 >>= λ s4. target_at roles.Normal s4.1 >>= λ normal. name_at classes.Comma normal.1 >>= λ s6. table_at s6.1 >>= λ the_table. Ok (raw opcode None (operands.TryCall the_callee the_args the_sig.0 normal.0 the_table.0), the_table.1))
     (λ the_args. then_is (name_is classes.Comma) (sig then comma then normal_target then comma then table) (λ s2 v. raw opcode None (operands.TryCall the_callee the_args (name v.0) (normal_value v.1.1.0) (table_value v.1.1.1.1)))
-    (λ s2 ts. name_at classes.Sig ts >>= λ the_sig. name_at classes.Comma the_sig.1 >>= λ s4. target_at places.Normal s4.1 >>= λ normal. name_at classes.Comma normal.1 >>= λ s6. table_at s6.1 >>= λ the_table. Ok (raw opcode None (operands.TryCall the_callee the_args the_sig.0 normal.0 the_table.0), the_table.1))
+    (λ s2 ts. name_at classes.Sig ts >>= λ the_sig. name_at classes.Comma the_sig.1 >>= λ s4. target_at roles.Normal s4.1 >>= λ normal. name_at classes.Comma normal.1 >>= λ s6. table_at s6.1 >>= λ the_table. Ok (raw opcode None (operands.TryCall the_callee the_args the_sig.0 normal.0 the_table.0), the_table.1))
     (λ s2. then_is (name_is classes.Sig) (comma then normal_target then comma then table) (λ the_sig v. raw opcode None (operands.TryCall the_callee the_args the_sig (normal_value v.1.0) (table_value v.1.1.1)))
-    (λ the_sig ts. name_at classes.Comma ts >>= λ s4. target_at places.Normal s4.1 >>= λ normal. name_at classes.Comma normal.1 >>= λ s6. table_at s6.1 >>= λ the_table. Ok (raw opcode None (operands.TryCall the_callee the_args the_sig normal.0 the_table.0), the_table.1))
+    (λ the_sig ts. name_at classes.Comma ts >>= λ s4. target_at roles.Normal s4.1 >>= λ normal. name_at classes.Comma normal.1 >>= λ s6. table_at s6.1 >>= λ the_table. Ok (raw opcode None (operands.TryCall the_callee the_args the_sig normal.0 the_table.0), the_table.1))
     (λ the_sig. then_is (name_is classes.Comma) (normal_target then comma then table) (λ s4 v. raw opcode None (operands.TryCall the_callee the_args the_sig (normal_value v.0) (table_value v.1.1)))
-    (λ s4 ts. target_at places.Normal ts >>= λ normal. name_at classes.Comma normal.1 >>= λ s6. table_at s6.1 >>= λ the_table. Ok (raw opcode None (operands.TryCall the_callee the_args the_sig normal.0 the_table.0), the_table.1))
+    (λ s4 ts. target_at roles.Normal ts >>= λ normal. name_at classes.Comma normal.1 >>= λ s6. table_at s6.1 >>= λ the_table. Ok (raw opcode None (operands.TryCall the_callee the_args the_sig normal.0 the_table.0), the_table.1))
     (λ s4. then_is (normal_is) (comma then table) (λ normal v. raw opcode None (operands.TryCall the_callee the_args the_sig normal (table_value v.1)))
     (λ normal ts. name_at classes.Comma ts >>= λ s6. table_at s6.1 >>= λ the_table. Ok (raw opcode None (operands.TryCall the_callee the_args the_sig normal the_table.0), the_table.1))
     (λ normal. then_is (name_is classes.Comma) table (λ s6 v. raw opcode None (operands.TryCall the_callee the_args the_sig normal (table_value v)))
@@ -107,19 +107,19 @@ pub try_call_indirect_is : Is (try_call_indirect then Opt suffix_i64 then value 
 unfolding try_call_indirect_at
 try_call_indirect_is =
     then_is (opcode_is classes.TryCallIndirect) (Opt suffix_i64 then value then args then comma then sig then comma then normal_target then comma then table) (λ opcode v. raw opcode None (operands.TryCallIndirect (name v.1.0) (args_value v.1.1.0) (name v.1.1.1.1.0) (normal_value v.1.1.1.1.1.1.0) (table_value v.1.1.1.1.1.1.1.1)))
-    (λ opcode ts. opt_suffix_i64_at ts >>= λ s0. name_at classes.Value s0.1 >>= λ address. args_at address.1 >>= λ the_args. name_at classes.Comma the_args.1 >>= λ s3. name_at classes.Sig s3.1 >>= λ the_sig. name_at classes.Comma the_sig.1 >>= λ s5. target_at places.Normal s5.1 >>= λ normal. name_at classes.Comma normal.1 >>= λ s7. table_at s7.1 >>= λ the_table. Ok (raw opcode None (operands.TryCallIndirect address.0 the_args.0 the_sig.0 normal.0 the_table.0), the_table.1))
+    (λ opcode ts. opt_suffix_i64_at ts >>= λ s0. name_at classes.Value s0.1 >>= λ address. args_at address.1 >>= λ the_args. name_at classes.Comma the_args.1 >>= λ s3. name_at classes.Sig s3.1 >>= λ the_sig. name_at classes.Comma the_sig.1 >>= λ s5. target_at roles.Normal s5.1 >>= λ normal. name_at classes.Comma normal.1 >>= λ s7. table_at s7.1 >>= λ the_table. Ok (raw opcode None (operands.TryCallIndirect address.0 the_args.0 the_sig.0 normal.0 the_table.0), the_table.1))
     (λ opcode. then_is (opt_suffix_i64_is) (value then args then comma then sig then comma then normal_target then comma then table) (λ s0 v. raw opcode None (operands.TryCallIndirect (name v.0) (args_value v.1.0) (name v.1.1.1.0) (normal_value v.1.1.1.1.1.0) (table_value v.1.1.1.1.1.1.1)))
-    (λ s0 ts. name_at classes.Value ts >>= λ address. args_at address.1 >>= λ the_args. name_at classes.Comma the_args.1 >>= λ s3. name_at classes.Sig s3.1 >>= λ the_sig. name_at classes.Comma the_sig.1 >>= λ s5. target_at places.Normal s5.1 >>= λ normal. name_at classes.Comma normal.1 >>= λ s7. table_at s7.1 >>= λ the_table. Ok (raw opcode None (operands.TryCallIndirect address.0 the_args.0 the_sig.0 normal.0 the_table.0), the_table.1))
+    (λ s0 ts. name_at classes.Value ts >>= λ address. args_at address.1 >>= λ the_args. name_at classes.Comma the_args.1 >>= λ s3. name_at classes.Sig s3.1 >>= λ the_sig. name_at classes.Comma the_sig.1 >>= λ s5. target_at roles.Normal s5.1 >>= λ normal. name_at classes.Comma normal.1 >>= λ s7. table_at s7.1 >>= λ the_table. Ok (raw opcode None (operands.TryCallIndirect address.0 the_args.0 the_sig.0 normal.0 the_table.0), the_table.1))
     (λ s0. then_is (name_is classes.Value) (args then comma then sig then comma then normal_target then comma then table) (λ address v. raw opcode None (operands.TryCallIndirect address (args_value v.0) (name v.1.1.0) (normal_value v.1.1.1.1.0) (table_value v.1.1.1.1.1.1)))
-    (λ address ts. args_at ts >>= λ the_args. name_at classes.Comma the_args.1 >>= λ s3. name_at classes.Sig s3.1 >>= λ the_sig. name_at classes.Comma the_sig.1 >>= λ s5. target_at places.Normal s5.1 >>= λ normal. name_at classes.Comma normal.1 >>= λ s7. table_at s7.1 >>= λ the_table. Ok (raw opcode None (operands.TryCallIndirect address the_args.0 the_sig.0 normal.0 the_table.0), the_table.1))
+    (λ address ts. args_at ts >>= λ the_args. name_at classes.Comma the_args.1 >>= λ s3. name_at classes.Sig s3.1 >>= λ the_sig. name_at classes.Comma the_sig.1 >>= λ s5. target_at roles.Normal s5.1 >>= λ normal. name_at classes.Comma normal.1 >>= λ s7. table_at s7.1 >>= λ the_table. Ok (raw opcode None (operands.TryCallIndirect address the_args.0 the_sig.0 normal.0 the_table.0), the_table.1))
     (λ address. then_is (args_is) (comma then sig then comma then normal_target then comma then table) (λ the_args v. raw opcode None (operands.TryCallIndirect address the_args (name v.1.0) (normal_value v.1.1.1.0) (table_value v.1.1.1.1.1)))
-    (λ the_args ts. name_at classes.Comma ts >>= λ s3. name_at classes.Sig s3.1 >>= λ the_sig. name_at classes.Comma the_sig.1 >>= λ s5. target_at places.Normal s5.1 >>= λ normal. name_at classes.Comma normal.1 >>= λ s7. table_at s7.1 >>= λ the_table. Ok (raw opcode None (operands.TryCallIndirect address the_args the_sig.0 normal.0 the_table.0), the_table.1))
+    (λ the_args ts. name_at classes.Comma ts >>= λ s3. name_at classes.Sig s3.1 >>= λ the_sig. name_at classes.Comma the_sig.1 >>= λ s5. target_at roles.Normal s5.1 >>= λ normal. name_at classes.Comma normal.1 >>= λ s7. table_at s7.1 >>= λ the_table. Ok (raw opcode None (operands.TryCallIndirect address the_args the_sig.0 normal.0 the_table.0), the_table.1))
     (λ the_args. then_is (name_is classes.Comma) (sig then comma then normal_target then comma then table) (λ s3 v. raw opcode None (operands.TryCallIndirect address the_args (name v.0) (normal_value v.1.1.0) (table_value v.1.1.1.1)))
-    (λ s3 ts. name_at classes.Sig ts >>= λ the_sig. name_at classes.Comma the_sig.1 >>= λ s5. target_at places.Normal s5.1 >>= λ normal. name_at classes.Comma normal.1 >>= λ s7. table_at s7.1 >>= λ the_table. Ok (raw opcode None (operands.TryCallIndirect address the_args the_sig.0 normal.0 the_table.0), the_table.1))
+    (λ s3 ts. name_at classes.Sig ts >>= λ the_sig. name_at classes.Comma the_sig.1 >>= λ s5. target_at roles.Normal s5.1 >>= λ normal. name_at classes.Comma normal.1 >>= λ s7. table_at s7.1 >>= λ the_table. Ok (raw opcode None (operands.TryCallIndirect address the_args the_sig.0 normal.0 the_table.0), the_table.1))
     (λ s3. then_is (name_is classes.Sig) (comma then normal_target then comma then table) (λ the_sig v. raw opcode None (operands.TryCallIndirect address the_args the_sig (normal_value v.1.0) (table_value v.1.1.1)))
-    (λ the_sig ts. name_at classes.Comma ts >>= λ s5. target_at places.Normal s5.1 >>= λ normal. name_at classes.Comma normal.1 >>= λ s7. table_at s7.1 >>= λ the_table. Ok (raw opcode None (operands.TryCallIndirect address the_args the_sig normal.0 the_table.0), the_table.1))
+    (λ the_sig ts. name_at classes.Comma ts >>= λ s5. target_at roles.Normal s5.1 >>= λ normal. name_at classes.Comma normal.1 >>= λ s7. table_at s7.1 >>= λ the_table. Ok (raw opcode None (operands.TryCallIndirect address the_args the_sig normal.0 the_table.0), the_table.1))
     (λ the_sig. then_is (name_is classes.Comma) (normal_target then comma then table) (λ s5 v. raw opcode None (operands.TryCallIndirect address the_args the_sig (normal_value v.0) (table_value v.1.1)))
-    (λ s5 ts. target_at places.Normal ts >>= λ normal. name_at classes.Comma normal.1 >>= λ s7. table_at s7.1 >>= λ the_table. Ok (raw opcode None (operands.TryCallIndirect address the_args the_sig normal.0 the_table.0), the_table.1))
+    (λ s5 ts. target_at roles.Normal ts >>= λ normal. name_at classes.Comma normal.1 >>= λ s7. table_at s7.1 >>= λ the_table. Ok (raw opcode None (operands.TryCallIndirect address the_args the_sig normal.0 the_table.0), the_table.1))
     (λ s5. then_is (normal_is) (comma then table) (λ normal v. raw opcode None (operands.TryCallIndirect address the_args the_sig normal (table_value v.1)))
     (λ normal ts. name_at classes.Comma ts >>= λ s7. table_at s7.1 >>= λ the_table. Ok (raw opcode None (operands.TryCallIndirect address the_args the_sig normal the_table.0), the_table.1))
     (λ normal. then_is (name_is classes.Comma) table (λ s7 v. raw opcode None (operands.TryCallIndirect address the_args the_sig normal (table_value v)))

@@ -2,7 +2,7 @@
 use Rattle.std.proofs.Common.{Some, None, Ok}
 use Rattle.grammar.specs.Rules.{Opt, ◌>>=◌}
 use Rattle.clif_words.specs.declared.class.Class.TheVariants as classes
-use Rattle.clif_insts.specs.declared.targets.Place.TheVariants as places
+use Rattle.clif_insts.specs.declared.targets.TargetRole.TheVariants as roles
 use Rattle.clif_insts.specs.declared.raw.RawOperands.TheVariants as operands
 use Rattle.clif_words.specs.Terminals.{◌then◌, signed, value, comma, condition, slot, callee, iconst, binary, unary, icmp, select, convert, binary_imm, icmp_imm, load, load_wide, store, stack_load, stack_store, func_addr, nullary, jump, brif}
 use Rattle.clif_insts.specs.Grammar.{number, suffix, suffix_i64, flags, target}
@@ -206,22 +206,22 @@ pub jump_is : Is (jump then target) jump_value jump_at
 unfolding jump_at
 jump_is =
     then_is (opcode_is classes.Jump) target (λ opcode v. raw opcode None (operands.Jump (branch_value v)))
-    (λ opcode ts. target_at places.Branch ts >>= λ the_target. Ok (raw opcode None (operands.Jump the_target.0), the_target.1))
+    (λ opcode ts. target_at roles.Branch ts >>= λ the_target. Ok (raw opcode None (operands.Jump the_target.0), the_target.1))
     (λ opcode. map_is (branch_is) (λ the_target. raw opcode None (operands.Jump the_target)))
 
 pub brif_is : Is (brif then Opt suffix then value then comma then target then comma then target) brif_value brif_at
 unfolding brif_at
 brif_is =
     then_is (opcode_is classes.Brif) (Opt suffix then value then comma then target then comma then target) (λ opcode v. raw opcode (opt_suffix_value v.0) (operands.Brif (name v.1.0) (branch_value v.1.1.1.0) (branch_value v.1.1.1.1.1)))
-    (λ opcode ts. opt_suffix_at ts >>= λ the_suffix. name_at classes.Value the_suffix.1 >>= λ cond. name_at classes.Comma cond.1 >>= λ s2. target_at places.Branch s2.1 >>= λ then_target. name_at classes.Comma then_target.1 >>= λ s4. target_at places.Branch s4.1 >>= λ else_target. Ok (raw opcode the_suffix.0 (operands.Brif cond.0 then_target.0 else_target.0), else_target.1))
+    (λ opcode ts. opt_suffix_at ts >>= λ the_suffix. name_at classes.Value the_suffix.1 >>= λ cond. name_at classes.Comma cond.1 >>= λ s2. target_at roles.Branch s2.1 >>= λ then_target. name_at classes.Comma then_target.1 >>= λ s4. target_at roles.Branch s4.1 >>= λ else_target. Ok (raw opcode the_suffix.0 (operands.Brif cond.0 then_target.0 else_target.0), else_target.1))
     (λ opcode. then_is (opt_suffix_is) (value then comma then target then comma then target) (λ the_suffix v. raw opcode the_suffix (operands.Brif (name v.0) (branch_value v.1.1.0) (branch_value v.1.1.1.1)))
-    (λ the_suffix ts. name_at classes.Value ts >>= λ cond. name_at classes.Comma cond.1 >>= λ s2. target_at places.Branch s2.1 >>= λ then_target. name_at classes.Comma then_target.1 >>= λ s4. target_at places.Branch s4.1 >>= λ else_target. Ok (raw opcode the_suffix (operands.Brif cond.0 then_target.0 else_target.0), else_target.1))
+    (λ the_suffix ts. name_at classes.Value ts >>= λ cond. name_at classes.Comma cond.1 >>= λ s2. target_at roles.Branch s2.1 >>= λ then_target. name_at classes.Comma then_target.1 >>= λ s4. target_at roles.Branch s4.1 >>= λ else_target. Ok (raw opcode the_suffix (operands.Brif cond.0 then_target.0 else_target.0), else_target.1))
     (λ the_suffix. then_is (name_is classes.Value) (comma then target then comma then target) (λ cond v. raw opcode the_suffix (operands.Brif cond (branch_value v.1.0) (branch_value v.1.1.1)))
-    (λ cond ts. name_at classes.Comma ts >>= λ s2. target_at places.Branch s2.1 >>= λ then_target. name_at classes.Comma then_target.1 >>= λ s4. target_at places.Branch s4.1 >>= λ else_target. Ok (raw opcode the_suffix (operands.Brif cond then_target.0 else_target.0), else_target.1))
+    (λ cond ts. name_at classes.Comma ts >>= λ s2. target_at roles.Branch s2.1 >>= λ then_target. name_at classes.Comma then_target.1 >>= λ s4. target_at roles.Branch s4.1 >>= λ else_target. Ok (raw opcode the_suffix (operands.Brif cond then_target.0 else_target.0), else_target.1))
     (λ cond. then_is (name_is classes.Comma) (target then comma then target) (λ s2 v. raw opcode the_suffix (operands.Brif cond (branch_value v.0) (branch_value v.1.1)))
-    (λ s2 ts. target_at places.Branch ts >>= λ then_target. name_at classes.Comma then_target.1 >>= λ s4. target_at places.Branch s4.1 >>= λ else_target. Ok (raw opcode the_suffix (operands.Brif cond then_target.0 else_target.0), else_target.1))
+    (λ s2 ts. target_at roles.Branch ts >>= λ then_target. name_at classes.Comma then_target.1 >>= λ s4. target_at roles.Branch s4.1 >>= λ else_target. Ok (raw opcode the_suffix (operands.Brif cond then_target.0 else_target.0), else_target.1))
     (λ s2. then_is (branch_is) (comma then target) (λ then_target v. raw opcode the_suffix (operands.Brif cond then_target (branch_value v.1)))
-    (λ then_target ts. name_at classes.Comma ts >>= λ s4. target_at places.Branch s4.1 >>= λ else_target. Ok (raw opcode the_suffix (operands.Brif cond then_target else_target.0), else_target.1))
+    (λ then_target ts. name_at classes.Comma ts >>= λ s4. target_at roles.Branch s4.1 >>= λ else_target. Ok (raw opcode the_suffix (operands.Brif cond then_target else_target.0), else_target.1))
     (λ then_target. then_is (name_is classes.Comma) target (λ s4 v. raw opcode the_suffix (operands.Brif cond then_target (branch_value v)))
-    (λ s4 ts. target_at places.Branch ts >>= λ else_target. Ok (raw opcode the_suffix (operands.Brif cond then_target else_target.0), else_target.1))
+    (λ s4 ts. target_at roles.Branch ts >>= λ else_target. Ok (raw opcode the_suffix (operands.Brif cond then_target else_target.0), else_target.1))
     (λ s4. map_is (branch_is) (λ else_target. raw opcode the_suffix (operands.Brif cond then_target else_target))))))))

@@ -4,8 +4,8 @@ use Rattle.grammar.specs.Rules.{Lexeme, Rule, Opt, Many, Tree, Unsupported, Out,
 use Rattle.ir_core.specs.declared.signatures.Ty.TheVariants as ty_words
 use Rattle.clif_words.specs.declared.class.Class.{Class}
 use Rattle.clif_words.specs.declared.class.Class.TheVariants as classes
-use Rattle.clif_insts.specs.declared.targets.Place.{Place}
-use Rattle.clif_insts.specs.declared.targets.Place.TheVariants as places
+use Rattle.clif_insts.specs.declared.targets.TargetRole.{TargetRole}
+use Rattle.clif_insts.specs.declared.targets.TargetRole.TheVariants as roles
 use Rattle.clif_insts.specs.declared.raw.RawName.{RawName}
 use Rattle.clif_insts.specs.declared.raw.RawArg.{RawArg}
 use Rattle.clif_insts.specs.declared.raw.RawArg.TheVariants as raw_args
@@ -108,21 +108,21 @@ args_is = within_is classes.LeftParen classes.RightParen values_is
 
 -- ---- targets
 
-branch_arg_is : Is value value_arg (arg_at places.Branch)
+branch_arg_is : Is value value_arg (arg_at roles.Branch)
 unfolding arg_at
 branch_arg_is = map_is (name_is classes.Value) raw_args.Value
 
-normal_arg_is : Is (value or ret) (value_arg otherwise (λ x. raw_args.Ret (name x))) (arg_at places.Normal)
+normal_arg_is : Is (value or ret) (value_arg otherwise (λ x. raw_args.Ret (name x))) (arg_at roles.Normal)
 unfolding arg_at
 normal_arg_is = alt_is (map_is (name_is classes.Value) raw_args.Value) (map_is (name_is classes.Ret) raw_args.Ret)
 
-handler_arg_is : Is (value or exn) (value_arg otherwise (λ x. raw_args.Exn (name x))) (arg_at places.Handler)
+handler_arg_is : Is (value or exn) (value_arg otherwise (λ x. raw_args.Exn (name x))) (arg_at roles.Handler)
 unfolding arg_at
 handler_arg_is = alt_is (map_is (name_is classes.Value) raw_args.Value) (map_is (name_is classes.Exn) raw_args.Exn)
 
-some_args_is : {arg : Rule} {f : Tree arg → RawArg} (place : Place) → Is arg f (arg_at place) → Is (commas arg) (commas_value arg f) (some_args_at place)
+some_args_is : {arg : Rule} {f : Tree arg → RawArg} (role : TargetRole) → Is arg f (arg_at role) → Is (commas arg) (commas_value arg f) (some_args_at role)
 unfolding some_args_at more_args_at comma_arg_at
-some_args_is place e = commas_is e
+some_args_is role e = commas_is e
 
 abbrev Arguments : Rule → Rule
 Arguments arg = left_paren then Opt (commas arg) then right_paren
@@ -133,33 +133,33 @@ arguments_value arg f v = perhaps [] (commas_value arg f) v.1.0
 abbrev raw_target : RawName → List RawArg → RawTarget
 raw_target b vs = record { block = b; args = vs }
 
-target_is : (arg : Rule) (f : Tree arg → RawArg) (place : Place) → Is (Arguments arg) (arguments_value arg f) (target_args_at place) → Is (call_to arg) (target_value arg f) (target_at place)
+target_is : (arg : Rule) (f : Tree arg → RawArg) (role : TargetRole) → Is (Arguments arg) (arguments_value arg f) (target_args_at role) → Is (call_to arg) (target_value arg f) (target_at role)
 unfolding target_at opt_target_args_at
-target_is arg f place e =
+target_is arg f role e =
     then_is (name_is classes.Block) (Opt (Arguments arg)) (λ b v. raw_target b (perhaps [] (arguments_value arg f) v))
-    (λ b ts. opt_target_args_at place ts >>= λ vs. Ok (raw_target b vs.0, vs.1))
+    (λ b ts. opt_target_args_at role ts >>= λ vs. Ok (raw_target b vs.0, vs.1))
     (λ b. map_is (opt_is e []) (λ vs. raw_target b vs))
 
-branch_args_is : Is (Arguments value) (arguments_value value value_arg) (target_args_at places.Branch)
+branch_args_is : Is (Arguments value) (arguments_value value value_arg) (target_args_at roles.Branch)
 unfolding target_args_at
-branch_args_is = within_is classes.LeftParen classes.RightParen (some_args_is places.Branch branch_arg_is)
+branch_args_is = within_is classes.LeftParen classes.RightParen (some_args_is roles.Branch branch_arg_is)
 
-normal_args_is : Is (Arguments (value or ret)) (arguments_value (value or ret) (value_arg otherwise (λ x. raw_args.Ret (name x)))) (target_args_at places.Normal)
+normal_args_is : Is (Arguments (value or ret)) (arguments_value (value or ret) (value_arg otherwise (λ x. raw_args.Ret (name x)))) (target_args_at roles.Normal)
 unfolding target_args_at
-normal_args_is = within_is classes.LeftParen classes.RightParen (some_args_is places.Normal normal_arg_is)
+normal_args_is = within_is classes.LeftParen classes.RightParen (some_args_is roles.Normal normal_arg_is)
 
-handler_args_is : Is (Arguments (value or exn)) (arguments_value (value or exn) (value_arg otherwise (λ x. raw_args.Exn (name x)))) (target_args_at places.Handler)
+handler_args_is : Is (Arguments (value or exn)) (arguments_value (value or exn) (value_arg otherwise (λ x. raw_args.Exn (name x)))) (target_args_at roles.Handler)
 unfolding target_args_at
-handler_args_is = within_is classes.LeftParen classes.RightParen (some_args_is places.Handler handler_arg_is)
+handler_args_is = within_is classes.LeftParen classes.RightParen (some_args_is roles.Handler handler_arg_is)
 
-pub branch_is : Is target branch_value (target_at places.Branch)
-branch_is = target_is value value_arg places.Branch branch_args_is
+pub branch_is : Is target branch_value (target_at roles.Branch)
+branch_is = target_is value value_arg roles.Branch branch_args_is
 
-pub normal_is : Is normal_target normal_value (target_at places.Normal)
-normal_is = target_is (value or ret) (value_arg otherwise (λ x. raw_args.Ret (name x))) places.Normal normal_args_is
+pub normal_is : Is normal_target normal_value (target_at roles.Normal)
+normal_is = target_is (value or ret) (value_arg otherwise (λ x. raw_args.Ret (name x))) roles.Normal normal_args_is
 
-handler_is : Is handler handler_value (target_at places.Handler)
-handler_is = target_is (value or exn) (value_arg otherwise (λ x. raw_args.Exn (name x))) places.Handler handler_args_is
+handler_is : Is handler handler_value (target_at roles.Handler)
+handler_is = target_is (value or exn) (value_arg otherwise (λ x. raw_args.Exn (name x))) roles.Handler handler_args_is
 
 targets_is : Is (commas target) (commas_value target branch_value) targets_at
 unfolding targets_at more_targets_at comma_target_at
@@ -182,8 +182,8 @@ entry_is : Is entry entry_value entry_at
 unfolding entry_at
 entry_is =
     then_is entry_name_is (colon then handler) (λ t v. raw_entry t (handler_value v.1))
-    (λ t ts. name_at classes.Colon ts >>= λ c. target_at places.Handler c.1 >>= λ b. Ok (raw_entry t b.0, b.1))
-    (λ t. then_is (name_is classes.Colon) handler (λ c v. raw_entry t (handler_value v)) (λ c ts. target_at places.Handler ts >>= λ b. Ok (raw_entry t b.0, b.1))
+    (λ t ts. name_at classes.Colon ts >>= λ c. target_at roles.Handler c.1 >>= λ b. Ok (raw_entry t b.0, b.1))
+    (λ t. then_is (name_is classes.Colon) handler (λ c v. raw_entry t (handler_value v)) (λ c ts. target_at roles.Handler ts >>= λ b. Ok (raw_entry t b.0, b.1))
     (λ c. map_is handler_is (λ b. raw_entry t b)))
 
 entries_is : Is (commas entry) (commas_value entry entry_value) entries_at

@@ -4,7 +4,7 @@ use Rattle.grammar.specs.Rules.{Lexeme, UnknownOpcode, Unsupported, Out, ◌>>=�
 use Rattle.clif_words.specs.declared.class.Class.TheVariants as classes
 use Rattle.clif_insts.specs.declared.opening.Opening.{Opening}
 use Rattle.clif_insts.specs.declared.opening.Opening.TheVariants.{AfterResults}
-use Rattle.clif_insts.specs.declared.targets.Place.TheVariants as places
+use Rattle.clif_insts.specs.declared.targets.TargetRole.TheVariants as roles
 use Rattle.clif_insts.specs.declared.raw.RawName.{RawName}
 use Rattle.clif_insts.specs.declared.raw.RawInst.{RawInst}
 use Rattle.clif_insts.specs.declared.raw.RawOperands.TheVariants as operands
@@ -159,7 +159,7 @@ nullary_at ts = do
 unfoldable pub jump_at : List Lexeme → Out RawInst
 jump_at ts = do
   opcode ← opcode_at classes.Jump ts
-  target ← target_at places.Branch opcode.1
+  target ← target_at roles.Branch opcode.1
   Ok (record { opcode = opcode.0; suffix = None; operands = operands.Jump target.0 }, target.1)
 
 unfoldable pub brif_at : List Lexeme → Out RawInst
@@ -168,9 +168,9 @@ brif_at ts = do
   suffix ← opt_suffix_at opcode.1
   cond ← name_at classes.Value suffix.1
   s2 ← name_at classes.Comma cond.1
-  then_target ← target_at places.Branch s2.1
+  then_target ← target_at roles.Branch s2.1
   s4 ← name_at classes.Comma then_target.1
-  else_target ← target_at places.Branch s4.1
+  else_target ← target_at roles.Branch s4.1
   Ok (
     record { opcode = opcode.0; suffix = suffix.0; operands = operands.Brif cond.0 then_target.0 else_target.0 },
     else_target.1,
@@ -181,7 +181,7 @@ br_table_at ts = do
   opcode ← opcode_at classes.BrTable ts
   index ← name_at classes.Value opcode.1
   s1 ← name_at classes.Comma index.1
-  default ← target_at places.Branch s1.1
+  default ← target_at roles.Branch s1.1
   s3 ← name_at classes.Comma default.1
   entries ← target_list_at s3.1
   Ok (record { opcode = opcode.0; suffix = None; operands = operands.BrTable index.0 default.0 entries.0 }, entries.1)
@@ -221,7 +221,7 @@ try_call_at ts = do
   s2 ← name_at classes.Comma args.1
   sig ← name_at classes.Sig s2.1
   s4 ← name_at classes.Comma sig.1
-  normal ← target_at places.Normal s4.1
+  normal ← target_at roles.Normal s4.1
   s6 ← name_at classes.Comma normal.1
   table ← table_at s6.1
   Ok (
@@ -248,12 +248,15 @@ try_call_indirect_at ts = do
   s3 ← name_at classes.Comma args.1
   sig ← name_at classes.Sig s3.1
   s5 ← name_at classes.Comma sig.1
-  normal ← target_at places.Normal s5.1
+  normal ← target_at roles.Normal s5.1
   s7 ← name_at classes.Comma normal.1
   table ← table_at s7.1
   Ok (
-    record
-        { opcode = opcode.0; suffix = None; operands = operands.TryCallIndirect address.0 args.0 sig.0 normal.0 table.0 },
+    record {
+      opcode = opcode.0;
+      suffix = None;
+      operands = operands.TryCallIndirect address.0 args.0 sig.0 normal.0 table.0;
+    },
     table.1,
   )
 

@@ -2,7 +2,7 @@
 use Rattle.std.specs.Prelude.{Bool, if◌then◌else◌, List, [], ◌∷◌, length, Option, Some, None, Ok}
 use Rattle.grammar.specs.Rules.{Lexeme, Unsupported, Out, heads, ◌>>=◌}
 use Rattle.clif_words.specs.declared.class.Class.TheVariants as classes
-use Rattle.clif_insts.specs.declared.targets.Place.TheVariants as places
+use Rattle.clif_insts.specs.declared.targets.TargetRole.TheVariants as roles
 use Rattle.clif_insts.specs.declared.raw.RawName.{RawName}
 use Rattle.clif_insts.specs.declared.raw.RawEntry.{RawEntry}
 use Rattle.clif_words.specs.Classes.{code}
@@ -20,7 +20,7 @@ unfoldable pub entry_at : List Lexeme → Out RawEntry
 entry_at ts = do
   t ← entry_tag_at ts
   c ← name_at classes.Colon t.1
-  b ← target_at places.Handler c.1
+  b ← target_at roles.Handler c.1
   Ok (record { tag = t.0; target = b.0 }, b.1)
 
 unfoldable pub comma_entry_at : List Lexeme → Out RawEntry

@@ -2,8 +2,8 @@
 use Rattle.std.specs.Prelude.{Bool, if◌then◌else◌, List, [], ◌∷◌, length, Ok}
 use Rattle.grammar.specs.Rules.{Lexeme, Out, heads, ◌>>=◌}
 use Rattle.clif_words.specs.declared.class.Class.TheVariants as classes
-use Rattle.clif_insts.specs.declared.targets.Place.{Place}
-use Rattle.clif_insts.specs.declared.targets.Place.TheVariants as places
+use Rattle.clif_insts.specs.declared.targets.TargetRole.{TargetRole}
+use Rattle.clif_insts.specs.declared.targets.TargetRole.TheVariants as roles
 use Rattle.clif_insts.specs.declared.raw.RawArg.{RawArg}
 use Rattle.clif_insts.specs.declared.raw.RawArg.TheVariants as raw_args
 use Rattle.clif_insts.specs.declared.raw.RawTarget.{RawTarget}
@@ -11,62 +11,62 @@ use Rattle.clif_words.specs.Classes.{code}
 use Rattle.clif_words.specs.Terminals.{codes_of}
 use Rattle.clif_insts.specs.Reading.{next_is, name_at, each, with_front}
 
--- an argument of a target, by the target's place
-unfoldable pub arg_at : Place → List Lexeme → Out RawArg
-arg_at places.Branch ts = name_at classes.Value ts >>= λ x. Ok (raw_args.Value x.0, x.1)
-arg_at places.Normal ts =
+-- an argument of a target, by the target's role
+unfoldable pub arg_at : TargetRole → List Lexeme → Out RawArg
+arg_at roles.Branch ts = name_at classes.Value ts >>= λ x. Ok (raw_args.Value x.0, x.1)
+arg_at roles.Normal ts =
     if next_is classes.Value ts then (name_at classes.Value ts >>= λ x. Ok (raw_args.Value x.0, x.1))
     else (name_at classes.Ret ts >>= λ x. Ok (raw_args.Ret x.0, x.1))
-arg_at places.Handler ts =
+arg_at roles.Handler ts =
     if next_is classes.Value ts then (name_at classes.Value ts >>= λ x. Ok (raw_args.Value x.0, x.1))
     else (name_at classes.Exn ts >>= λ x. Ok (raw_args.Exn x.0, x.1))
 
-unfoldable pub comma_arg_at : Place → List Lexeme → Out RawArg
-comma_arg_at place ts = do
+unfoldable pub comma_arg_at : TargetRole → List Lexeme → Out RawArg
+comma_arg_at role ts = do
   c ← name_at classes.Comma ts
-  arg_at place c.1
+  arg_at role c.1
 
-unfoldable pub more_args_at : Place → List RawArg → List Lexeme → Out (List RawArg)
-more_args_at place front ts = with_front front (each (comma_arg_at place) (code classes.Comma ∷ []) (length ts) ts)
+unfoldable pub more_args_at : TargetRole → List RawArg → List Lexeme → Out (List RawArg)
+more_args_at role front ts = with_front front (each (comma_arg_at role) (code classes.Comma ∷ []) (length ts) ts)
 
-unfoldable pub some_args_at : Place → List Lexeme → Out (List RawArg)
-some_args_at place ts = do
-  a ← arg_at place ts
-  more_args_at place (a.0 ∷ []) a.1
+unfoldable pub some_args_at : TargetRole → List Lexeme → Out (List RawArg)
+some_args_at role ts = do
+  a ← arg_at role ts
+  more_args_at role (a.0 ∷ []) a.1
 
 -- whether an argument begins here
-abbrev pub begins_arg : Place → List Lexeme → Bool
-begins_arg places.Branch ts = next_is classes.Value ts
-begins_arg places.Normal ts = heads (codes_of (classes.Value ∷ classes.Ret ∷ [])) ts
-begins_arg places.Handler ts = heads (codes_of (classes.Value ∷ classes.Exn ∷ [])) ts
+abbrev pub begins_arg : TargetRole → List Lexeme → Bool
+begins_arg roles.Branch ts = next_is classes.Value ts
+begins_arg roles.Normal ts = heads (codes_of (classes.Value ∷ classes.Ret ∷ [])) ts
+begins_arg roles.Handler ts = heads (codes_of (classes.Value ∷ classes.Exn ∷ [])) ts
 
-unfoldable pub target_args_at : Place → List Lexeme → Out (List RawArg)
-target_args_at place ts = do
+unfoldable pub target_args_at : TargetRole → List Lexeme → Out (List RawArg)
+target_args_at role ts = do
   l ← name_at classes.LeftParen ts
-  vs ← (if begins_arg place l.1 then some_args_at place l.1 else Ok ([], l.1))
+  vs ← (if begins_arg role l.1 then some_args_at role l.1 else Ok ([], l.1))
   r ← name_at classes.RightParen vs.1
   Ok (vs.0, r.1)
 
-unfoldable pub opt_target_args_at : Place → List Lexeme → Out (List RawArg)
-opt_target_args_at place ts = if next_is classes.LeftParen ts then target_args_at place ts else Ok ([], ts)
+unfoldable pub opt_target_args_at : TargetRole → List Lexeme → Out (List RawArg)
+opt_target_args_at role ts = if next_is classes.LeftParen ts then target_args_at role ts else Ok ([], ts)
 
-unfoldable pub target_at : Place → List Lexeme → Out RawTarget
-target_at place ts = do
+unfoldable pub target_at : TargetRole → List Lexeme → Out RawTarget
+target_at role ts = do
   b ← name_at classes.Block ts
-  vs ← opt_target_args_at place b.1
+  vs ← opt_target_args_at role b.1
   Ok (record { block = b.0; args = vs.0 }, vs.1)
 
 unfoldable pub comma_target_at : List Lexeme → Out RawTarget
 comma_target_at ts = do
   c ← name_at classes.Comma ts
-  target_at places.Branch c.1
+  target_at roles.Branch c.1
 
 unfoldable pub more_targets_at : List RawTarget → List Lexeme → Out (List RawTarget)
 more_targets_at front ts = with_front front (each comma_target_at (code classes.Comma ∷ []) (length ts) ts)
 
 unfoldable pub targets_at : List Lexeme → Out (List RawTarget)
 targets_at ts = do
-  t ← target_at places.Branch ts
+  t ← target_at roles.Branch ts
   more_targets_at (t.0 ∷ []) t.1
 
 -- the list of a `br_table`

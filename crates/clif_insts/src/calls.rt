@@ -9,7 +9,7 @@ use crate::raw::{RawInst, RawOperands};
 use crate::reader::Reader;
 use crate::stop::Stop;
 use crate::tables::boxed_table;
-use crate::targets::{Place, boxed_target};
+use crate::targets::{TargetRole, boxed_target};
 use crate::types::opt_suffix_i64;
 use clif_words::Class;
 use ir_core::List;
@@ -46,7 +46,7 @@ pub(crate) fn try_call(alloc: Global, reader: &mut Reader<'_>) -> Result<RawInst
     reader.take(Class::Comma)?;
     let sig = reader.take(Class::Sig)?;
     reader.take(Class::Comma)?;
-    let normal = boxed_target(alloc, reader, Place::Normal)?;
+    let normal = boxed_target(alloc, reader, TargetRole::Normal)?;
     reader.take(Class::Comma)?;
     let table = boxed_table(alloc, reader)?;
     Ok(RawInst {
@@ -98,7 +98,7 @@ pub(crate) fn try_call_indirect(alloc: Global, reader: &mut Reader<'_>) -> Resul
     reader.take(Class::Comma)?;
     let sig = reader.take(Class::Sig)?;
     reader.take(Class::Comma)?;
-    let normal = boxed_target(alloc, reader, Place::Normal)?;
+    let normal = boxed_target(alloc, reader, TargetRole::Normal)?;
     reader.take(Class::Comma)?;
     let table = boxed_table(alloc, reader)?;
     Ok(RawInst {

@@ -9,7 +9,7 @@ use crate::codes::trap;
 use crate::raw::{RawInst, RawOperands};
 use crate::reader::Reader;
 use crate::stop::Stop;
-use crate::targets::{Place, boxed_target, target, target_list};
+use crate::targets::{TargetRole, boxed_target, target, target_list};
 use crate::types::opt_suffix;
 use clif_words::Class;
 use ir_core::List;
@@ -37,7 +37,7 @@ pub(crate) fn jump(alloc: Global, reader: &mut Reader<'_>) -> Result<RawInst, St
     ensures shorter { IfOk result (λ _. length reader.new < length reader.old) }
 {
     let opcode = reader.take_opcode(Class::Jump)?;
-    let target = target(alloc, reader, Place::Branch)?;
+    let target = target(alloc, reader, TargetRole::Branch)?;
     Ok(RawInst {
         opcode,
         suffix: None,
@@ -55,9 +55,9 @@ pub(crate) fn brif(alloc: Global, reader: &mut Reader<'_>) -> Result<RawInst, St
     let suffix = opt_suffix(reader)?;
     let cond = reader.take(Class::Value)?;
     reader.take(Class::Comma)?;
-    let then_target = boxed_target(alloc, reader, Place::Branch)?;
+    let then_target = boxed_target(alloc, reader, TargetRole::Branch)?;
     reader.take(Class::Comma)?;
-    let else_target = boxed_target(alloc, reader, Place::Branch)?;
+    let else_target = boxed_target(alloc, reader, TargetRole::Branch)?;
     Ok(RawInst {
         opcode,
         suffix,
@@ -78,7 +78,7 @@ pub(crate) fn br_table(alloc: Global, reader: &mut Reader<'_>) -> Result<RawInst
     let opcode = reader.take_opcode(Class::BrTable)?;
     let index = reader.take(Class::Value)?;
     reader.take(Class::Comma)?;
-    let default = boxed_target(alloc, reader, Place::Branch)?;
+    let default = boxed_target(alloc, reader, TargetRole::Branch)?;
     reader.take(Class::Comma)?;
     let entries = target_list(alloc, reader)?;
     Ok(RawInst {

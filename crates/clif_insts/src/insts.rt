@@ -128,7 +128,8 @@ pub fn inst(
         (λ x. Found (lexemes text.now (drop i tokens.now)) (insts.place_left text.now tokens.now i) x.0 x.1) }
     ensures formed { IfOk result (λ x. InstFormed x.0) }
     ensures marks { IfOk result (λ x. MarksFormed (length text.now) (inst_marks x.0)) }
-    ensures stop { IfErr result (λ e. Stopped (lexemes text.now (drop i tokens.now)) (insts.place_left text.now tokens.now i) e) }
+    ensures stop { IfErr result
+        (λ e. Stopped (lexemes text.now (drop i tokens.now)) (insts.place_left text.now tokens.now i) e) }
 {
     let mut reader = Reader::new(text, tokens, i);
     let read = one_inst(alloc, &mut reader);

@@ -35,5 +35,5 @@ pub use raw::{
 };
 pub use reader::Reader;
 pub use stop::Stop;
-pub use targets::Place;
+pub use targets::TargetRole;
 pub use types::any_type;

@@ -9,7 +9,7 @@ use crate::lists::one_item;
 use crate::raw::{RawEntry, RawName};
 use crate::reader::Reader;
 use crate::stop::Stop;
-use crate::targets::{Place, target};
+use crate::targets::{TargetRole, target};
 use clif_words::Class;
 use ir_core::{Boxed, List};
 use std::alloc::Global;
@@ -43,7 +43,7 @@ pub(crate) fn entry(alloc: Global, reader: &mut Reader<'_>) -> Result<RawEntry, 
 {
     let tag = entry_tag(reader)?;
     reader.take(Class::Colon)?;
-    let target = target(alloc, reader, Place::Handler)?;
+    let target = target(alloc, reader, TargetRole::Handler)?;
     Ok(RawEntry { tag, target })
 }
 

@@ -16,7 +16,7 @@ use std::alloc::Global;
 /// Where a target stands: at a branch, as the normal target of a `try_call`, or in its table.
 /// `retN` stands only in the second, `exnN` only in the third.
 #[derive(Clone, Copy, Debug, PartialEq, Eq)]
-pub enum Place {
+pub enum TargetRole {
     Branch,
     Normal,
     Handler,
@@ -24,21 +24,21 @@ pub enum Place {
 
 /// An argument of a target.
 #[tactic(auto, unfolding(crate::specs::Targets::arg_at))]
-pub(crate) fn arg(reader: &mut Reader<'_>, place: Place) -> Result<RawArg, Stop>
-    ensures is { Gives same reader.new result (spec.arg_at place reader.old) }
+pub(crate) fn arg(reader: &mut Reader<'_>, role: TargetRole) -> Result<RawArg, Stop>
+    ensures is { Gives same reader.new result (spec.arg_at role reader.old) }
     ensures no_memory { IfErr result (λ e. e ≢ NoMemory) }
     ensures shorter { IfOk result (λ _. length reader.new < length reader.old) }
 {
-    match place {
-        Place::Branch => Ok(RawArg::Value(reader.take(Class::Value)?)),
-        Place::Normal => {
+    match role {
+        TargetRole::Branch => Ok(RawArg::Value(reader.take(Class::Value)?)),
+        TargetRole::Normal => {
             if reader.next_is(Class::Value) {
                 Ok(RawArg::Value(reader.take(Class::Value)?))
             } else {
                 Ok(RawArg::Ret(reader.take(Class::Ret)?))
             }
         }
-        Place::Handler => {
+        TargetRole::Handler => {
             if reader.next_is(Class::Value) {
                 Ok(RawArg::Value(reader.take(Class::Value)?))
             } else {
@@ -49,27 +49,27 @@ pub(crate) fn arg(reader: &mut Reader<'_>, place: Place) -> Result<RawArg, Stop>
 }
 
 #[tactic(auto, unfolding(crate::specs::Targets::comma_arg_at))]
-pub(crate) fn comma_arg(reader: &mut Reader<'_>, place: Place) -> Result<RawArg, Stop>
-    ensures is { Gives same reader.new result (spec.comma_arg_at place reader.old) }
+pub(crate) fn comma_arg(reader: &mut Reader<'_>, role: TargetRole) -> Result<RawArg, Stop>
+    ensures is { Gives same reader.new result (spec.comma_arg_at role reader.old) }
     ensures no_memory { IfErr result (λ e. e ≢ NoMemory) }
     ensures shorter { IfOk result (λ _. length reader.new < length reader.old) }
 {
     reader.take(Class::Comma)?;
-    arg(reader, place)
+    arg(reader, role)
 }
 
 /// Those behind commas, after those in front.
 pub(crate) fn more_args(
     reader: &mut Reader<'_>,
-    place: Place,
+    role: TargetRole,
     front: Vec<RawArg>,
 ) -> Result<Vec<RawArg>, Stop>
-    ensures is { Gives (λ x. x.items) reader.new result (spec.more_args_at place front.items reader.old) }
+    ensures is { Gives (λ x. x.items) reader.new result (spec.more_args_at role front.items reader.old) }
     ensures shorter { IfOk result (λ _. length reader.new ≤ length reader.old) }
 {
     let mut list = front;
     'list: while reader.next_is(Class::Comma) {
-        let item = comma_arg(reader, place)?;
+        let item = comma_arg(reader, role)?;
         list.push(item)?;
     }
     Ok(list)
@@ -79,24 +79,24 @@ pub(crate) fn more_args(
 pub(crate) fn some_args(
     alloc: Global,
     reader: &mut Reader<'_>,
-    place: Place,
+    role: TargetRole,
 ) -> Result<Vec<RawArg>, Stop>
-    ensures is { Gives (λ x. x.items) reader.new result (spec.some_args_at place reader.old) }
+    ensures is { Gives (λ x. x.items) reader.new result (spec.some_args_at role reader.old) }
     ensures shorter { IfOk result (λ _. length reader.new < length reader.old) }
 {
-    let first = arg(reader, place)?;
+    let first = arg(reader, role)?;
     let front = one_item(alloc, first)?;
-    more_args(reader, place, front)
+    more_args(reader, role, front)
 }
 
 /// Whether an argument begins here.
-fn begins_arg(reader: &Reader<'_>, place: Place) -> bool
-    ensures { result ≡ spec.begins_arg place reader.now }
+fn begins_arg(reader: &Reader<'_>, role: TargetRole) -> bool
+    ensures { result ≡ spec.begins_arg role reader.now }
 {
-    match place {
-        Place::Branch => reader.next_is(Class::Value),
-        Place::Normal => reader.next_is_either(Class::Value, Class::Ret),
-        Place::Handler => reader.next_is_either(Class::Value, Class::Exn),
+    match role {
+        TargetRole::Branch => reader.next_is(Class::Value),
+        TargetRole::Normal => reader.next_is_either(Class::Value, Class::Ret),
+        TargetRole::Handler => reader.next_is_either(Class::Value, Class::Exn),
     }
 }
 
@@ -104,14 +104,14 @@ fn begins_arg(reader: &Reader<'_>, place: Place) -> bool
 pub(crate) fn target_args(
     alloc: Global,
     reader: &mut Reader<'_>,
-    place: Place,
+    role: TargetRole,
 ) -> Result<Vec<RawArg>, Stop>
-    ensures is { Gives (λ x. x.items) reader.new result (spec.target_args_at place reader.old) }
+    ensures is { Gives (λ x. x.items) reader.new result (spec.target_args_at role reader.old) }
     ensures shorter { IfOk result (λ _. length reader.new < length reader.old) }
 {
     reader.take(Class::LeftParen)?;
-    let list = if begins_arg(reader, place) {
-        some_args(alloc, reader, place)?
+    let list = if begins_arg(reader, role) {
+        some_args(alloc, reader, role)?
     } else {
         Vec::new(alloc)
     };
@@ -123,13 +123,13 @@ pub(crate) fn target_args(
 pub(crate) fn opt_target_args(
     alloc: Global,
     reader: &mut Reader<'_>,
-    place: Place,
+    role: TargetRole,
 ) -> Result<Vec<RawArg>, Stop>
-    ensures is { Gives (λ x. x.items) reader.new result (spec.opt_target_args_at place reader.old) }
+    ensures is { Gives (λ x. x.items) reader.new result (spec.opt_target_args_at role reader.old) }
     ensures shorter { IfOk result (λ _. length reader.new ≤ length reader.old) }
 {
     if reader.next_is(Class::LeftParen) {
-        target_args(alloc, reader, place)
+        target_args(alloc, reader, role)
     } else {
         Ok(Vec::new(alloc))
     }
@@ -140,13 +140,13 @@ pub(crate) fn opt_target_args(
 pub(crate) fn target(
     alloc: Global,
     reader: &mut Reader<'_>,
-    place: Place,
+    role: TargetRole,
 ) -> Result<RawTarget, Stop>
-    ensures is { Gives same reader.new result (spec.target_at place reader.old) }
+    ensures is { Gives same reader.new result (spec.target_at role reader.old) }
     ensures shorter { IfOk result (λ _. length reader.new < length reader.old) }
 {
     let block = reader.take(Class::Block)?;
-    let args = opt_target_args(alloc, reader, place)?;
+    let args = opt_target_args(alloc, reader, role)?;
     Ok(RawTarget {
         block,
         args: List::from_vec(args),
@@ -157,12 +157,12 @@ pub(crate) fn target(
 pub(crate) fn boxed_target(
     alloc: Global,
     reader: &mut Reader<'_>,
-    place: Place,
+    role: TargetRole,
 ) -> Result<Boxed<RawTarget>, Stop>
-    ensures is { Gives same reader.new result (spec.target_at place reader.old) }
+    ensures is { Gives same reader.new result (spec.target_at role reader.old) }
     ensures shorter { IfOk result (λ _. length reader.new < length reader.old) }
 {
-    let target = target(alloc, reader, place)?;
+    let target = target(alloc, reader, role)?;
     Ok(Boxed::new(alloc, target)?)
 }
 
@@ -172,7 +172,7 @@ pub(crate) fn comma_target(alloc: Global, reader: &mut Reader<'_>) -> Result<Raw
     ensures shorter { IfOk result (λ _. length reader.new < length reader.old) }
 {
     reader.take(Class::Comma)?;
-    target(alloc, reader, Place::Branch)
+    target(alloc, reader, TargetRole::Branch)
 }
 
 /// Those behind commas, after those in front.
@@ -197,7 +197,7 @@ pub(crate) fn targets(alloc: Global, reader: &mut Reader<'_>) -> Result<Vec<RawT
     ensures is { Gives (λ x. x.items) reader.new result (spec.targets_at reader.old) }
     ensures shorter { IfOk result (λ _. length reader.new < length reader.old) }
 {
-    let first = target(alloc, reader, Place::Branch)?;
+    let first = target(alloc, reader, TargetRole::Branch)?;
     let front = one_item(alloc, first)?;
     more_targets(alloc, reader, front)
 }

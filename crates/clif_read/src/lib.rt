@@ -5,6 +5,8 @@ mod attributes;
 #[cfg(test)]
 mod declaration_tests;
 mod declarations;
+#[cfg(test)]
+mod form_tests;
 mod heads;
 pub mod laws;
 mod lines;

@@ -12,6 +12,7 @@ mod errors;
 mod lexemes;
 mod numbers;
 mod rules;
+mod signature_rules;
 mod source;
 mod stretches;
 #[cfg(test)]

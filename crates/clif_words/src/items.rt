@@ -97,7 +97,8 @@ fn meaning_at(table: &[Entry], number: usize, word: &[u8]) -> Option<Meaning>
 fn row_number(word: &[u8]) -> usize
     requires { 2 ≤ length word.now }
     ensures within { result + 1 < length table.all_words }
-    ensures only { words.look_up table.all_words word.now ≡ words.look_up (take 2 (drop result table.all_words)) word.now }
+    ensures only { words.look_up table.all_words word.now
+        ≡ words.look_up (take 2 (drop result table.all_words)) word.now }
 {
     let begin = word[0] as usize * 32 + word[1] as usize * 127;
     let sum = begin + word[word.len() - 1] as usize + word.len() % 32 * 3;

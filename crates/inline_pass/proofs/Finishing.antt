@@ -19,7 +19,7 @@ use Rattle.inline_outcomes.proofs.Local.{some_same}
 use Rattle.inline_outcomes.proofs.Places.{find_hit, find_skip}
 use Rattle.inline_outcomes.proofs.Functions.{cases_named, function_hit, function_skip, function_name}
 use Rattle.inline_pass.specs.Policy.{Policy, takes}
-use Rattle.inline_pass.specs.Sites.{Place, own_sites, place_behind, called}
+use Rattle.inline_pass.specs.Sites.{Point, own_sites, point_behind, called}
 use Rattle.inline_pass.specs.Finished.{inline_by, finish_by, body_of, finished_in, finished}
 use Rattle.inline_pass.specs.FinishedLaws.{FinishedEquation}
 use Rattle.inline_pass.proofs.Passing.{found, then_some}
@@ -88,7 +88,7 @@ names_of_block f (b ∷ bs) n k y h i =
       | inr q ↦ in_right y (names_in f b.lines) (called_names f bs) (names_of_block f bs n k y (sym (find_skip n b bs q) ∙ h) i)
     ]
 
-pub own_text : (f : Function) → WellFormed f → (q : Place) → Names (called_names f f.blocks) f q
+pub own_text : (f : Function) → WellFormed f → (q : Point) → Names (called_names f f.blocks) f q
 own_text f w q =
     record {
       callee = λ k l j h get is.
@@ -105,23 +105,23 @@ module _ (p : Policy) (bodies other : FuncName → Option Function) (names : Lis
   same_called None h = refl
   same_called (Some y) h = same y (h y refl)
 
-  pub agree : (now : Place → Place) (ss : List Place) (b : Function) → ((q : Place) → Names names b (now q)) → inline_by bodies p now ss b ≡ inline_by other p now ss b
+  pub agree : (now : Point → Point) (ss : List Point) (b : Function) → ((q : Point) → Names names b (now q)) → inline_by bodies p now ss b ≡ inline_by other p now ss b
   agree now [] b t = refl
   agree now (s ∷ ss) b t =
-      by (and_then (called b (now s).0 (now s).1) bodies) refl (agree now ss b t) (λ b'. agree (λ q. place_behind (now s).0 (now s).1 (now q)) ss b') ∙ ap (λ o. elim o as (λ z. Function) [ None ↦ inline_by other p now ss b | Some g ↦ if takes p g (splice_with sides b (now s).0 (now s).1 g) then inline_by other p (λ q. place_behind (now s).0 (now s).1 (now q)) ss (splice_with sides b (now s).0 (now s).1 g) else inline_by other p now ss b ]) (same_called (called b (now s).0 (now s).1) (λ y h. name_in names b (now s) (t s) y h))
+      by (and_then (called b (now s).0 (now s).1) bodies) refl (agree now ss b t) (λ b'. agree (λ q. point_behind (now s).0 (now s).1 (now q)) ss b') ∙ ap (λ o. elim o as (λ z. Function) [ None ↦ inline_by other p now ss b | Some g ↦ if takes p g (splice_with sides b (now s).0 (now s).1 g) then inline_by other p (λ q. point_behind (now s).0 (now s).1 (now q)) ss (splice_with sides b (now s).0 (now s).1 g) else inline_by other p now ss b ]) (same_called (called b (now s).0 (now s).1) (λ y h. name_in names b (now s) (t s) y h))
     where
-      by : (o : Option Function) → and_then (called b (now s).0 (now s).1) bodies ≡ o → inline_by bodies p now ss b ≡ inline_by other p now ss b → ((b' : Function) → ((q : Place) → Names names b' (place_behind (now s).0 (now s).1 (now q))) → inline_by bodies p (λ q. place_behind (now s).0 (now s).1 (now q)) ss b' ≡ inline_by other p (λ q. place_behind (now s).0 (now s).1 (now q)) ss b') → Path Function (elim o [ None ↦ inline_by bodies p now ss b | Some g ↦ if takes p g (splice_with sides b (now s).0 (now s).1 g) then inline_by bodies p (λ q. place_behind (now s).0 (now s).1 (now q)) ss (splice_with sides b (now s).0 (now s).1 g) else inline_by bodies p now ss b ]) (elim o [ None ↦ inline_by other p now ss b | Some g ↦ if takes p g (splice_with sides b (now s).0 (now s).1 g) then inline_by other p (λ q. place_behind (now s).0 (now s).1 (now q)) ss (splice_with sides b (now s).0 (now s).1 g) else inline_by other p now ss b ])
+      by : (o : Option Function) → and_then (called b (now s).0 (now s).1) bodies ≡ o → inline_by bodies p now ss b ≡ inline_by other p now ss b → ((b' : Function) → ((q : Point) → Names names b' (point_behind (now s).0 (now s).1 (now q))) → inline_by bodies p (λ q. point_behind (now s).0 (now s).1 (now q)) ss b' ≡ inline_by other p (λ q. point_behind (now s).0 (now s).1 (now q)) ss b') → Path Function (elim o [ None ↦ inline_by bodies p now ss b | Some g ↦ if takes p g (splice_with sides b (now s).0 (now s).1 g) then inline_by bodies p (λ q. point_behind (now s).0 (now s).1 (now q)) ss (splice_with sides b (now s).0 (now s).1 g) else inline_by bodies p now ss b ]) (elim o [ None ↦ inline_by other p now ss b | Some g ↦ if takes p g (splice_with sides b (now s).0 (now s).1 g) then inline_by other p (λ q. point_behind (now s).0 (now s).1 (now q)) ss (splice_with sides b (now s).0 (now s).1 g) else inline_by other p now ss b ])
       by None e stay go = stay
       by (Some g) e stay go = choose (takes p g (splice_with sides b (now s).0 (now s).1 g))
         where
-          with_body : inline_by bodies p (λ q. place_behind (now s).0 (now s).1 (now q)) ss (splice_with sides b (now s).0 (now s).1 g) ≡ inline_by other p (λ q. place_behind (now s).0 (now s).1 (now q)) ss (splice_with sides b (now s).0 (now s).1 g)
+          with_body : inline_by bodies p (λ q. point_behind (now s).0 (now s).1 (now q)) ss (splice_with sides b (now s).0 (now s).1 g) ≡ inline_by other p (λ q. point_behind (now s).0 (now s).1 (now q)) ss (splice_with sides b (now s).0 (now s).1 g)
           with_body =
               let u = then_some (called b (now s).0 (now s).1) bodies g e in
               let d = found b (now s).0 (now s).1 u.0 u.1 in
               let is = splice_here b g (now s).0 (now s).1 d.block d.line d.found d.get in
-              go (splice_with sides b (now s).0 (now s).1 g) (λ q. subst (λ z. Names names z (place_behind (now s).0 (now s).1 (now q))) (sym is) (track b g (now s).0 (now s).1 d.block d.line d.found d.get names (now q) (t q)))
+              go (splice_with sides b (now s).0 (now s).1 g) (λ q. subst (λ z. Names names z (point_behind (now s).0 (now s).1 (now q))) (sym is) (track b g (now s).0 (now s).1 d.block d.line d.found d.get names (now q) (t q)))
 
-          choose : (c : Bool) → (if c then inline_by bodies p (λ q. place_behind (now s).0 (now s).1 (now q)) ss (splice_with sides b (now s).0 (now s).1 g) else inline_by bodies p now ss b) ≡ (if c then inline_by other p (λ q. place_behind (now s).0 (now s).1 (now q)) ss (splice_with sides b (now s).0 (now s).1 g) else inline_by other p now ss b)
+          choose : (c : Bool) → (if c then inline_by bodies p (λ q. point_behind (now s).0 (now s).1 (now q)) ss (splice_with sides b (now s).0 (now s).1 g) else inline_by bodies p now ss b) ≡ (if c then inline_by other p (λ q. point_behind (now s).0 (now s).1 (now q)) ss (splice_with sides b (now s).0 (now s).1 g) else inline_by other p now ss b)
           choose true = with_body
           choose false = stay
 

@@ -15,7 +15,7 @@ use Rattle.inline_numbering.specs.Renamed.{Renamed}
 use Rattle.inline_numbering.proofs.Same.{blocks_number, renamed_itself}
 use Rattle.inline_numbering.proofs.Typed.{in_map}
 use Rattle.inline_pass.specs.Policy.{takes}
-use Rattle.inline_pass.specs.Sites.{Place, is_site, sites_in, own_sites, place_behind, called}
+use Rattle.inline_pass.specs.Sites.{Point, is_site, sites_in, own_sites, point_behind, called}
 use Rattle.inline_pass.specs.Finished.{inline_by, finish_by}
 use Rattle.inline_pass.specs.Inlined.{inlined_by, inlined_with}
 use Rattle.inline_pass.specs.Going.{Task, Ahead, Twins, Later, Going, before_line, behind_line, sites_left, stands, body_called, with_body, spliced_twins}
@@ -81,33 +81,33 @@ in_code twins same x n i e =
 
 -- ---- at an own line
 
-module _ (task : Task) (ahead : Ahead) (l : Line) (twins : Twins) (place : Place) (count : ℕ) (g : Going task (before_line l ahead) twins place count) where
-  pub here_is : stands twins ahead ≡ (g.block, place.1)
+module _ (task : Task) (ahead : Ahead) (l : Line) (twins : Twins) (point : Point) (count : ℕ) (g : Going task (before_line l ahead) twins point count) where
+  pub here_is : stands twins ahead ≡ (g.block, point.1)
   here_is =
       let a : ahead.line ≡ ahead.line + 0 = omega arith in
-      let e : place.1 + 0 ≡ place.1 = omega arith in
+      let e : point.1 + 0 ≡ point.1 = omega arith in
       ap (λ (z : ℕ). twins.now (ahead.block, z)) a ∙ (g.here 0 ∙ ap (λ (z : ℕ). (g.block, z)) e)
 
-  next_is : (j : ℕ) → twins.now (ahead.block, suc ahead.line + j) ≡ (g.block, suc place.1 + j)
+  next_is : (j : ℕ) → twins.now (ahead.block, suc ahead.line + j) ≡ (g.block, suc point.1 + j)
   next_is j =
       let a : suc ahead.line + j ≡ ahead.line + suc j = omega arith in
-      let e : place.1 + suc j ≡ suc place.1 + j = omega arith in
+      let e : point.1 + suc j ≡ suc point.1 + j = omega arith in
       ap (λ (z : ℕ). twins.now (ahead.block, z)) a ∙ (g.here (suc j) ∙ ap (λ (z : ℕ). (g.block, z)) e)
 
   pub calls_here : (j : ℕ) (d : Callee) → callee_of l.inst ≡ Some j → slice_get task.function.callees j ≡ Some d → called twins.body (stands twins ahead).0 (stands twins ahead).1 ≡ Some d.name
   calls_here j d is has =
       let n : block_numbers twins.code.blocks ≡ map twins.names.block (block_numbers twins.body.blocks) = ap block_numbers g.same.blocks ∙ blocks_number twins.names twins.body.blocks in
       let t = find_under twins.names twins.body.blocks g.block g.there (subst Different n g.numbers) in
-      let lines : lines_of place.0 twins.code.blocks ≡ map (line_under twins.names) t.0.lines = ap₂ (λ (x : ℕ) (bs : List Block). lines_of x bs) (sym g.is) g.same.blocks ∙ t.2 in
-      let got = get_of_map (line_under twins.names) t.0.lines place.1 l (ap (λ z. slice_get z place.1) (sym lines) ∙ get_first (lines_of place.0 twins.code.blocks) place.1 l ahead.lines g.text) in
+      let lines : lines_of point.0 twins.code.blocks ≡ map (line_under twins.names) t.0.lines = ap₂ (λ (x : ℕ) (bs : List Block). lines_of x bs) (sym g.is) g.same.blocks ∙ t.2 in
+      let got = get_of_map (line_under twins.names) t.0.lines point.1 l (ap (λ z. slice_get z point.1) (sym lines) ∙ get_first (lines_of point.0 twins.code.blocks) point.1 l ahead.lines g.text) in
       let callee : callee_of got.0.inst ≡ Some j = sym (callee_stays twins.names g.same.callee got.0.inst) ∙ (ap (λ (z : Line). callee_of z.inst) got.2 ∙ is) in
       let declared : slice_get twins.body.callees j ≡ Some d = ap (λ (z : List Callee). slice_get z j) (sym g.same.callees) ∙ g.callees j d has in
-      ap (λ (q : Place). called twins.body q.0 q.1) here_is ∙ named twins.body g.block place.1 j t.0 got.0 d t.1 got.1 callee declared
+      ap (λ (q : Point). called twins.body q.0 q.1) here_is ∙ named twins.body g.block point.1 j t.0 got.0 d t.1 got.1 callee declared
 
-  abbrev others : List Place
+  abbrev others : List Point
   others = sites_left (behind_line ahead)
 
-  abbrev site_here : Place
+  abbrev site_here : Point
   site_here = (ahead.block, ahead.line)
 
   sites_yes : is_site (callee_of l.inst) ≡ true → sites_left (before_line l ahead) ≡ site_here ∷ others
@@ -116,14 +116,14 @@ module _ (task : Task) (ahead : Ahead) (l : Line) (twins : Twins) (place : Place
   sites_no : is_site (callee_of l.inst) ≡ false → sites_left (before_line l ahead) ≡ others
   sites_no h = ap (λ (z : Bool). (if z then site_here ∷ sites_in ahead.block (suc ahead.line) ahead.lines else sites_in ahead.block (suc ahead.line) ahead.lines) ++ own_sites ahead.rest) h
 
-  abbrev after_it : Place → Place
-  after_it q = place_behind (stands twins ahead).0 (stands twins ahead).1 (twins.now q)
+  abbrev after_it : Point → Point
+  after_it q = point_behind (stands twins ahead).0 (stands twins ahead).1 (twins.now q)
 
   -- what is made of the sites that are left, and how many of them are inlined
-  abbrev made : (Place → Place) → List Place → Function → Function
+  abbrev made : (Point → Point) → List Point → Function → Function
   made now ss b = inline_by task.bodies task.policy now ss b
 
-  abbrev many : (Place → Place) → List Place → Function → ℕ
+  abbrev many : (Point → Point) → List Point → Function → ℕ
   many now ss b = inlined_by task.bodies task.policy now ss b
 
   abbrev made_by : Option Function → Function
@@ -154,7 +154,7 @@ module _ (task : Task) (ahead : Ahead) (l : Line) (twins : Twins) (place : Place
   many_then true e h = sym (many_stays (h e)) ∙ ap (λ ss. many twins.now ss twins.body) (sym (sites_yes e))
   many_then false e h = ap (λ ss. many twins.now ss twins.body) (sym (sites_no e))
 
-  pub passes_here : (is_site (callee_of l.inst) ≡ true → Refused task ahead twins) → Going task (behind_line ahead) twins (place.0, suc place.1) count
+  pub passes_here : (is_site (callee_of l.inst) ≡ true → Refused task ahead twins) → Going task (behind_line ahead) twins (point.0, suc point.1) count
   passes_here h =
       record {
         left = made_then (is_site (callee_of l.inst)) refl h ∙ g.left;
@@ -165,25 +165,25 @@ module _ (task : Task) (ahead : Ahead) (l : Line) (twins : Twins) (place : Place
         there = g.there;
         here = next_is;
         is = g.is;
-        text = drop_next (lines_of place.0 twins.code.blocks) place.1 l ahead.lines g.text;
+        text = drop_next (lines_of point.0 twins.code.blocks) point.1 l ahead.lines g.text;
         later = g.later;
         apart = g.apart;
         callees = g.callees;
       }
 
-  -- where places go
+  -- where points go
   moves_behind : (j : ℕ) → after_it (ahead.block, suc ahead.line + j) ≡ (sides.after, 0 + j)
   moves_behind j =
-      let lt : place.1 < suc place.1 + j = omega arith in
-      let m : suc place.1 + j - (place.1 + 1) ≡ 0 + j = omega arith in
-      ap₂ (λ (s q : Place). place_behind s.0 s.1 q) here_is (next_is j)
-      ∙ (ap (λ (z : Bool). if z && nat_lt place.1 (suc place.1 + j) then (sides.after, suc place.1 + j - (place.1 + 1)) else (sides.caller_block g.block, suc place.1 + j)) (eq-eqb g.block g.block refl)
-      ∙ (ap (λ (z : Bool). if z then (sides.after, suc place.1 + j - (place.1 + 1)) else (sides.caller_block g.block, suc place.1 + j)) (lt-ltb place.1 (suc place.1 + j) lt)
+      let lt : point.1 < suc point.1 + j = omega arith in
+      let m : suc point.1 + j - (point.1 + 1) ≡ 0 + j = omega arith in
+      ap₂ (λ (s q : Point). point_behind s.0 s.1 q) here_is (next_is j)
+      ∙ (ap (λ (z : Bool). if z && nat_lt point.1 (suc point.1 + j) then (sides.after, suc point.1 + j - (point.1 + 1)) else (sides.caller_block g.block, suc point.1 + j)) (eq-eqb g.block g.block refl)
+      ∙ (ap (λ (z : Bool). if z then (sides.after, suc point.1 + j - (point.1 + 1)) else (sides.caller_block g.block, suc point.1 + j)) (lt-ltb point.1 (suc point.1 + j) lt)
       ∙ ap (λ (z : ℕ). (sides.after, z)) m))
 
   moves_other : (x y j : ℕ) → twins.now (x, j) ≡ (y, j) → (y ≡ g.block → ⊥) → after_it (x, j) ≡ (sides.caller_block y, j)
   moves_other x y j e off =
-      ap₂ (λ (s q : Place). place_behind s.0 s.1 q) here_is e ∙ ap (λ (z : Bool). if z && nat_lt place.1 j then (sides.after, j - (place.1 + 1)) else (sides.caller_block y, j)) (ne_eqb y g.block off)
+      ap₂ (λ (s q : Point). point_behind s.0 s.1 q) here_is e ∙ ap (λ (z : Bool). if z && nat_lt point.1 j then (sides.after, j - (point.1 + 1)) else (sides.caller_block y, j)) (ne_eqb y g.block off)
 
   module _ (h code : Function) (names : Renaming) (inlines : Inlines task ahead l twins h) where
     abbrev new : Twins
@@ -200,20 +200,20 @@ module _ (task : Task) (ahead : Ahead) (l : Line) (twins : Twins) (place : Place
         let next : suc count + many after_it others (with_body twins ahead h) ≡ count + suc (many after_it others (with_body twins ahead h)) = omega arith in
         next ∙ (ap (λ z. count + z) (sym here ∙ ap (λ ss. many twins.now ss twins.body) (sym (sites_yes inlines.site))) ∙ g.counted)
 
-    module _ (put : Put twins new place.0) where
-      later_is : (own : Block) (n : ℕ) → Later twins place.0 own → (own.number ≡ n → ⊥) → Later new n own
+    module _ (put : Put twins new point.0) where
+      later_is : (own : Block) (n : ℕ) → Later twins point.0 own → (own.number ≡ n → ⊥) → Later new n own
       later_is own n a off =
           let there : In own.number (block_numbers twins.code.blocks) = in_code twins g.same a.block own.number a.there a.is in
           record {
             block = sides.caller_block a.block;
             there = put.own a.block a.there;
-            places = λ j. moves_other own.number a.block j (a.places j) (λ e. a.apart (sym a.is ∙ (ap twins.names.block e ∙ g.is)));
+            points = λ j. moves_other own.number a.block j (a.points j) (λ e. a.apart (sym a.is ∙ (ap twins.names.block e ∙ g.is)));
             is = put.keeps a.block a.there ∙ a.is;
             text = put.others own.number there a.apart ∙ a.text;
             apart = off;
           }
 
-      all_later : (n : ℕ) (owns : List Block) → Each (Later twins place.0) owns → ((own : Block) → Later twins place.0 own → In own.number (block_numbers owns) → own.number ≡ n → ⊥) → Each (Later new n) owns
+      all_later : (n : ℕ) (owns : List Block) → Each (Later twins point.0) owns → ((own : Block) → Later twins point.0 own → In own.number (block_numbers owns) → own.number ≡ n → ⊥) → Each (Later new n) owns
       all_later n [] a off = tt
       all_later n (own ∷ owns) a off = (later_is own n a.0 (off own a.0 (inl refl)), all_later n owns a.1 (λ x z i. off x z (inr i)))
 
@@ -227,7 +227,7 @@ module _ (task : Task) (ahead : Ahead) (l : Line) (twins : Twins) (place : Place
           }
       onward_here e (own ∷ owns) q =
           let next : others ≡ sites_in own.number 0 own.lines ++ own_sites owns = ap (λ ls. sites_in ahead.block (suc ahead.line) ls ++ own_sites ahead.rest) e ∙ ap own_sites (sym q) in
-          let later : Each (Later twins place.0) (own ∷ owns) = subst (Each (Later twins place.0)) (sym q) g.later in
+          let later : Each (Later twins point.0) (own ∷ owns) = subst (Each (Later twins point.0)) (sym q) g.later in
           let apart : Different (block_numbers (own ∷ owns)) = subst (λ bs. Different (block_numbers bs)) (sym q) g.apart in
           let first = later_is own own.number later.0 in
           let a = later.0 in
@@ -239,7 +239,7 @@ module _ (task : Task) (ahead : Ahead) (l : Line) (twins : Twins) (place : Place
             numbers = put.numbers;
             block = sides.caller_block a.block;
             there = put.own a.block a.there;
-            here = λ j. let z : 0 + j ≡ j = omega arith in ap (λ (y : ℕ). after_it (own.number, y)) z ∙ (moves_other own.number a.block j (a.places j) (λ y. a.apart (sym a.is ∙ (ap twins.names.block y ∙ g.is))) ∙ ap (λ (y : ℕ). (sides.caller_block a.block, y)) (sym z));
+            here = λ j. let z : 0 + j ≡ j = omega arith in ap (λ (y : ℕ). after_it (own.number, y)) z ∙ (moves_other own.number a.block j (a.points j) (λ y. a.apart (sym a.is ∙ (ap twins.names.block y ∙ g.is))) ∙ ap (λ (y : ℕ). (sides.caller_block a.block, y)) (sym z));
             is = put.keeps a.block a.there ∙ a.is;
             text = put.others own.number there a.apart ∙ a.text;
             later = all_later own.number owns later.1 (λ x z i y. apart.0 (subst (λ w. In w (block_numbers owns)) y i));
@@ -247,7 +247,7 @@ module _ (task : Task) (ahead : Ahead) (l : Line) (twins : Twins) (place : Place
             callees = λ j d y. put.callees j d (g.callees j d y);
           }
 
-    pub takes_here : (after : ℕ) → PutWithin twins new place after → Going task (behind_line ahead) new (after, 0) (suc count)
+    pub takes_here : (after : ℕ) → PutWithin twins new point after → Going task (behind_line ahead) new (after, 0) (suc count)
     takes_here after within =
         let put = within.put in
         record {
@@ -259,44 +259,44 @@ module _ (task : Task) (ahead : Ahead) (l : Line) (twins : Twins) (place : Place
           there = within.behind;
           here = moves_behind;
           is = within.is;
-          text = within.text ∙ drop_next (lines_of place.0 twins.code.blocks) place.1 l ahead.lines g.text;
+          text = within.text ∙ drop_next (lines_of point.0 twins.code.blocks) point.1 l ahead.lines g.text;
           later = all_later put after ahead.rest g.later (λ own a i e. within.fresh (in_code twins g.same a.block after a.there (a.is ∙ e)));
           apart = g.apart;
           callees = λ j d e. put.callees j d (g.callees j d e);
         }
 
 pub calls : Calls
-calls task ahead l twins place count g j d is has = calls_here task ahead l twins place count g j d is has
+calls task ahead l twins point count g j d is has = calls_here task ahead l twins point count g j d is has
 
 pub passes : Passes
-passes task ahead l twins place count g h = passes_here task ahead l twins place count g h
+passes task ahead l twins point count g h = passes_here task ahead l twins point count g h
 
 pub takes_call : Takes
-takes_call task ahead l twins place count g h code names after inlines put = takes_here task ahead l twins place count g h code names inlines after put
+takes_call task ahead l twins point count g h code names after inlines put = takes_here task ahead l twins point count g h code names inlines after put
 
 pub takes_last : TakesLast
-takes_last task ahead l twins place count g e h code names inlines put = onward_here task ahead l twins place count g h code names inlines put e ahead.rest refl
+takes_last task ahead l twins point count g e h code names inlines put = onward_here task ahead l twins point count g h code names inlines put e ahead.rest refl
 
 -- ---- the end of a block, and of all
 
 later_other : (twins : Twins) (at n : ℕ) (owns : List Block) → (In n (block_numbers owns) → ⊥) → Each (Later twins at) owns → Each (Later twins n) owns
 later_other twins at n [] off a = tt
 later_other twins at n (own ∷ owns) off a = (
-  record { block = a.0.block; there = a.0.there; places = a.0.places; is = a.0.is; text = a.0.text; apart = λ e. off (inl (sym e)) },
+  record { block = a.0.block; there = a.0.there; points = a.0.points; is = a.0.is; text = a.0.text; apart = λ e. off (inl (sym e)) },
   later_other twins at n owns (λ i. off (inr i)) a.1,
 )
 
-turns_by : (task : Task) (ahead : Ahead) (twins : Twins) (place : Place) (count : ℕ) → Going task ahead twins place count → ahead.lines ≡ [] → (owns : List Block) → owns ≡ ahead.rest → Onward task owns twins count
-turns_by task ahead twins place count g e [] q =
+turns_by : (task : Task) (ahead : Ahead) (twins : Twins) (point : Point) (count : ℕ) → Going task ahead twins point count → ahead.lines ≡ [] → (owns : List Block) → owns ≡ ahead.rest → Onward task owns twins count
+turns_by task ahead twins point count g e [] q =
     let none : sites_left ahead ≡ [] = ap (λ ls. sites_in ahead.block ahead.line ls ++ own_sites ahead.rest) e ∙ ap own_sites (sym q) in
     let nothing : count ≡ count + 0 = omega arith in
     record {
       same = subst (λ z. Renamed twins.names z twins.code) (sym (ap (λ ss. inline_by task.bodies task.policy twins.now ss twins.body) none) ∙ g.left) g.same;
       counted = nothing ∙ (ap (λ ss. count + inlined_by task.bodies task.policy twins.now ss twins.body) (sym none) ∙ g.counted);
     }
-turns_by task ahead twins place count g e (own ∷ owns) q =
+turns_by task ahead twins point count g e (own ∷ owns) q =
     let next : sites_left ahead ≡ sites_in own.number 0 own.lines ++ own_sites owns = ap (λ ls. sites_in ahead.block ahead.line ls ++ own_sites ahead.rest) e ∙ ap own_sites (sym q) in
-    let later : Each (Later twins place.0) (own ∷ owns) = subst (Each (Later twins place.0)) (sym q) g.later in
+    let later : Each (Later twins point.0) (own ∷ owns) = subst (Each (Later twins point.0)) (sym q) g.later in
     let apart : Different (block_numbers (own ∷ owns)) = subst (λ bs. Different (block_numbers bs)) (sym q) g.apart in
     record {
       left = sym (ap (λ ss. inline_by task.bodies task.policy twins.now ss twins.body) next) ∙ g.left;
@@ -305,16 +305,16 @@ turns_by task ahead twins place count g e (own ∷ owns) q =
       numbers = g.numbers;
       block = later.0.block;
       there = later.0.there;
-      here = λ j. let z : 0 + j ≡ j = omega arith in ap (λ (y : ℕ). twins.now (own.number, y)) z ∙ (later.0.places j ∙ ap (λ (y : ℕ). (later.0.block, y)) (sym z));
+      here = λ j. let z : 0 + j ≡ j = omega arith in ap (λ (y : ℕ). twins.now (own.number, y)) z ∙ (later.0.points j ∙ ap (λ (y : ℕ). (later.0.block, y)) (sym z));
       is = later.0.is;
       text = later.0.text;
-      later = later_other twins place.0 own.number owns apart.0 later.1;
+      later = later_other twins point.0 own.number owns apart.0 later.1;
       apart = apart.1;
       callees = g.callees;
     }
 
 pub turns : Turns
-turns task ahead twins place count g e = turns_by task ahead twins place count g e ahead.rest refl
+turns task ahead twins point count g e = turns_by task ahead twins point count g e ahead.rest refl
 
 -- ---- the beginning
 
@@ -337,7 +337,7 @@ all_untouched f at pre (own ∷ owns) e d off = (
   record {
     block = own.number;
     there = subst (λ z. In own.number (block_numbers z)) (sym e) (numbers_after pre (own ∷ owns) own.number (inl refl));
-    places = λ j. refl;
+    points = λ j. refl;
     is = refl;
     text = ap (lines_of own.number) e ∙ first_lines pre owns own (subst (λ z. Different (block_numbers z)) e d);
     apart = λ q. off (inl (sym q));

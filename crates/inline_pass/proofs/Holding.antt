@@ -17,7 +17,7 @@ use Rattle.call_graph.specs.Reach.{apart}
 use Rattle.call_graph.specs.Order.{bottom_up}
 use Rattle.inline_outcomes.proofs.Functions.{function_name, replaced, others_stay}
 use Rattle.inline_pass.specs.Policy.{Policy, takes}
-use Rattle.inline_pass.specs.Sites.{Place, own_sites, place_behind, called}
+use Rattle.inline_pass.specs.Sites.{Point, own_sites, point_behind, called}
 use Rattle.inline_pass.specs.Finished.{inline_by, body_of, passed}
 use Rattle.inline_pass.specs.Pass.{finish, pass_by, pass}
 use Rattle.inline_pass.proofs.Passing.{Found, found, then_some, at_place, site_of, splice_is, spliced_name, replace_twice, replace_self, apart_self}
@@ -28,16 +28,16 @@ module _ (p : Policy) (P : Module → Type 0) (step : (c : Module) (b g : Functi
   other_body pieces m x y g true q h = ((λ e. apart_self pieces x y q (sym e)), h)
   other_body pieces m x y g false q h = cc
 
-  inlined_holds : (pieces m : Module) (x0 : FuncName) (now : Place → Place) (ss : List Place) (b : Function) → b.name ≡ x0 → (f : Function) → find_function b.name m ≡ Some f → P (replace b m) → P (replace (inline_by (body_of pieces m x0) p now ss b) m)
+  inlined_holds : (pieces m : Module) (x0 : FuncName) (now : Point → Point) (ss : List Point) (b : Function) → b.name ≡ x0 → (f : Function) → find_function b.name m ≡ Some f → P (replace b m) → P (replace (inline_by (body_of pieces m x0) p now ss b) m)
   inlined_holds pieces m x0 now [] b hn f h holds = holds
   inlined_holds pieces m x0 now (s ∷ ss) b hn f h holds =
-      by (and_then (called b (now s).0 (now s).1) (body_of pieces m x0)) refl (inlined_holds pieces m x0 now ss b hn f h holds) (λ b'. inlined_holds pieces m x0 (λ q. place_behind (now s).0 (now s).1 (now q)) ss b')
+      by (and_then (called b (now s).0 (now s).1) (body_of pieces m x0)) refl (inlined_holds pieces m x0 now ss b hn f h holds) (λ b'. inlined_holds pieces m x0 (λ q. point_behind (now s).0 (now s).1 (now q)) ss b')
     where
-      by : (o : Option Function) → and_then (called b (now s).0 (now s).1) (body_of pieces m x0) ≡ o → P (replace (inline_by (body_of pieces m x0) p now ss b) m) → ((b' : Function) → b'.name ≡ x0 → (f : Function) → find_function b'.name m ≡ Some f → P (replace b' m) → P (replace (inline_by (body_of pieces m x0) p (λ q. place_behind (now s).0 (now s).1 (now q)) ss b') m)) → P (replace (elim o [ None ↦ inline_by (body_of pieces m x0) p now ss b | Some g ↦ if takes p g (splice_with sides b (now s).0 (now s).1 g) then inline_by (body_of pieces m x0) p (λ q. place_behind (now s).0 (now s).1 (now q)) ss (splice_with sides b (now s).0 (now s).1 g) else inline_by (body_of pieces m x0) p now ss b ]) m)
+      by : (o : Option Function) → and_then (called b (now s).0 (now s).1) (body_of pieces m x0) ≡ o → P (replace (inline_by (body_of pieces m x0) p now ss b) m) → ((b' : Function) → b'.name ≡ x0 → (f : Function) → find_function b'.name m ≡ Some f → P (replace b' m) → P (replace (inline_by (body_of pieces m x0) p (λ q. point_behind (now s).0 (now s).1 (now q)) ss b') m)) → P (replace (elim o [ None ↦ inline_by (body_of pieces m x0) p now ss b | Some g ↦ if takes p g (splice_with sides b (now s).0 (now s).1 g) then inline_by (body_of pieces m x0) p (λ q. point_behind (now s).0 (now s).1 (now q)) ss (splice_with sides b (now s).0 (now s).1 g) else inline_by (body_of pieces m x0) p now ss b ]) m)
       by None q stay go = stay
       by (Some g) q stay go = choose (takes p g (splice_with sides b (now s).0 (now s).1 g)) refl
         where
-          with_body : takes p g (splice_with sides b (now s).0 (now s).1 g) ≡ true → P (replace (inline_by (body_of pieces m x0) p (λ r. place_behind (now s).0 (now s).1 (now r)) ss (splice_with sides b (now s).0 (now s).1 g)) m)
+          with_body : takes p g (splice_with sides b (now s).0 (now s).1 g) ≡ true → P (replace (inline_by (body_of pieces m x0) p (λ r. point_behind (now s).0 (now s).1 (now r)) ss (splice_with sides b (now s).0 (now s).1 g)) m)
           with_body taken =
               let u = then_some (called b (now s).0 (now s).1) (body_of pieces m x0) g q in
               let o = other_body pieces m x0 u.0 g (apart pieces x0 u.0) refl u.2 in
@@ -47,7 +47,7 @@ module _ (p : Policy) (P : Module → Type 0) (step : (c : Module) (b g : Functi
               let kept : P (replace b' (replace b m)) = step (replace b m) b g (now s).0 (now s).1 u.0 (replaced b m f h) (others_stay b m u.0 (λ e. o.0 (e ∙ hn)) ∙ o.1) d taken holds in
               go b' (named ∙ hn) f (ap (λ z. find_function z m) named ∙ h) (subst P (replace_twice b b' m (sym named)) kept)
 
-          choose : (c : Bool) → takes p g (splice_with sides b (now s).0 (now s).1 g) ≡ c → P (replace (if c then inline_by (body_of pieces m x0) p (λ r. place_behind (now s).0 (now s).1 (now r)) ss (splice_with sides b (now s).0 (now s).1 g) else inline_by (body_of pieces m x0) p now ss b) m)
+          choose : (c : Bool) → takes p g (splice_with sides b (now s).0 (now s).1 g) ≡ c → P (replace (if c then inline_by (body_of pieces m x0) p (λ r. point_behind (now s).0 (now s).1 (now r)) ss (splice_with sides b (now s).0 (now s).1 g) else inline_by (body_of pieces m x0) p now ss b) m)
           choose true e = with_body e
           choose false e = stay
 

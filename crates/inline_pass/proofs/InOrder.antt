@@ -18,7 +18,7 @@ use Rattle.inline_outcomes.proofs.Local.{some_same}
 use Rattle.inline_outcomes.proofs.Functions.{cases_named, function_hit, function_skip, function_name}
 use Rattle.inline_outcomes.proofs.Linking.{map_same}
 use Rattle.inline_pass.specs.Policy.{Policy, takes}
-use Rattle.inline_pass.specs.Sites.{Place, own_sites, place_behind, called}
+use Rattle.inline_pass.specs.Sites.{Point, own_sites, point_behind, called}
 use Rattle.inline_pass.specs.Finished.{inline_by, body_of, finished_in, finished, passed}
 use Rattle.inline_pass.specs.Pass.{finish, pass_by, pass}
 use Rattle.inline_pass.specs.FinishedLaws.{PassIsFinished, OrderInUse}
@@ -38,17 +38,17 @@ splice_named b at i g = go (find_block at b.blocks)
     go None = refl
     go (Some k) = line k (slice_get k.lines i)
 
-inlined_named : (bodies : FuncName → Option Function) (p : Policy) (now : Place → Place) (ss : List Place) (b : Function) → (inline_by bodies p now ss b).name ≡ b.name
+inlined_named : (bodies : FuncName → Option Function) (p : Policy) (now : Point → Point) (ss : List Point) (b : Function) → (inline_by bodies p now ss b).name ≡ b.name
 inlined_named bodies p now [] b = refl
-inlined_named bodies p now (s ∷ ss) b = by (and_then (called b (now s).0 (now s).1) bodies) (inlined_named bodies p now ss b) (λ b'. inlined_named bodies p (λ q. place_behind (now s).0 (now s).1 (now q)) ss b')
+inlined_named bodies p now (s ∷ ss) b = by (and_then (called b (now s).0 (now s).1) bodies) (inlined_named bodies p now ss b) (λ b'. inlined_named bodies p (λ q. point_behind (now s).0 (now s).1 (now q)) ss b')
   where
     choose : (c : Bool) (x y : Function) → x.name ≡ b.name → y.name ≡ b.name → (if c then x else y).name ≡ b.name
     choose true x y h q = h
     choose false x y h q = q
 
-    by : (o : Option Function) → (inline_by bodies p now ss b).name ≡ b.name → ((b' : Function) → (inline_by bodies p (λ q. place_behind (now s).0 (now s).1 (now q)) ss b').name ≡ b'.name) → (elim o as (λ z. Function) [ None ↦ inline_by bodies p now ss b | Some g ↦ if takes p g (splice_with sides b (now s).0 (now s).1 g) then inline_by bodies p (λ q. place_behind (now s).0 (now s).1 (now q)) ss (splice_with sides b (now s).0 (now s).1 g) else inline_by bodies p now ss b ]).name ≡ b.name
+    by : (o : Option Function) → (inline_by bodies p now ss b).name ≡ b.name → ((b' : Function) → (inline_by bodies p (λ q. point_behind (now s).0 (now s).1 (now q)) ss b').name ≡ b'.name) → (elim o as (λ z. Function) [ None ↦ inline_by bodies p now ss b | Some g ↦ if takes p g (splice_with sides b (now s).0 (now s).1 g) then inline_by bodies p (λ q. point_behind (now s).0 (now s).1 (now q)) ss (splice_with sides b (now s).0 (now s).1 g) else inline_by bodies p now ss b ]).name ≡ b.name
     by None stay go = stay
-    by (Some g) stay go = choose (takes p g (splice_with sides b (now s).0 (now s).1 g)) (inline_by bodies p (λ q. place_behind (now s).0 (now s).1 (now q)) ss (splice_with sides b (now s).0 (now s).1 g)) (inline_by bodies p now ss b) (go (splice_with sides b (now s).0 (now s).1 g) ∙ splice_named b (now s).0 (now s).1 g) stay
+    by (Some g) stay go = choose (takes p g (splice_with sides b (now s).0 (now s).1 g)) (inline_by bodies p (λ q. point_behind (now s).0 (now s).1 (now q)) ss (splice_with sides b (now s).0 (now s).1 g)) (inline_by bodies p now ss b) (go (splice_with sides b (now s).0 (now s).1 g) ∙ splice_named b (now s).0 (now s).1 g) stay
 
 turns_named : (n : ℕ) (p : Policy) (m : Module) (f : Function) → (finished_in n p m f).name ≡ f.name
 turns_named zero p m f = refl
@@ -70,17 +70,17 @@ splice_signed b at i g = go (find_block at b.blocks)
     go None = refl
     go (Some k) = line k (slice_get k.lines i)
 
-inlined_signed : (bodies : FuncName → Option Function) (p : Policy) (now : Place → Place) (ss : List Place) (b : Function) → (inline_by bodies p now ss b).sig ≡ b.sig
+inlined_signed : (bodies : FuncName → Option Function) (p : Policy) (now : Point → Point) (ss : List Point) (b : Function) → (inline_by bodies p now ss b).sig ≡ b.sig
 inlined_signed bodies p now [] b = refl
-inlined_signed bodies p now (s ∷ ss) b = by (and_then (called b (now s).0 (now s).1) bodies) (inlined_signed bodies p now ss b) (λ b'. inlined_signed bodies p (λ q. place_behind (now s).0 (now s).1 (now q)) ss b')
+inlined_signed bodies p now (s ∷ ss) b = by (and_then (called b (now s).0 (now s).1) bodies) (inlined_signed bodies p now ss b) (λ b'. inlined_signed bodies p (λ q. point_behind (now s).0 (now s).1 (now q)) ss b')
   where
     choose : (c : Bool) (x y : Function) → x.sig ≡ b.sig → y.sig ≡ b.sig → (if c then x else y).sig ≡ b.sig
     choose true x y h q = h
     choose false x y h q = q
 
-    by : (o : Option Function) → (inline_by bodies p now ss b).sig ≡ b.sig → ((b' : Function) → (inline_by bodies p (λ q. place_behind (now s).0 (now s).1 (now q)) ss b').sig ≡ b'.sig) → (elim o as (λ z. Function) [ None ↦ inline_by bodies p now ss b | Some g ↦ if takes p g (splice_with sides b (now s).0 (now s).1 g) then inline_by bodies p (λ q. place_behind (now s).0 (now s).1 (now q)) ss (splice_with sides b (now s).0 (now s).1 g) else inline_by bodies p now ss b ]).sig ≡ b.sig
+    by : (o : Option Function) → (inline_by bodies p now ss b).sig ≡ b.sig → ((b' : Function) → (inline_by bodies p (λ q. point_behind (now s).0 (now s).1 (now q)) ss b').sig ≡ b'.sig) → (elim o as (λ z. Function) [ None ↦ inline_by bodies p now ss b | Some g ↦ if takes p g (splice_with sides b (now s).0 (now s).1 g) then inline_by bodies p (λ q. point_behind (now s).0 (now s).1 (now q)) ss (splice_with sides b (now s).0 (now s).1 g) else inline_by bodies p now ss b ]).sig ≡ b.sig
     by None stay go = stay
-    by (Some g) stay go = choose (takes p g (splice_with sides b (now s).0 (now s).1 g)) (inline_by bodies p (λ q. place_behind (now s).0 (now s).1 (now q)) ss (splice_with sides b (now s).0 (now s).1 g)) (inline_by bodies p now ss b) (go (splice_with sides b (now s).0 (now s).1 g) ∙ splice_signed b (now s).0 (now s).1 g) stay
+    by (Some g) stay go = choose (takes p g (splice_with sides b (now s).0 (now s).1 g)) (inline_by bodies p (λ q. point_behind (now s).0 (now s).1 (now q)) ss (splice_with sides b (now s).0 (now s).1 g)) (inline_by bodies p now ss b) (go (splice_with sides b (now s).0 (now s).1 g) ∙ splice_signed b (now s).0 (now s).1 g) stay
 
 turns_signed : (n : ℕ) (p : Policy) (m : Module) (f : Function) → (finished_in n p m f).sig ≡ f.sig
 turns_signed zero p m f = refl

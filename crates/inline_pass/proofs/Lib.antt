@@ -2,10 +2,10 @@ pub mod Finishing
 pub mod Going
 pub mod Holding
 pub mod InOrder
-pub mod Kept
 pub mod Others
 pub mod Outcomes
 pub mod Passing
+pub mod Preserving
 pub mod Putting
 pub mod Renumbered
 pub mod Tracking

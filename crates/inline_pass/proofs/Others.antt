@@ -12,7 +12,7 @@ use Rattle.ir_core.specs.Lists.{In, Different}
 use Rattle.ir_core.specs.Uses.{callee_of}
 use Rattle.ir_core.specs.WellFormed.{WellFormed, IsModule}
 use Rattle.ir_semantics.specs.Accepted.{Accepted, signature_mismatch}
-use Rattle.ir_core.specs.declared.places.Item.TheVariants as item
+use Rattle.ir_core.specs.declared.points.Item.TheVariants as item
 use Rattle.ir_semantics.specs.Canon.{SameFunction}
 use Rattle.ir_semantics.specs.Import.{sigs_after, callees_with, callees_after, same_callee}
 use Rattle.ir_semantics.specs.Renaming.{Renaming, line_under, block_under}
@@ -36,10 +36,10 @@ use Rattle.inline_numbering.proofs.Same.{blocks_number, by_way, way_renamed, ren
 use Rattle.inline_numbering.proofs.Sides.{joined, sides_carry}
 use Rattle.inline_numbering.proofs.Sizes.{size_renamed}
 use Rattle.inline_numbering.proofs.Typed.{same_before, block_in}
-use Rattle.inline_numbering.proofs.Places as places
+use Rattle.inline_numbering.proofs.Places as points
 use Rattle.call_graph.specs.Reach.{apart}
 use Rattle.inline_pass.specs.Policy.{Policy, takes}
-use Rattle.inline_pass.specs.Sites.{Place, own_sites, place_behind, called}
+use Rattle.inline_pass.specs.Sites.{Point, own_sites, point_behind, called}
 use Rattle.inline_pass.specs.Finished.{inline_by, finish_by, body_of, finished, finished_body, passed}
 use Rattle.inline_pass.specs.Inlined.{inlined_by, inlined_with, inlined}
 use Rattle.inline_pass.specs.OtherBodies.{SameBody, FinishedRespectNumbers}
@@ -49,7 +49,7 @@ use Rattle.inline_pass.proofs.Passing.{Found, found, then_some, at_place, splice
 use Rattle.inline_pass.proofs.Tracking.{f_none, ren_off}
 use Rattle.inline_pass.proofs.Finishing.{finished_equation}
 use Rattle.inline_pass.proofs.InOrder.{finished_named, finished_signed}
-use Rattle.inline_pass.proofs.Kept.{finished_accepted}
+use Rattle.inline_pass.proofs.Preserving.{finished_accepted}
 
 -- ---- blocks that are there or not
 
@@ -73,10 +73,10 @@ not_in x (b ∷ bs) h i =
       | inr e ↦ elim i [ inl q ↦ e (sym q) | inr q ↦ not_in x bs (sym (find_skip x b bs e) ∙ h) q ]
     ]
 
--- ---- what is called at places that correspond
+-- ---- what is called at points that correspond
 
 -- the line j of a block of b, and that of the block that it is in c; or of no block in either
-record Beside (b c : Function) (r : Renaming) (q q' : Place) : Type 0 where
+record Beside (b c : Function) (r : Renaming) (q q' : Point) : Type 0 where
   line : q'.1 ≡ q.1
   block : (In q.0 (block_numbers b.blocks) × (r.block q.0 ≡ q'.0)) ⊎ ((In q.0 (block_numbers b.blocks) → ⊥) × (In q'.0 (block_numbers c.blocks) → ⊥))
 
@@ -92,12 +92,12 @@ module _ (b c : Function) (r : Renaming) (same : Renamed r b c) where
   differ : Different (block_numbers c.blocks) → Different (map r.block (block_numbers b.blocks))
   differ d = subst Different (ap block_numbers same.blocks ∙ blocks_number r b.blocks) d
 
-  called_beside : Different (block_numbers c.blocks) → (q q' : Place) → Beside b c r q q' → called c q'.0 q'.1 ≡ called b q.0 q.1
+  called_beside : Different (block_numbers c.blocks) → (q q' : Point) → Beside b c r q q' → called c q'.0 q'.1 ≡ called b q.0 q.1
   called_beside d q q' e = ap (called c q'.0) e.line ∙ by e.block
     where
       by : (In q.0 (block_numbers b.blocks) × (r.block q.0 ≡ q'.0)) ⊎ ((In q.0 (block_numbers b.blocks) → ⊥) × (In q'.0 (block_numbers c.blocks) → ⊥)) → called c q'.0 q.1 ≡ called b q.0 q.1
       by (inl (i, to)) =
-          let t = places.find_under r b.blocks q.0 (differ d) i in
+          let t = points.find_under r b.blocks q.0 (differ d) i in
           let there : find_block q'.0 c.blocks ≡ Some (block_under r t.0) = ap₂ find_block (sym to) same.blocks ∙ t.2 in
           ap (λ o. and_then o (λ k. and_then (slice_get k.lines q.1) (λ l. and_then (callee_of l.inst) (λ j. and_then (slice_get c.callees j) (λ d. Some d.name))))) there
           ∙ (at_line t.0.lines q.1
@@ -179,7 +179,7 @@ module _ (b c g h : Function) (r : Renaming) (rb : Renamed r b c) (fb : Free b) 
 
   pub other_found : find_block (r.block at) c.blocks ≡ Some (block_under r f.block)
   other_found =
-      let u = places.find_under r b.blocks at numbers at_in in
+      let u = points.find_under r b.blocks at numbers at_in in
       let e : u.0 ≡ f.block = some_same (sym u.1 ∙ f.found) in
       ap (find_block (r.block at)) rb.blocks ∙ (u.2 ∙ ap (λ k. Some (block_under r k)) e)
 
@@ -199,7 +199,7 @@ module _ (b c g h : Function) (r : Renaming) (rb : Renamed r b c) (fb : Free b) 
   b_is = splice_is b g at i y f
 
   c_is : splice_with sides c (r.block at) i h ≡ spliced q
-  c_is = places.under_is r s sides b c g h rb rg fb.whole fc.whole fg.whole fh.whole at i at_in f.block f.found other_found f.line f.get
+  c_is = points.under_is r s sides b c g h rb rg fb.whole fc.whole fg.whole fh.whole at i at_in f.block f.found other_found f.line f.get
 
   call_b : CallSite p
   call_b = record { block = f.block; block_found = f.found; lines = cut; callee = f.index; is_call = f.is; declared = f.callee; declared_found = f.has; signature = sig }
@@ -225,12 +225,12 @@ module _ (b c g h : Function) (r : Renaming) (rb : Renamed r b c) (fb : Free b) 
   free_c = splice_free q refl call_c fc fh
 
   renamed : Renamed t (spliced p) (spliced q)
-  renamed = places.splice_renamed t r s p sides c h carry site free_b.whole free_c.whole
+  renamed = points.splice_renamed t r s p sides c h carry site free_b.whole free_c.whole
 
   takes_same : (policy : Policy) → takes policy h (spliced q) ≡ takes policy g (spliced p)
   takes_same policy = ap₂ (λ x z. nat_le x policy.callee_size && nat_le z policy.caller_size) (size_renamed s g h rg) (size_renamed t (spliced p) (spliced q) renamed)
 
-  -- ---- where places go
+  -- ---- where points go
 
   abbrev Where : (x x' : ℕ) → Type 0
   Where x x' = (In x (block_numbers (spliced p).blocks) × (t.block x ≡ x')) ⊎ ((In x (block_numbers (spliced p).blocks) → ⊥) × (In x' (block_numbers (spliced q).blocks) → ⊥))
@@ -258,7 +258,7 @@ module _ (b c g h : Function) (r : Renaming) (rb : Renamed r b c) (fb : Free b) 
   at_same x x' (inr (off, off')) =
       ne_eqb x' (r.block at) (λ e. off' (subst (λ z. In z (block_numbers c.blocks)) (sym e) (block_in (r.block at) c.blocks (block_under r f.block) other_found))) ∙ sym (ne_eqb x at (λ e. off (subst (λ z. In z (block_numbers b.blocks)) (sym e) at_in)))
 
-  beside : (z z' : Place) → Beside b c r z z' → Beside (spliced p) (spliced q) t (place_behind at i z) (place_behind (r.block at) i z')
+  beside : (z z' : Point) → Beside b c r z z' → Beside (spliced p) (spliced q) t (point_behind at i z) (point_behind (r.block at) i z')
   beside z z' e = by (nat_eq z.0 at && nat_lt i z.1) (nat_eq z'.0 (r.block at) && nat_lt i z'.1) (ap₂ (λ u w. u && w) (at_same z.0 z'.0 e.block) (ap (nat_lt i) e.line))
     where
       by : (k k' : Bool) → k' ≡ k → Beside (spliced p) (spliced q) t (if k then (2, z.1 - (i + 1)) else (3 * z.0, z.1)) (if k' then (2, z'.1 - (i + 1)) else (3 * z'.0, z'.1))
@@ -289,7 +289,7 @@ states_more bodies b g sb sg d i g1 e =
 
 module _ (policy : Policy) (bodies others : FuncName → Option Function) (alike : (x : FuncName) → SameBody (bodies x) (others x)) where
   module _ (good : (x : FuncName) (g : Function) → bodies x ≡ Some g → Free g × States bodies g) where
-    module _ (s : Place) (ss : List Place) (now now' : Place → Place) (b c : Function) (r : Renaming) (rb : Renamed r b c) (fb : Free b) (fc : Free c) (sb : States bodies b) (places_are : (z : Place) → In z (s ∷ ss) → Beside b c r (now z) (now' z)) where
+    module _ (s : Point) (ss : List Point) (now now' : Point → Point) (b c : Function) (r : Renaming) (rb : Renamed r b c) (fb : Free b) (fc : Free c) (sb : States bodies b) (places_are : (z : Point) → In z (s ∷ ss) → Beside b c r (now z) (now' z)) where
       abbrev at : ℕ
       at = (now s).0
 
@@ -302,18 +302,18 @@ module _ (policy : Policy) (bodies others : FuncName → Option Function) (alike
       abbrev i' : ℕ
       i' = (now' s).1
 
-      abbrev then_now : Place → Place
-      then_now z = place_behind at i (now z)
+      abbrev then_now : Point → Point
+      then_now z = point_behind at i (now z)
 
-      abbrev then_now' : Place → Place
-      then_now' z = place_behind at' i' (now' z)
+      abbrev then_now' : Point → Point
+      then_now' z = point_behind at' i' (now' z)
 
       -- with the further sites
       abbrev Further : Function → Function → Type 0
       Further b1 c1 = Both (inline_by bodies policy then_now ss b1) (inline_by others policy then_now' ss c1) (inlined_by bodies policy then_now ss b1) (inlined_by others policy then_now' ss c1)
 
       abbrev Goes : Type 0
-      Goes = (b1 c1 : Function) (r1 : Renaming) → Renamed r1 b1 c1 → Free b1 → Free c1 → States bodies b1 → ((z : Place) → In z ss → Beside b1 c1 r1 (then_now z) (then_now' z)) → Further b1 c1
+      Goes = (b1 c1 : Function) (r1 : Renaming) → Renamed r1 b1 c1 → Free b1 → Free c1 → States bodies b1 → ((z : Point) → In z ss → Beside b1 c1 r1 (then_now z) (then_now' z)) → Further b1 c1
 
       abbrev Stays : Type 0
       Stays = Both (inline_by bodies policy now ss b) (inline_by others policy now' ss c) (inlined_by bodies policy now ss b) (inlined_by others policy now' ss c)
@@ -370,8 +370,8 @@ module _ (policy : Policy) (bodies others : FuncName → Option Function) (alike
             (subst (States bodies) (sym b1_is) (states_more bodies b g sb (good y g has).1))
             (λ z j.
             let from = beside b c g h r rb fb fc gh fg at i y f sig (now z) (now' z) (places_are z (inr j)) in
-            let moved_to : place_behind (r.block at) i (now' z) ≡ then_now' z = ap₂ (λ x n. place_behind x n (now' z)) to (sym here.line) in
-            subst (λ w. Beside b1 c1 names (then_now z) w) moved_to (subst (λ w. Beside w c1 names (then_now z) (place_behind (r.block at) i (now' z))) (sym b1_is) (subst (λ w. Beside (spliced (at_place b g at i y f)) w names (then_now z) (place_behind (r.block at) i (now' z))) (sym c1_is) from)))
+            let moved_to : point_behind (r.block at) i (now' z) ≡ then_now' z = ap₂ (λ x n. point_behind x n (now' z)) to (sym here.line) in
+            subst (λ w. Beside b1 c1 names (then_now z) w) moved_to (subst (λ w. Beside w c1 names (then_now z) (point_behind (r.block at) i (now' z))) (sym b1_is) (subst (λ w. Beside (spliced (at_place b g at i y f)) w names (then_now z) (point_behind (r.block at) i (now' z))) (sym c1_is) from)))
 
       one : Stays → Goes → Both (inline_by bodies policy now (s ∷ ss) b) (inline_by others policy now' (s ∷ ss) c) (inlined_by bodies policy now (s ∷ ss) b) (inlined_by others policy now' (s ∷ ss) c)
       one stay go = by (and_then (called b at i) bodies) (and_then (called c at' i') others) refl (same_found (called b at i) (called c at' i') (called_beside b c r rb fc.whole.blocks (now s) (now' s) (places_are s (inl refl))))
@@ -390,11 +390,11 @@ module _ (policy : Policy) (bodies others : FuncName → Option Function) (alike
               let u = then_some (called b at i) bodies g e in
               choose (splice_with sides b at i g) (splice_with sides c at' i' h) (goes g h gh u.0 u.1 u.2 go) stay (takes policy g (splice_with sides b at i g)) (takes policy h (splice_with sides c at' i' h)) (takes_both g h gh u.0 u.1 u.2)
 
-    loop : (ss : List Place) (now now' : Place → Place) (b c : Function) (r : Renaming) → Renamed r b c → Free b → Free c → States bodies b → ((z : Place) → In z ss → Beside b c r (now z) (now' z)) → Both (inline_by bodies policy now ss b) (inline_by others policy now' ss c) (inlined_by bodies policy now ss b) (inlined_by others policy now' ss c)
+    loop : (ss : List Point) (now now' : Point → Point) (b c : Function) (r : Renaming) → Renamed r b c → Free b → Free c → States bodies b → ((z : Point) → In z ss → Beside b c r (now z) (now' z)) → Both (inline_by bodies policy now ss b) (inline_by others policy now' ss c) (inlined_by bodies policy now ss b) (inlined_by others policy now' ss c)
     loop [] now now' b c r rb fb fc sb places_are = record { same = (fb.whole, fc.whole, sym (renamed_is_same r b c fb.whole fc.whole rb)); count = refl }
     loop (s ∷ ss) now now' b c r rb fb fc sb places_are =
         one s ss now now' b c r rb fb fc sb places_are (loop ss now now' b c r rb fb fc sb (λ z i. places_are z (inr i)))
-        (λ b1 c1 r1 e1 e2 e3 e4 e5. loop ss (λ z. place_behind (now s).0 (now s).1 (now z)) (λ z. place_behind (now' s).0 (now' s).1 (now' z)) b1 c1 r1 e1 e2 e3 e4 e5)
+        (λ b1 c1 r1 e1 e2 e3 e4 e5. loop ss (λ z. point_behind (now s).0 (now s).1 (now z)) (λ z. point_behind (now' s).0 (now' s).1 (now' z)) b1 c1 r1 e1 e2 e3 e4 e5)
 
 -- ---- finished bodies
 
@@ -444,7 +444,7 @@ module _ (p : Policy) (m : Module) (is : IsModule m) (ok : Accepted m) (f : Func
       let k = in_get f.callees d j in
       ok f there (item.Callee k.0) signature_mismatch d k.1 u1.0 u1.1 ∙ ap (λ z. Some z) (sym (ap (λ z. z.sig) u1.2 ∙ finished_signed p m u1.0))
 
-  beside_itself : (z : Place) → Beside f f own_names z z
+  beside_itself : (z : Point) → Beside f f own_names z z
   beside_itself z = record { line = refl; block = elim (in_cases_of z.0 (block_numbers f.blocks)) [ inl i ↦ inl (i, refl) | inr off ↦ inr (off, off) ] }
 
   respect : (others : FuncName → Option Function) → ((x : FuncName) → SameBody (bodies x) (others x)) → SameFunction (finished p m f) (finish_by others p f) × (inlined_with others p f ≡ inlined p m f)

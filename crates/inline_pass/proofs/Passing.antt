@@ -21,7 +21,7 @@ use Rattle.inline_outcomes.proofs.Linking.{distinct_sides, splice_runs}
 use Rattle.inline_outcomes.proofs.Numbering.{runs_kept, kept_on}
 use Rattle.inline_outcomes.proofs.Keeping.{same_of}
 use Rattle.inline_pass.specs.Policy.{Policy, takes}
-use Rattle.inline_pass.specs.Sites.{Place, own_sites, place_behind, called}
+use Rattle.inline_pass.specs.Sites.{Point, own_sites, point_behind, called}
 use Rattle.inline_pass.specs.Finished.{inline_by, body_of}
 use Rattle.inline_pass.specs.Pass.{finish, pass_by, pass}
 
@@ -35,7 +35,7 @@ cut_list [] i l h = cc
 cut_list (x ∷ ls) zero l h = ap (λ z. z ∷ ls) (some_same h)
 cut_list (x ∷ ls) (suc i) l h = ap (λ z. x ∷ z) (cut_list ls i l h)
 
--- the place of a call
+-- the point of a call
 pub record Found (b : Function) (at i : ℕ) (x : FuncName) : Type 0 where
   pub block : Block
   pub line : Line
@@ -129,16 +129,16 @@ module _ (p : Policy) (pieces m0 m : Module) (x0 : FuncName) where
   other y g true q h = record { different = λ e. apart_self pieces x0 y q (sym e); there = h }
   other y g false q h = cc
 
-  inlined_kept : (now : Place → Place) (ss : List Place) (b : Function) → b.name ≡ x0 → (f : Function) → find_function b.name m ≡ Some f → RunsKept m0 (replace b m) → RunsKept m0 (replace (inline_by (body_of pieces m x0) p now ss b) m)
+  inlined_kept : (now : Point → Point) (ss : List Point) (b : Function) → b.name ≡ x0 → (f : Function) → find_function b.name m ≡ Some f → RunsKept m0 (replace b m) → RunsKept m0 (replace (inline_by (body_of pieces m x0) p now ss b) m)
   inlined_kept now [] b hn f h ch = ch
   inlined_kept now (s ∷ ss) b hn f h ch =
-      by (and_then (called b (now s).0 (now s).1) (body_of pieces m x0)) refl (inlined_kept now ss b hn f h ch) (λ b'. inlined_kept (λ q. place_behind (now s).0 (now s).1 (now q)) ss b')
+      by (and_then (called b (now s).0 (now s).1) (body_of pieces m x0)) refl (inlined_kept now ss b hn f h ch) (λ b'. inlined_kept (λ q. point_behind (now s).0 (now s).1 (now q)) ss b')
     where
-      by : (o : Option Function) → and_then (called b (now s).0 (now s).1) (body_of pieces m x0) ≡ o → RunsKept m0 (replace (inline_by (body_of pieces m x0) p now ss b) m) → ((b' : Function) → b'.name ≡ x0 → (f : Function) → find_function b'.name m ≡ Some f → RunsKept m0 (replace b' m) → RunsKept m0 (replace (inline_by (body_of pieces m x0) p (λ q. place_behind (now s).0 (now s).1 (now q)) ss b') m)) → RunsKept m0 (replace (elim o [ None ↦ inline_by (body_of pieces m x0) p now ss b | Some g ↦ if takes p g (splice_with sides b (now s).0 (now s).1 g) then inline_by (body_of pieces m x0) p (λ q. place_behind (now s).0 (now s).1 (now q)) ss (splice_with sides b (now s).0 (now s).1 g) else inline_by (body_of pieces m x0) p now ss b ]) m)
+      by : (o : Option Function) → and_then (called b (now s).0 (now s).1) (body_of pieces m x0) ≡ o → RunsKept m0 (replace (inline_by (body_of pieces m x0) p now ss b) m) → ((b' : Function) → b'.name ≡ x0 → (f : Function) → find_function b'.name m ≡ Some f → RunsKept m0 (replace b' m) → RunsKept m0 (replace (inline_by (body_of pieces m x0) p (λ q. point_behind (now s).0 (now s).1 (now q)) ss b') m)) → RunsKept m0 (replace (elim o [ None ↦ inline_by (body_of pieces m x0) p now ss b | Some g ↦ if takes p g (splice_with sides b (now s).0 (now s).1 g) then inline_by (body_of pieces m x0) p (λ q. point_behind (now s).0 (now s).1 (now q)) ss (splice_with sides b (now s).0 (now s).1 g) else inline_by (body_of pieces m x0) p now ss b ]) m)
       by None q stay go = stay
       by (Some g) q stay go = choose (takes p g (splice_with sides b (now s).0 (now s).1 g))
         where
-          with_body : RunsKept m0 (replace (inline_by (body_of pieces m x0) p (λ r. place_behind (now s).0 (now s).1 (now r)) ss (splice_with sides b (now s).0 (now s).1 g)) m)
+          with_body : RunsKept m0 (replace (inline_by (body_of pieces m x0) p (λ r. point_behind (now s).0 (now s).1 (now r)) ss (splice_with sides b (now s).0 (now s).1 g)) m)
           with_body =
               let u = then_some (called b (now s).0 (now s).1) (body_of pieces m x0) g q in
               let o = other u.0 g (apart pieces x0 u.0) refl u.2 in
@@ -149,7 +149,7 @@ module _ (p : Policy) (pieces m0 m : Module) (x0 : FuncName) where
               let kept' : RunsKept (replace b m) (replace b' m) = subst (RunsKept (replace b m)) (replace_twice b b' m (sym named)) kept in
               go b' (named ∙ hn) f (ap (λ z. find_function z m) named ∙ h) (kept_on m0 (replace b m) (replace b' m) ch kept')
 
-          choose : (c : Bool) → RunsKept m0 (replace (if c then inline_by (body_of pieces m x0) p (λ r. place_behind (now s).0 (now s).1 (now r)) ss (splice_with sides b (now s).0 (now s).1 g) else inline_by (body_of pieces m x0) p now ss b) m)
+          choose : (c : Bool) → RunsKept m0 (replace (if c then inline_by (body_of pieces m x0) p (λ r. point_behind (now s).0 (now s).1 (now r)) ss (splice_with sides b (now s).0 (now s).1 g) else inline_by (body_of pieces m x0) p now ss b) m)
           choose true = with_body
           choose false = stay
 

@@ -30,14 +30,14 @@ use Rattle.inline_numbering.proofs.Carried.{kind_same}
 use Rattle.inline_numbering.proofs.Same.{by_way, way_renamed, renamed_is_same}
 use Rattle.inline_numbering.proofs.Sides.{joined, sides_carry}
 use Rattle.inline_numbering.proofs.Typed.{block_in}
-use Rattle.inline_numbering.proofs.Places as places
-use Rattle.inline_pass.specs.Sites.{Place, called}
+use Rattle.inline_numbering.proofs.Places as points
+use Rattle.inline_pass.specs.Sites.{Point, called}
 use Rattle.inline_pass.specs.Going.{Task, Ahead, Twins, Going, before_line, stands, with_body, spliced_twins}
 use Rattle.inline_pass.specs.GoingLaws.{Inlines, Put, PutWithin}
 use Rattle.inline_pass.specs.Putting.{Fit, FinishedFit, KeepsCaller, code_splice, Spliced, Splices, DoneIsFinished}
 use Rattle.inline_pass.specs.Finished.{finished, passed}
 use Rattle.inline_pass.proofs.Finishing.{found_by_name, finished_equation}
-use Rattle.inline_pass.proofs.Kept.{finished_accepted}
+use Rattle.inline_pass.proofs.Preserving.{finished_accepted}
 use Rattle.inline_pass.proofs.Going.{here_is, get_first}
 use Rattle.inline_pass.proofs.Passing.{Found, found, then_some, at_place, splice_is}
 use Rattle.inline_pass.proofs.Others as others
@@ -124,7 +124,7 @@ module _ (q : Splicing) (keeps : KeepsCaller q.naming q.caller) where
 
 -- ---- at an own line
 
-module _ (task : Task) (ahead : Ahead) (l : Line) (twins : Twins) (place : Place) (count : ℕ) (going : Going task (before_line l ahead) twins place count) (fit : Fit task.bodies twins.body) (wc : WellFormed twins.code) (g h : Function) (inlines : Inlines task ahead l twins g) (fit_g : Fit task.bodies g) (gh : SameFunction g h) (n : Naming) (keeps : KeepsCaller n twins.code) (sound : IsSound (spliced (code_splice n twins place l h))) where
+module _ (task : Task) (ahead : Ahead) (l : Line) (twins : Twins) (point : Point) (count : ℕ) (going : Going task (before_line l ahead) twins point count) (fit : Fit task.bodies twins.body) (wc : WellFormed twins.code) (g h : Function) (inlines : Inlines task ahead l twins g) (fit_g : Fit task.bodies g) (gh : SameFunction g h) (n : Naming) (keeps : KeepsCaller n twins.code) (sound : IsSound (spliced (code_splice n twins point l h))) where
   abbrev b : Function
   b = twins.body
 
@@ -166,7 +166,7 @@ module _ (task : Task) (ahead : Ahead) (l : Line) (twins : Twins) (place : Place
   under = splicing_under r n c h p
 
   abbrev q : Splicing
-  q = code_splice n twins place l h
+  q = code_splice n twins point l h
 
   abbrev t : Renaming
   t = joined r (by_way g h) n
@@ -174,30 +174,30 @@ module _ (task : Task) (ahead : Ahead) (l : Line) (twins : Twins) (place : Place
   there : find_block (r.block at) c.blocks ≡ Some (block_under r f.block)
   there = others.other_found b c g h r going.same fb fc gh fg at i call.0 f sig
 
-  here : stands twins ahead ≡ (going.block, place.1)
-  here = here_is task ahead l twins place count going
+  here : stands twins ahead ≡ (going.block, point.1)
+  here = here_is task ahead l twins point count going
 
-  at_is : r.block at ≡ place.0
+  at_is : r.block at ≡ point.0
   at_is = ap (λ z. r.block z.0) here ∙ going.is
 
-  i_is : i ≡ place.1
+  i_is : i ≡ point.1
   i_is = ap (λ z. z.1) here
 
-  text : lines_of place.0 c.blocks ≡ map (line_under r) f.block.lines
+  text : lines_of point.0 c.blocks ≡ map (line_under r) f.block.lines
   text = ap (λ x. lines_of x c.blocks) (sym at_is) ∙ lines_found (r.block at) c.blocks (block_under r f.block) there
 
   line_is : line_under r f.line ≡ l
   line_is =
-      let own : slice_get (lines_of place.0 c.blocks) place.1 ≡ Some l = get_first (lines_of place.0 c.blocks) place.1 l ahead.lines going.text in
-      let got : slice_get (map (line_under r) f.block.lines) i ≡ Some (line_under r f.line) = places.get_map (line_under r) f.block.lines i f.line f.get in
+      let own : slice_get (lines_of point.0 c.blocks) point.1 ≡ Some l = get_first (lines_of point.0 c.blocks) point.1 l ahead.lines going.text in
+      let got : slice_get (map (line_under r) f.block.lines) i ≡ Some (line_under r f.line) = points.get_map (line_under r) f.block.lines i f.line f.get in
       some_same (sym got ∙ (ap₂ slice_get (sym text) i_is ∙ own))
 
   under_is : under ≡ q
   under_is =
       ap₂ (λ (x : ℕ) (z : Line). record { naming = n; caller = c; callee = h; at = x; before = map (line_under r) (take i f.block.lines); site = z; behind = map (line_under r) (drop (suc i) f.block.lines) }) at_is line_is
-      ∙ ap₂ (λ (us ws : List Line). record { naming = n; caller = c; callee = h; at = place.0; before = us; site = l; behind = ws })
-      (sym (places.take_map (line_under r) i f.block.lines) ∙ ap₂ take i_is (sym text))
-      (sym (places.drop_map (line_under r) (suc i) f.block.lines) ∙ ap₂ (λ k ls. drop (suc k) ls) i_is (sym text))
+      ∙ ap₂ (λ (us ws : List Line). record { naming = n; caller = c; callee = h; at = point.0; before = us; site = l; behind = ws })
+      (sym (points.take_map (line_under r) i f.block.lines) ∙ ap₂ take i_is (sym text))
+      (sym (points.drop_map (line_under r) (suc i) f.block.lines) ∙ ap₂ (λ k ls. drop (suc k) ls) i_is (sym text))
 
   carry : Carries t r (by_way g h) sides n b c g h
   carry = sides_carry r (by_way g h) n b c g h going.same (way_renamed g h gh) fit_g.whole
@@ -211,10 +211,10 @@ module _ (task : Task) (ahead : Ahead) (l : Line) (twins : Twins) (place : Place
   whole_q : WellFormed (spliced q)
   whole_q =
       let sound_under : IsSound (spliced under) = subst (λ z. IsSound (spliced z)) (sym under_is) sound in
-      subst (λ z. WellFormed (spliced z)) under_is (whole_of (spliced under) sound_under (places.splice_stays_whole t r (by_way g h) p n c h carry site free_p.whole sound_under))
+      subst (λ z. WellFormed (spliced z)) under_is (whole_of (spliced under) sound_under (points.splice_stays_whole t r (by_way g h) p n c h carry site free_p.whole sound_under))
 
   renamed : Renamed t (spliced p) (spliced q)
-  renamed = subst (λ z. Renamed t (spliced p) (spliced z)) under_is (places.splice_renamed t r (by_way g h) p n c h carry site free_p.whole (subst (λ z. WellFormed (spliced z)) (sym under_is) whole_q))
+  renamed = subst (λ z. Renamed t (spliced p) (spliced z)) under_is (points.splice_renamed t r (by_way g h) p n c h carry site free_p.whole (subst (λ z. WellFormed (spliced z)) (sym under_is) whole_q))
 
   b_is : with_body twins ahead g ≡ spliced p
   b_is = splice_is b g at i call.0 f
@@ -225,7 +225,7 @@ module _ (task : Task) (ahead : Ahead) (l : Line) (twins : Twins) (place : Place
   stands_p : Stands p
   stands_p = others.stands_b b c g h r going.same fb fc gh fg at i call.0 f sig
 
-  put : Put twins new place.0
+  put : Put twins new point.0
   put =
       record {
         same = subst (λ z. Renamed t z (spliced q)) (sym b_is) renamed;
@@ -240,10 +240,10 @@ module _ (task : Task) (ahead : Ahead) (l : Line) (twins : Twins) (place : Place
   kind_is : kind_of l.inst ≡ Within → kind_of f.line.inst ≡ Within
   kind_is e = others.kind_back r (kind_of f.line.inst) (sym (kind_same r f.line.inst) ∙ (ap (λ z. kind_of z.inst) line_is ∙ e))
 
-  place_in : In place.0 (block_numbers c.blocks)
+  place_in : In point.0 (block_numbers c.blocks)
   place_in = subst (λ z. In z (block_numbers c.blocks)) at_is (block_in (r.block at) c.blocks (block_under r f.block) there)
 
-  put_within : kind_of l.inst ≡ Within → PutWithin twins new place n.after
+  put_within : kind_of l.inst ≡ Within → PutWithin twins new point n.after
   put_within e =
       record {
         put = put;
@@ -253,7 +253,7 @@ module _ (task : Task) (ahead : Ahead) (l : Line) (twins : Twins) (place : Place
         fresh = keeps.fresh;
       }
 
-  spliced_here : Spliced task twins new place n.after l
+  spliced_here : Spliced task twins new point n.after l
   spliced_here =
       record {
         put = put;
@@ -263,7 +263,7 @@ module _ (task : Task) (ahead : Ahead) (l : Line) (twins : Twins) (place : Place
       }
 
 pub splices : Splices
-splices task ahead l twins place count going fit wc g h inlines fit_g gh n keeps sound = (joined twins.names (by_way g h) n, spliced_here task ahead l twins place count going fit wc g h inlines fit_g gh n keeps sound)
+splices task ahead l twins point count going fit wc g h inlines fit_g gh n keeps sound = (joined twins.names (by_way g h) n, spliced_here task ahead l twins point count going fit wc g h inlines fit_g gh n keeps sound)
 
 pub finished_fit : FinishedFit
 finished_fit p m is ok f there = (

@@ -16,14 +16,14 @@ use Rattle.inline_outcomes.proofs.Related.{Distinct, RestF}
 use Rattle.inline_outcomes.proofs.Places.{find_hit, find_skip, append_none, g_off, after_off, after_cut, f_found}
 use Rattle.inline_outcomes.proofs.Merging.{own_callee}
 use Rattle.inline_outcomes.proofs.Linking.{distinct_sides}
-use Rattle.inline_pass.specs.Sites.{Place, place_behind, called}
+use Rattle.inline_pass.specs.Sites.{Point, point_behind, called}
 use Rattle.inline_pass.proofs.Passing.{found, cut_list}
 
--- a call at the place is of a declared callee whose name is among these
-pub record Names (names : List FuncName) (b : Function) (q : Place) : Type 0 where
+-- a call at the point is of a declared callee whose name is among these
+pub record Names (names : List FuncName) (b : Function) (q : Point) : Type 0 where
   pub callee : (k : Block) (l : Line) (j : ℕ) → find_block q.0 b.blocks ≡ Some k → slice_get k.lines q.1 ≡ Some l → callee_of l.inst ≡ Some j → (c : Callee) × (slice_get b.callees j ≡ Some c) × In c.name names
 
-pub name_in : (names : List FuncName) (b : Function) (q : Place) → Names names b q → (y : FuncName) → called b q.0 q.1 ≡ Some y → In y names
+pub name_in : (names : List FuncName) (b : Function) (q : Point) → Names names b q → (y : FuncName) → called b q.0 q.1 ≡ Some y → In y names
 name_in names b q n y h =
     let d = found b q.0 q.1 y h in
     let c = n.callee d.block d.line d.index d.found d.get d.is in
@@ -145,7 +145,7 @@ module _ (b g : Function) (at i : ℕ) (k0 : Block) (l0 : Line) (there : find_bl
   stays : (names : List FuncName) (j : ℕ) → ((c : Callee) × (slice_get b.callees j ≡ Some c) × In c.name names) → (c : Callee) × (slice_get (spliced here).callees j ≡ Some c) × In c.name names
   stays names j (c, h, q) = (c, own_callee b g j c h, q)
 
-  at_after : (names : List FuncName) (q : Place) → Names names b q → q.0 ≡ at → i < q.1 → Names names (spliced here) (sides.after, q.1 - (i + 1))
+  at_after : (names : List FuncName) (q : Point) → Names names b q → q.0 ≡ at → i < q.1 → Names names (spliced here) (sides.after, q.1 - (i + 1))
   at_after names q n e lt =
       record {
         callee = λ k' l' j found get is.
@@ -155,7 +155,7 @@ module _ (b g : Function) (at i : ℕ) (k0 : Block) (l0 : Line) (there : find_bl
             stays names j (n.callee k0 r.0 j (ap (λ z. find_block z b.blocks) e ∙ there) (sym (get_drop k0.lines i (q.1 - (i + 1)) ∙ ap (slice_get k0.lines) z) ∙ r.1) (sym (callee_stays here r.0.inst) ∙ ap (λ z. callee_of z.inst) r.2 ∙ is));
       }
 
-  at_own : (names : List FuncName) (q : Place) → Names names b q → Names names (spliced here) (sides.caller_block q.0, q.1)
+  at_own : (names : List FuncName) (q : Point) → Names names b q → Names names (spliced here) (sides.caller_block q.0, q.1)
   at_own names q n =
       record {
         callee = λ k' l' j found get is.
@@ -164,7 +164,7 @@ module _ (b g : Function) (at i : ℕ) (k0 : Block) (l0 : Line) (there : find_bl
             stays names j (n.callee o.0 r.0 j o.1 r.1 r.2);
       }
 
-  pub track : (names : List FuncName) (q : Place) → Names names b q → Names names (spliced here) (place_behind at i q)
+  pub track : (names : List FuncName) (q : Point) → Names names b q → Names names (spliced here) (point_behind at i q)
   track names q n = go (nat_eq q.0 at && nat_lt i q.1) refl
     where
       go : (c : Bool) → (nat_eq q.0 at && nat_lt i q.1) ≡ c → Names names (spliced here) (if c then (sides.after, q.1 - (i + 1)) else (sides.caller_block q.0, q.1))

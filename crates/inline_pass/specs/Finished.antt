@@ -8,22 +8,22 @@ use Rattle.ir_core.specs.Lookup.{and_then, find_function}
 use Rattle.ir_semantics.specs.Splice.{sides, splice_with}
 use Rattle.call_graph.specs.Reach.{apart}
 use Rattle.inline_pass.specs.Policy.{Policy, takes}
-use Rattle.inline_pass.specs.Sites.{Place, own_sites, place_behind, called}
+use Rattle.inline_pass.specs.Sites.{Point, own_sites, point_behind, called}
 
--- the name that the call at a place of the body calls
-abbrev pub callee_at : Function → Place → Option FuncName
+-- the name that the call at a point of the body calls
+abbrev pub callee_at : Function → Point → Option FuncName
 callee_at body at = called body at.0 at.1
 
--- the body with another one in place of the call at a place
-abbrev pub spliced_at : Function → Place → Function → Function
+-- the body with another one in place of the call at a point
+abbrev pub spliced_at : Function → Point → Function → Function
 spliced_at body at callee = splice_with sides body at.0 at.1 callee
 
--- where each site stands once there was a splice at a place
-abbrev pub after_splice : Place → (Place → Place) → Place → Place
-after_splice at now site = place_behind at.0 at.1 (now site)
+-- where each site stands once there was a splice at a point
+abbrev pub after_splice : Point → (Point → Point) → Point → Point
+after_splice at now site = point_behind at.0 at.1 (now site)
 
 -- the sites in turn; `now` says where each stands in the body, and `bodies` has the bodies of other pieces
-abbrev pub inline_by : (FuncName → Option Function) → Policy → (Place → Place) → List Place → Function → Function
+abbrev pub inline_by : (FuncName → Option Function) → Policy → (Point → Point) → List Point → Function → Function
 inline_by bodies policy now [] body = body
 inline_by bodies policy now (site ∷ sites) body =
     elim (and_then (callee_at body (now site)) bodies) [

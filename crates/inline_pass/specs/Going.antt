@@ -11,7 +11,7 @@ use Rattle.ir_core.specs.Edits.{lines_of}
 use Rattle.ir_semantics.specs.Renaming.{Renaming}
 use Rattle.inline_numbering.specs.Renamed.{Renamed}
 use Rattle.inline_pass.specs.Policy.{Policy}
-use Rattle.inline_pass.specs.Sites.{Place, sites_in, own_sites}
+use Rattle.inline_pass.specs.Sites.{Point, sites_in, own_sites}
 use Rattle.inline_pass.specs.Finished.{callee_at, spliced_at, after_splice, inline_by, finish_by}
 use Rattle.inline_pass.specs.Inlined.{inlined_by, inlined_with}
 
@@ -28,11 +28,11 @@ pub record Ahead : Type 0 where
   pub lines : List Line
   pub rest : List Block
 
--- the body so far: the definition's, with the places in it where own places stand now, and the code's, which is the
+-- the body so far: the definition's, with the points in it where own points stand now, and the code's, which is the
 -- definition's under `names`
 pub record Twins : Type 0 where
   pub body : Function
-  pub now : Place → Place
+  pub now : Point → Point
   pub code : Function
   pub names : Renaming
 
@@ -48,11 +48,11 @@ abbrev pub behind_line : Ahead → Ahead
 behind_line ahead = record ahead { line = suc ahead.line }
 
 -- the own sites that are left
-abbrev pub sites_left : Ahead → List Place
+abbrev pub sites_left : Ahead → List Point
 sites_left ahead = sites_in ahead.block ahead.line ahead.lines ++ own_sites ahead.rest
 
 -- where the own line stands in the definition's body
-abbrev pub stands : Twins → Ahead → Place
+abbrev pub stands : Twins → Ahead → Point
 stands twins ahead = twins.now (ahead.block, ahead.line)
 
 -- the body of what is called there, where it is one to be inlined
@@ -78,13 +78,13 @@ spliced_twins twins ahead g code names =
 pub record Later (twins : Twins) (at : ℕ) (own : Block) : Type 0 where
   pub block : ℕ
   pub there : In block (block_numbers twins.body.blocks)
-  pub places : (j : ℕ) → twins.now (own.number, j) ≡ (block, j)
+  pub points : (j : ℕ) → twins.now (own.number, j) ≡ (block, j)
   pub is : twins.names.block block ≡ own.number
   pub text : lines_of own.number twins.code.blocks ≡ own.lines
   pub apart : own.number ≡ at → ⊥
 
--- the next own line stands at a place of the code's body, and so many sites were inlined before it
-pub record Going (task : Task) (ahead : Ahead) (twins : Twins) (place : Place) (count : ℕ) : Type 0 where
+-- the next own line stands at a point of the code's body, and so many sites were inlined before it
+pub record Going (task : Task) (ahead : Ahead) (twins : Twins) (point : Point) (count : ℕ) : Type 0 where
   pub left :
       inline_by task.bodies task.policy twins.now (sites_left ahead) twins.body
       ≡ finish_by task.bodies task.policy task.function
@@ -95,10 +95,10 @@ pub record Going (task : Task) (ahead : Ahead) (twins : Twins) (place : Place) (
   pub numbers : Different (block_numbers twins.code.blocks)
   pub block : ℕ
   pub there : In block (block_numbers twins.body.blocks)
-  pub here : (j : ℕ) → twins.now (ahead.block, ahead.line + j) ≡ (block, place.1 + j)
-  pub is : twins.names.block block ≡ place.0
-  pub text : drop place.1 (lines_of place.0 twins.code.blocks) ≡ ahead.lines
-  pub later : Each (Later twins place.0) ahead.rest
+  pub here : (j : ℕ) → twins.now (ahead.block, ahead.line + j) ≡ (block, point.1 + j)
+  pub is : twins.names.block block ≡ point.0
+  pub text : drop point.1 (lines_of point.0 twins.code.blocks) ≡ ahead.lines
+  pub later : Each (Later twins point.0) ahead.rest
   pub apart : Different (block_numbers ahead.rest)
   pub callees :
       (j : ℕ) (d : Callee) → slice_get task.function.callees j ≡ Some d

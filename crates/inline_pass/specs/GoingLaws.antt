@@ -11,7 +11,7 @@ use Rattle.ir_semantics.specs.Renaming.{Renaming}
 use Rattle.ir_semantics.specs.Splice.{sides}
 use Rattle.inline_numbering.specs.Renamed.{Renamed}
 use Rattle.inline_pass.specs.Policy.{takes}
-use Rattle.inline_pass.specs.Sites.{Place, is_site}
+use Rattle.inline_pass.specs.Sites.{Point, is_site}
 use Rattle.inline_pass.specs.Finished.{callee_at}
 use Rattle.inline_pass.specs.Going.{Task, Ahead, Twins, Going, Done, before_block, before_line, behind_line, stands}
 use Rattle.inline_pass.specs.Going.{body_called, with_body, spliced_twins}
@@ -29,11 +29,11 @@ Begins =
     (task : Task) (own : Block) (rest : List Block) → task.function.blocks ≡ own ∷ rest → WellFormed task.function
     → Going task (before_block own rest) (untouched task.function) (own.number, 0) 0
 
--- what the definition's body calls at the place of an own line is what the own line calls
+-- what the definition's body calls at the point of an own line is what the own line calls
 abbrev pub Calls : Type 0
 Calls =
-    (task : Task) (ahead : Ahead) (l : Line) (twins : Twins) (place : Place) (count : ℕ)
-    → Going task (before_line l ahead) twins place count
+    (task : Task) (ahead : Ahead) (l : Line) (twins : Twins) (point : Point) (count : ℕ)
+    → Going task (before_line l ahead) twins point count
     → (j : ℕ) (d : Callee) → callee_of l.inst ≡ Some j → slice_get task.function.callees j ≡ Some d
     → callee_at twins.body (stands twins ahead) ≡ Some d.name
 
@@ -46,10 +46,10 @@ Refused task ahead twins =
 -- behind a line that is no site, or at which nothing is inlined
 abbrev pub Passes : Type 0
 Passes =
-    (task : Task) (ahead : Ahead) (l : Line) (twins : Twins) (place : Place) (count : ℕ)
-    → Going task (before_line l ahead) twins place count
+    (task : Task) (ahead : Ahead) (l : Line) (twins : Twins) (point : Point) (count : ℕ)
+    → Going task (before_line l ahead) twins point count
     → (is_site (callee_of l.inst) ≡ true → Refused task ahead twins)
-    → Going task (behind_line ahead) twins (place.0, suc place.1) count
+    → Going task (behind_line ahead) twins (point.0, suc point.1) count
 
 -- the body g is inlined at the own line
 pub record Inlines (task : Task) (ahead : Ahead) (l : Line) (twins : Twins) (g : Function) : Type 0 where
@@ -58,7 +58,7 @@ pub record Inlines (task : Task) (ahead : Ahead) (l : Line) (twins : Twins) (g :
   pub taken : takes task.policy g (with_body twins ahead g) ≡ true
 
 -- the code's splice into the block `at`: the new body is the definition's under the new numbers, blocks of the caller
--- keep theirs, and callees keep their places
+-- keep theirs, and callees keep their points
 pub record Put (old new : Twins) (at : ℕ) : Type 0 where
   pub same : Renamed new.names new.body new.code
   pub numbers : Different (block_numbers new.code.blocks)
@@ -73,21 +73,21 @@ pub record Put (old new : Twins) (at : ℕ) : Type 0 where
       (j : ℕ) (d : Callee) → slice_get old.code.callees j ≡ Some d
       → slice_get new.code.callees j ≡ Some d
 
--- of a plain call, at a place: the lines behind it stand in the new block `after`
-pub record PutWithin (old new : Twins) (place : Place) (after : ℕ) : Type 0 where
-  pub put : Put old new place.0
+-- of a plain call, at a point: the lines behind it stand in the new block `after`
+pub record PutWithin (old new : Twins) (point : Point) (after : ℕ) : Type 0 where
+  pub put : Put old new point.0
   pub behind : In sides.after (block_numbers new.body.blocks)
   pub is : new.names.block sides.after ≡ after
-  pub text : lines_of after new.code.blocks ≡ drop (suc place.1) (lines_of place.0 old.code.blocks)
+  pub text : lines_of after new.code.blocks ≡ drop (suc point.1) (lines_of point.0 old.code.blocks)
   pub fresh : In after (block_numbers old.code.blocks) → ⊥
 
 -- behind a plain call that is inlined
 abbrev pub Takes : Type 0
 Takes =
-    (task : Task) (ahead : Ahead) (l : Line) (twins : Twins) (place : Place) (count : ℕ)
-    → Going task (before_line l ahead) twins place count
+    (task : Task) (ahead : Ahead) (l : Line) (twins : Twins) (point : Point) (count : ℕ)
+    → Going task (before_line l ahead) twins point count
     → (g code : Function) (names : Renaming) (after : ℕ) → Inlines task ahead l twins g
-    → PutWithin twins (spliced_twins twins ahead g code names) place after
+    → PutWithin twins (spliced_twins twins ahead g code names) point after
     → Going task (behind_line ahead) (spliced_twins twins ahead g code names) (after, 0) (suc count)
 
 -- before the next own block, or at the end
@@ -98,15 +98,15 @@ Onward task (own ∷ rest) twins count = Going task (before_block own rest) twin
 -- behind a tail call or a `try_call` that is inlined: no own line of the block stands behind it
 abbrev pub TakesLast : Type 0
 TakesLast =
-    (task : Task) (ahead : Ahead) (l : Line) (twins : Twins) (place : Place) (count : ℕ)
-    → Going task (before_line l ahead) twins place count
+    (task : Task) (ahead : Ahead) (l : Line) (twins : Twins) (point : Point) (count : ℕ)
+    → Going task (before_line l ahead) twins point count
     → ahead.lines ≡ [] → (g code : Function) (names : Renaming) → Inlines task ahead l twins g
-    → Put twins (spliced_twins twins ahead g code names) place.0
+    → Put twins (spliced_twins twins ahead g code names) point.0
     → Onward task ahead.rest (spliced_twins twins ahead g code names) (suc count)
 
 -- behind the last line of an own block
 abbrev pub Turns : Type 0
 Turns =
-    (task : Task) (ahead : Ahead) (twins : Twins) (place : Place) (count : ℕ)
-    → Going task ahead twins place count → ahead.lines ≡ []
+    (task : Task) (ahead : Ahead) (twins : Twins) (point : Point) (count : ℕ)
+    → Going task ahead twins point count → ahead.lines ≡ []
     → Onward task ahead.rest twins count

@@ -4,11 +4,11 @@ use Rattle.ir_core.specs.declared.names.FuncName.{FuncName}
 use Rattle.ir_core.specs.Module.{Function, Module}
 use Rattle.ir_core.specs.Lookup.{and_then}
 use Rattle.inline_pass.specs.Policy.{Policy, takes}
-use Rattle.inline_pass.specs.Sites.{Place, own_sites}
+use Rattle.inline_pass.specs.Sites.{Point, own_sites}
 use Rattle.inline_pass.specs.Finished.{callee_at, spliced_at, after_splice, finished_body}
 
 -- of some sites in turn, as they are inlined into a body
-abbrev pub inlined_by : (FuncName → Option Function) → Policy → (Place → Place) → List Place → Function → ℕ
+abbrev pub inlined_by : (FuncName → Option Function) → Policy → (Point → Point) → List Point → Function → ℕ
 inlined_by bodies policy now [] body = 0
 inlined_by bodies policy now (site ∷ sites) body =
     elim (and_then (callee_at body (now site)) bodies) [

@@ -1,9 +1,9 @@
 pub mod Finished
+pub mod FinishedAcceptance
 pub mod FinishedLaws
 pub mod Going
 pub mod GoingLaws
 pub mod Inlined
-pub mod Kept
 pub mod OtherBodies
 pub mod Pass
 pub mod Policy

@@ -13,7 +13,7 @@ use Rattle.ir_semantics.specs.Canon.{SameFunction}
 use Rattle.ir_semantics.specs.Renaming.{Renaming}
 use Rattle.ir_semantics.specs.Splice.{Naming, Splicing, Within, kind_of, spliced}
 use Rattle.inline_pass.specs.Policy.{Policy}
-use Rattle.inline_pass.specs.Sites.{Place}
+use Rattle.inline_pass.specs.Sites.{Point}
 use Rattle.inline_pass.specs.Finished.{finished, finished_body}
 use Rattle.inline_pass.specs.Inlined.{inlined}
 use Rattle.inline_pass.specs.Going.{Task, Ahead, Twins, Going, Done, before_line, spliced_twins}
@@ -44,35 +44,35 @@ pub record KeepsCaller (n : Naming) (c : Function) : Type 0 where
   pub blocks : (x : ℕ) → n.caller_block x ≡ x
   pub fresh : In n.after (block_numbers c.blocks) → ⊥
 
--- the splice of h into the code's body at the place where the own line l stands
-abbrev pub code_splice : Naming → Twins → Place → Line → Function → Splicing
-code_splice n twins place l h =
+-- the splice of h into the code's body at the point where the own line l stands
+abbrev pub code_splice : Naming → Twins → Point → Line → Function → Splicing
+code_splice n twins point l h =
     record {
       naming = n;
       caller = twins.code;
       callee = h;
-      at = place.0;
-      before = take place.1 (lines_of place.0 twins.code.blocks);
+      at = point.0;
+      before = take point.1 (lines_of point.0 twins.code.blocks);
       site = l;
-      behind = drop (suc place.1) (lines_of place.0 twins.code.blocks);
+      behind = drop (suc point.1) (lines_of point.0 twins.code.blocks);
     }
 
 -- what the loop needs of a splice into the code's body
-pub record Spliced (task : Task) (old new : Twins) (place : Place) (after : ℕ) (l : Line) : Type 0 where
-  pub put : Put old new place.0
-  pub within : kind_of l.inst ≡ Within → PutWithin old new place after
+pub record Spliced (task : Task) (old new : Twins) (point : Point) (after : ℕ) (l : Line) : Type 0 where
+  pub put : Put old new point.0
+  pub within : kind_of l.inst ≡ Within → PutWithin old new point after
   pub fit : Fit task.bodies new.body
   pub whole : WellFormed new.code
 
 -- the splice of a body that is the definition's up to numbering is such a one
 abbrev pub Splices : Type 0
 Splices =
-    (task : Task) (ahead : Ahead) (l : Line) (twins : Twins) (place : Place) (count : ℕ)
-    → Going task (before_line l ahead) twins place count → Fit task.bodies twins.body → WellFormed twins.code
+    (task : Task) (ahead : Ahead) (l : Line) (twins : Twins) (point : Point) (count : ℕ)
+    → Going task (before_line l ahead) twins point count → Fit task.bodies twins.body → WellFormed twins.code
     → (g h : Function) → Inlines task ahead l twins g → Fit task.bodies g → SameFunction g h
-    → (n : Naming) → KeepsCaller n twins.code → IsSound (spliced (code_splice n twins place l h))
+    → (n : Naming) → KeepsCaller n twins.code → IsSound (spliced (code_splice n twins point l h))
     → (names : Renaming)
-    × Spliced task twins (spliced_twins twins ahead g (spliced (code_splice n twins place l h)) names) place n.after l
+    × Spliced task twins (spliced_twins twins ahead g (spliced (code_splice n twins point l h)) names) point n.after l
 
 -- when all own lines are behind, the code's body is the finished one up to numbering, and the count is its count
 abbrev pub DoneIsFinished : Type 0

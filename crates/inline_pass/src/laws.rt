@@ -4,8 +4,8 @@ ghost use Rattle.inline_pass.specs.FinishedLaws.{RenumberedFinishedKeep};
 ghost use Rattle.inline_pass.specs.GoingLaws.{Begins, Calls, Passes, Takes, TakesLast, Turns};
 ghost use Rattle.inline_pass.specs.Putting.{DoneIsFinished, FinishedFit, Splices};
 ghost use Rattle.inline_pass.specs.OtherBodies.{FinishedRespectNumbers};
-ghost use Rattle.inline_pass.specs.Kept.{FinishedAccepted, FinishedWritable, RenumberedFinishedAccepted};
-ghost use Rattle.inline_pass.specs.Kept.{RenumberedFinishedWritable};
+ghost use Rattle.inline_pass.specs.FinishedAcceptance.{FinishedAccepted, FinishedWritable, RenumberedFinishedAccepted};
+ghost use Rattle.inline_pass.specs.FinishedAcceptance.{RenumberedFinishedWritable};
 
 /// The finished body of a function of a module is its own text, with the finished bodies of functions in other pieces
 /// at its sites, as the policy takes them: the recursion ends, since a function in another piece reaches less than
@@ -75,7 +75,7 @@ pub fn loop_begins()
     ensures { Begins }
 {}
 
-/// What is called at the place of an own line is what the own line calls.
+/// What is called at the point of an own line is what the own line calls.
 pub fn loop_calls()
     ensures { Calls }
 {}

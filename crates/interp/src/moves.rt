@@ -31,7 +31,8 @@ pub fn read_all(
 
 /// Gives each number its value, where there are as many.
 pub fn bind(values: &mut Cells<Bits>, names: &[Value], xs: &[Bits]) -> Result<bool, AllocError>
-    ensures { IfOk result (λ b. some_if b (env_of values.new) ≡ bind names.now (data_of_all xs.now) (env_of values.old)) }
+    ensures { IfOk result
+        (λ b. some_if b (env_of values.new) ≡ bind names.now (data_of_all xs.now) (env_of values.old)) }
 {
     if names.len() != xs.len() {
         return Ok(false);

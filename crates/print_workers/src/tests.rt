@@ -10,8 +10,8 @@ use debug_tags::Tags;
 use ir_core::{Conv, Func, FuncName, Inst, InstData, List, Module, Sig, Values};
 use std::alloc::{AllocError, Global};
 
-const TEXT: &[u8] =
-    b"function u0:0() fast {\nblock0:\n    return\n}\n\nfunction u0:1() fast {\nblock0:\n    return\n}\n\nfunction u0:2() fast {\nblock0:\n    return\n}\n";
+const TEXT: &[u8] = b"function u0:0() fast {\nblock0:\n    return\n}\n\n\
+      function u0:1() fast {\nblock0:\n    return\n}\n\nfunction u0:2() fast {\nblock0:\n    return\n}\n";
 
 /// A function that returns at once.
 fn returning(alloc: Global, number: u32) -> Result<Func, AllocError>

@@ -55,7 +55,8 @@ fn run_command<'a>(alloc: Global) -> Result<Command<'a>, AllocError>
 
 /// An option whose value is a number from `least` to `most`, or else `usual`.
 fn number_option<'a>(alloc: Global, name: &'a str, least: u64, most: u64, usual: &'a str) -> Arg<'a>
-    ensures { (rule_of result ≡ number_or (record { name = name.entry.now; least = least; most = most }) usual.entry.now)
+    ensures { (rule_of result
+        ≡ number_or (record { name = name.entry.now; least = least; most = most }) usual.entry.now)
         × (result.global ≡ false) }
 {
     Arg::new(alloc, name)

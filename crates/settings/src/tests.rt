@@ -37,7 +37,8 @@ fn the_text_of_a_fault(rt: HostRuntime) -> Result<(), AllocError> {
     let is_right = match &stopped {
         Err(Stopped::Usage(text)) => {
             text.as_str()
-                == "error: invalid value '65' for '--workers <workers>': 65 is not in 1..=64\n\nFor more information, try '--help'.\n"
+                == "error: invalid value '65' for '--workers <workers>': 65 is not in 1..=64\n\n\
+                    For more information, try '--help'.\n"
         }
         _ => false,
     };

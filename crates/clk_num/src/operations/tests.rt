@@ -1,5 +1,6 @@
 //! The vectors that bench/eval_vectors.py writes, which has its own integers, against `eval`.
-use super::vectors::VECTORS;
+use super::narrow_vectors::NARROW;
+use super::wide_vectors::WIDE;
 use super::{Evaled, eval};
 use crate::bits::Bits;
 use crate::op::{Cc, Op, TrapCode};
@@ -148,7 +149,7 @@ fn agreeing(line: &str) -> Option<u32> {
 #[test]
 fn eval_gives_what_python_gives(rt: HostRuntime) -> Result<(), Fail> {
     let mut cases: u32 = 0;
-    for line in VECTORS.lines() {
+    for line in NARROW.lines().chain(WIDE.lines()) {
         let agreed = agreeing(line);
         assert!(rt; agreed.is_some(), "at {line}");
         cases = cases.wrapping_add(agreed.unwrap_or(0));

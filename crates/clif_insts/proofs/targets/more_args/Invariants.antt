@@ -7,7 +7,7 @@ use Rattle.clif_insts.proofs.Loops.{Keeps}
 use Rattle.clif_insts.proofs.targets.more_args.Given as goal
 
 abbrev pub invariant-list : goal.invariant-list
-invariant-list l = Keeps (comma_arg_at l.fn.place) (code classes.Comma ∷ []) l.list.items l.reader (with_front l.fn.front.items (each (comma_arg_at l.fn.place) (code classes.Comma ∷ []) (length l.fn.reader) l.fn.reader))
+invariant-list l = Keeps (comma_arg_at l.fn.role) (code classes.Comma ∷ []) l.list.items l.reader (with_front l.fn.front.items (each (comma_arg_at l.fn.role) (code classes.Comma ∷ []) (length l.fn.reader) l.fn.reader))
     × (length l.reader ≤ length l.fn.reader)
 
 abbrev pub decreases-list : goal.decreases-list

@@ -1,5 +1,5 @@
 -- The lemma is the law.
-use Rattle.inline_pass.proofs.Kept.{finished_accepted}
+use Rattle.inline_pass.proofs.Preserving.{finished_accepted}
 use Rattle.inline_pass.proofs.laws.finished_stay_accepted.Goals as goal
 
 pub returns : goal.returns

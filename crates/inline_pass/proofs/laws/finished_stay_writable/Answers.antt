@@ -1,5 +1,5 @@
 -- The lemma is the law.
-use Rattle.inline_pass.proofs.Kept.{finished_writable}
+use Rattle.inline_pass.proofs.Preserving.{finished_writable}
 use Rattle.inline_pass.proofs.laws.finished_stay_writable.Goals as goal
 
 pub returns : goal.returns

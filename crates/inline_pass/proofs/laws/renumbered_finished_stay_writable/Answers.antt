@@ -1,5 +1,5 @@
 -- The lemma is the law.
-use Rattle.inline_pass.proofs.Kept.{renumbered_finished_writable}
+use Rattle.inline_pass.proofs.Preserving.{renumbered_finished_writable}
 use Rattle.inline_pass.proofs.laws.renumbered_finished_stay_writable.Goals as goal
 
 pub returns : goal.returns

@@ -3,7 +3,7 @@ use Rattle.grammar.specs.Rules.{Lexeme}
 use Rattle.clif_read.specs.declared.simple.lexemes.Class.TheVariants as class
 use Rattle.clif_read.specs.SimpleReading.{after, each, only, with_front, comma_type_at}
 use Rattle.clif_read.proofs.SimpleLoops.{Keeps}
-use Rattle.clif_read.proofs.simple.rules.more_types.Given as goal
+use Rattle.clif_read.proofs.simple.signature_rules.more_types.Given as goal
 
 abbrev pub invariant-types : goal.invariant-types
 invariant-types l = record {

@@ -4,7 +4,7 @@ use Rattle.grammar.specs.Rules.{Lexeme}
 use Rattle.clif_read.specs.declared.simple.lexemes.Class.TheVariants as class
 use Rattle.clif_read.specs.SimpleReading.{Out, after, token_at, each, only, with_front, comma_type_at, more_types_at}
 use Rattle.clif_read.proofs.SimpleLoops.{goes_on, fails, is_done, counted, fails_count}
-use Rattle.clif_read.proofs.simple.rules.more_types.Goals as goal
+use Rattle.clif_read.proofs.simple.signature_rules.more_types.Goals as goal
 
 abbrev total : List Lexeme → Out (List Lexeme)
 total ts = with_front [] (each comma_type_at (only class.Comma) (length ts) ts)

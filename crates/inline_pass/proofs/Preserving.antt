@@ -12,7 +12,7 @@ use Rattle.inline_acceptance.proofs.KeptCanon.{numbering_accepted}
 use Rattle.inline_acceptance.proofs.KeptSizes.{numbering_writable}
 use Rattle.inline_pass.specs.Finished.{passed}
 use Rattle.inline_pass.specs.Pass.{pass}
-use Rattle.inline_pass.specs.Kept.{FinishedAccepted, FinishedWritable, RenumberedFinishedAccepted, RenumberedFinishedWritable}
+use Rattle.inline_pass.specs.FinishedAcceptance.{FinishedAccepted, FinishedWritable, RenumberedFinishedAccepted, RenumberedFinishedWritable}
 use Rattle.inline_pass.specs.Policy.{Policy}
 use Rattle.inline_pass.proofs.Holding as holding
 

@@ -1,0 +1,103 @@
+-- Tables of signatures by an index that grows, and what they tell.
+use Rattle.std.proofs.Common.{inl, inr, ◌≡◌, ℕ, zero, suc, ◌+◌, ◌<◌, List, [], ◌∷◌, ◌++◌, map, length, take, Bool, true, false, Option, Some, None, refl, sym, ap, ap₂, ◌∙◌, subst, arith, eq-eqb, ne_eqb, get_or}
+use Rattle.std.specs.Prelude.{slice_get, nat_eq}
+use Rattle.std.proofs.lemmas.Bool.{cases_eq}
+use Rattle.std.proofs.lemmas.List.{take_more, map_push, length-map}
+use Rattle.std.proofs.lemmas.Option.{same_Some, slice_get_cases, slice_get_read}
+use Rattle.ir_core.specs.declared.signatures.Sig.{Sig}
+use Rattle.ir_core.specs.Module.{Function, Module}
+use Rattle.ir_core.specs.Lookup.{same_bytes}
+use Rattle.ir_core.specs.Signatures.{same_sig}
+use Rattle.ir_core.proofs.Equal.{sig_equal, sig_same}
+use Rattle.ir_core.proofs.Indexing.{same_bytes_self}
+use Rattle.body_import.specs.SigKeys.{sig_key}
+use Rattle.body_import.proofs.SigsDecided.{sigs_decide}
+use Rattle.sig_numbers.specs.declared.index.SigIndex.{SigIndex}
+use Rattle.sig_numbers.specs.declared.tables.SigTable.{SigTable}
+use Rattle.sig_numbers.specs.Index.{IsIndex, Keeps, number_of}
+use Rattle.sig_numbers.specs.Tables.{Tells, IsTable, AreTables}
+
+-- ---- an index that grows
+
+pub numbers_kept : (i j : SigIndex) → Keeps i j → (sigs : List Sig) (ns : List ℕ) → map Some ns ≡ map (number_of i) sigs → map Some ns ≡ map (number_of j) sigs
+numbers_kept i j keeps [] [] e = refl
+numbers_kept i j keeps [] (n ∷ ns) e = cc
+numbers_kept i j keeps (s ∷ sigs) [] e = cc
+numbers_kept i j keeps (s ∷ sigs) (n ∷ ns) e =
+    let head : Some n ≡ number_of i s = cc in
+    let tail : map Some ns ≡ map (number_of i) sigs = cc in
+    ap₂ (λ (o : Option ℕ) (os : List (Option ℕ)). o ∷ os) (sym (keeps (sig_key s) n (sym head))) (numbers_kept i j keeps sigs ns tail)
+
+pub numbers_more : (i j : SigIndex) → Keeps i j → (sigs : List Sig) (ns ns' : List ℕ) (k n : ℕ) (s : Sig) → map Some ns ≡ map (number_of i) (take k sigs) → ns' ≡ ns ++ n ∷ [] → k < length sigs → s ≡ get_or sigs k s → number_of j s ≡ Some n → map Some ns' ≡ map (number_of j) (take (k + 1) sigs)
+numbers_more i j keeps sigs ns ns' k n s e p low at number =
+    ap (map Some) p
+    ∙ (map_push Some ns n
+    ∙ (ap₂ (λ (os : List (Option ℕ)) (o : Option ℕ). os ++ o ∷ []) (numbers_kept i j keeps (take k sigs) ns e) (sym number ∙ ap (number_of j) at)
+    ∙ (sym (map_push (number_of j) (take k sigs) (get_or sigs k s)) ∙ ap (map (number_of j)) (sym (take_more sigs k s low)))))
+
+pub table_kept : (i j : SigIndex) → Keeps i j → (f : Function) (t : SigTable) → IsTable (number_of i) f t → IsTable (number_of j) f t
+table_kept i j keeps f t h = record { own = keeps (sig_key f.sig) t.own h.own; numbers = numbers_kept i j keeps f.sigs t.numbers.items h.numbers; returned = h.returned }
+
+-- the tables of the first functions of a module
+abbrev pub Tabling : SigIndex → Module → List SigTable → Type 0
+Tabling i m ts = (k : ℕ) (f : Function) (t : SigTable) → slice_get m k ≡ Some f → slice_get ts k ≡ Some t → IsTable (number_of i) f t
+
+pub no_tables : (i : SigIndex) (m : Module) (ts : List SigTable) → ts ≡ [] → Tabling i m ts
+no_tables i m ts e k f t a b = let z : None ≡ Some t = ap (λ (xs : List SigTable). slice_get xs k) (sym e) ∙ b in cc
+
+pub tabling_more : (i j : SigIndex) → Keeps i j → (m : Module) (ts ts' : List SigTable) (n : ℕ) (g : Function) (u : SigTable) → length ts ≡ n → slice_get m n ≡ Some g → IsTable (number_of j) g u → ts' ≡ ts ++ u ∷ [] → Tabling i m ts → Tabling j m ts'
+tabling_more i j keeps m ts ts' n g u count at h more old k f t a b = by ts m k n count at a (ap (λ (xs : List SigTable). slice_get xs k) (sym more) ∙ b) (λ p q. table_kept i j keeps f t (old k f t p q))
+  where
+    by : (ts : List SigTable) (m : Module) (k n : ℕ) → length ts ≡ n → slice_get m n ≡ Some g → slice_get m k ≡ Some f → slice_get (ts ++ u ∷ []) k ≡ Some t → (slice_get m k ≡ Some f → slice_get ts k ≡ Some t → IsTable (number_of j) f t) → IsTable (number_of j) f t
+    by [] [] k n count at a b old = cc
+    by [] (x ∷ m) zero n count at a b old =
+        let e : g ≡ f = same_Some g f (sym at ∙ (ap (slice_get (x ∷ m)) (sym count) ∙ a)) in
+        subst (λ (z : Function). IsTable (number_of j) z t) e (subst (λ (z : SigTable). IsTable (number_of j) g z) (same_Some u t b) h)
+    by [] (x ∷ m) (suc k) n count at a b old = cc
+    by (y ∷ ts) [] k n count at a b old = cc
+    by (y ∷ ts) (x ∷ m) zero n count at a b old = old a b
+    by (y ∷ ts) (x ∷ m) (suc k) zero count at a b old = absurd (omega (arith, count))
+    by (y ∷ ts) (x ∷ m) (suc k) (suc n) count at a b old = by ts m k n (omega (arith, count)) at a b old
+
+pub index_tells : (i : SigIndex) → IsIndex i → Tells (number_of i)
+index_tells i h s t n p q = sigs_decide s t ∙ (ap (λ (k : List ℕ). same_bytes (sig_key s) k) (sym (h.apart (sig_key s) (sig_key t) n p q)) ∙ same_bytes_self (sig_key s))
+
+-- ---- what the numbers tell
+
+pub same_by_number : (number : Sig → Option ℕ) → Tells number → (s t : Sig) (a b : ℕ) → number s ≡ Some a → number t ≡ Some b → nat_eq a b ≡ same_sig s t
+same_by_number number tells s t a b p q =
+    elim (cases_eq a b) [
+      | inl e ↦ eq-eqb a b e ∙ sym (tells s t a p (q ∙ ap Some (sym e)))
+      | inr e ↦ ne_eqb a b e ∙ differ (same_sig s t) refl e
+    ]
+  where
+    differ : (z : Bool) → same_sig s t ≡ z → (a ≡ b → ⊥) → false ≡ same_sig s t
+    differ true h e = let r : Some a ≡ Some b = sym p ∙ (ap number (sig_equal s t h) ∙ q) in absurd (e cc)
+    differ false h e = sym h
+
+pub number_stands : (number : Sig → Option ℕ) (f : Function) (t : SigTable) → IsTable number f t → (k : ℕ) (s : Sig) → slice_get f.sigs k ≡ Some s → (d : ℕ) → number s ≡ Some (get_or t.numbers.items k d)
+number_stands number f t h k s at d = by f.sigs t.numbers.items k h.numbers at
+  where
+    by : (sigs : List Sig) (ns : List ℕ) (k : ℕ) → map Some ns ≡ map number sigs → slice_get sigs k ≡ Some s → number s ≡ Some (get_or ns k d)
+    by [] ns k e at = cc
+    by (x ∷ sigs) [] k e at = cc
+    by (x ∷ sigs) (n ∷ ns) zero e at = let q : x ≡ s = cc in let r : Some n ≡ number x = cc in sym (r ∙ ap number q)
+    by (x ∷ sigs) (n ∷ ns) (suc k) e at = let r : map Some ns ≡ map number sigs = cc in by sigs ns k r at
+
+pub number_read : (number : Sig → Option ℕ) (f : Function) (t : SigTable) → IsTable number f t → (k k' n : ℕ) (s : Sig) → slice_get f.sigs k ≡ Some s → k' ≡ k → n ≡ get_or t.numbers.items k' n → number s ≡ Some n
+number_read number f t h k k' n s at e r = number_stands number f t h k s at n ∙ ap Some (sym (r ∙ ap (λ (z : ℕ). get_or t.numbers.items z n) e))
+
+pub numbers_long : (number : Sig → Option ℕ) (f : Function) (t : SigTable) → IsTable number f t → length t.numbers.items ≡ length f.sigs
+numbers_long number f t h = sym (length-map t.numbers.items (λ (n : ℕ). Some n)) ∙ (ap length h.numbers ∙ length-map f.sigs number)
+
+pub item_there : {A : Type 0} (xs : List A) (i : ℕ) → i < length xs → (x : A) × (slice_get xs i ≡ Some x)
+item_there xs i low = elim (slice_get_cases xs i).1 [
+  | inl h ↦ (h.0, h.2)
+  | inr h ↦ absurd (let l = h.0 in omega (arith, l, low))
+]
+
+-- the table at a place of a module, of which all tables are known
+pub table_at : (m now : List Function) (ts : List SigTable) (known : AreTables m ts) → m ≡ now → (i : ℕ) → i < length now → (t : SigTable) → t ≡ get_or ts i t → (f : Function) → slice_get now i ≡ Some f → IsTable known.number f t
+table_at m now ts known same i low t at f stands =
+    known.each i f t (ap (λ (z : List Function). slice_get z i) same ∙ stands)
+    (slice_get_read ts (length now) i t (sym (known.count ∙ ap length same)) low at)

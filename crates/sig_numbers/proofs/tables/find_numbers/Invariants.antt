@@ -1,0 +1,10 @@
+use Rattle.std.proofs.Common.{◌≡◌, Some, take, map}
+use Rattle.sig_numbers.specs.Index.{IsIndex, Keeps, number_of}
+use Rattle.sig_numbers.proofs.tables.find_numbers.Given as goal
+
+abbrev pub invariant-loop-sig : goal.invariant-loop-sig
+invariant-loop-sig l = record {
+  index : IsIndex l.index;
+  keeps : Keeps l.fn.index l.index;
+  numbers : map Some l.numbers.items ≡ map (number_of l.index) (take l.sig-index l.sigs);
+}

@@ -1,0 +1,3 @@
+pub mod Index
+pub mod Tables
+pub mod Known

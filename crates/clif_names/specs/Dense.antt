@@ -1,0 +1,21 @@
+-- A table with a short way from a word to its place, and a long one where there is no short one.
+use Rattle.std.specs.Prelude.{◌≡◌, ℕ, zero, suc, nat_eq, List, get_or, Option, None, Some, position}
+use Rattle.std.specs.declared.hash.FoldHasher.{FoldHasher}
+use Rattle.std.specs.declared.hash.BuildHasherDefault.{BuildHasherDefault}
+use Rattle.indexmap.specs.IndexMap.{get, IndexMap}
+
+-- the places that the long way knows
+abbrev pub Far : Type 0
+Far = IndexMap ℕ ℕ (BuildHasherDefault FoldHasher)
+
+abbrev pub SameAt : List ℕ → List ℕ → Type 0
+SameAt xs ys = (m : ℕ) → get_or ys m 0 ≡ get_or xs m 0
+
+-- what the short way tells, and else the long one
+abbrev pub or_far : ℕ → Option ℕ → Option ℕ
+or_far zero far = far
+or_far (suc place) far = Some place
+
+-- both ways lead to the place of each word
+abbrev pub AreRight : List ℕ → List ℕ → Far → Type 0
+AreRight words near far = (n : ℕ) → or_far (get_or near n 0) (get nat_eq far n) ≡ position (nat_eq n) words

@@ -1,11 +1,9 @@
 -- A text's values and blocks are numbered in the order in which they are defined.
-use Rattle.std.proofs.Common.{◌≡◌, ℕ, zero, suc, ◌+◌, nat_eq, Bool, true, false, cond, List, [], ◌∷◌, ◌++◌, map, length, refl, sym, ap, ap₂, subst, ◌∙◌, arith, inl, inr, append_assoc}
+use Rattle.std.proofs.Common.{◌≡◌, ℕ, ◌+◌, List, [], ◌∷◌, ◌++◌, map, length, refl, sym, ap, ap₂, subst, ◌∙◌, append_assoc}
 use Rattle.std.specs.Prelude.{flat_map}
 use Rattle.std.specs.List.{range_with_len}
-use Rattle.std.proofs.lemmas.Bool.{eqb-true}
-use Rattle.std.proofs.lemmas.Bool.Decides.{nat_tests}
 use Rattle.std.proofs.lemmas.List.{map-append, length-map}
-use Rattle.ir_core.specs.Lists.{In, Each, Different}
+use Rattle.ir_core.specs.Lists.{Each, Different}
 use Rattle.ir_core.specs.Lookup.{line_definitions, definitions, block_numbers, number_in}
 use Rattle.ir_core.specs.Module.{Line, Block, Function, Module}
 use Rattle.ir_text.specs.Numbering.{Numbering, numbering_of}
@@ -13,34 +11,7 @@ use Rattle.ir_text.specs.TextInstructions.{next_after}
 use Rattle.ir_core.specs.WellFormed.{WellFormed}
 use Rattle.text_read_back.specs.Defining.{number_of, param_number, line_values, block_values, values_of, block_number, blocks_of, IsCounted, IsNumbered}
 use Rattle.text_read_back.specs.RawOf as raws
-use Rattle.text_read_back.proofs.Terms.{map_both}
-
--- ---- places in a list without repetitions
-
-same_number : (a : ℕ) → nat_eq a a ≡ true
-same_number a = grind (arith, nat_tests)
-
-shifted : (x : ℕ) (xs vs : List ℕ) → ((v : ℕ) → In v vs → x ≡ v → ⊥) → map (number_in (x ∷ xs)) vs ≡ map suc (map (number_in xs) vs)
-shifted x xs [] h = refl
-shifted x xs (v ∷ vs) h = go (nat_eq x v) refl (shifted x xs vs (λ w k. h w (inr k)))
-  where
-    go : (b : Bool) → nat_eq x v ≡ b → map (number_in (x ∷ xs)) vs ≡ map suc (map (number_in xs) vs) → cond b 0 (suc (number_in xs v)) ∷ map (number_in (x ∷ xs)) vs ≡ suc (number_in xs v) ∷ map suc (map (number_in xs) vs)
-    go true e ih = absurd (h v (inl refl) (eqb-true x v e))
-    go false e ih = ap (λ (z : List ℕ). suc (number_in xs v) ∷ z) ih
-
-later : (a n : ℕ) → map suc (range_with_len a n) ≡ range_with_len (a + 1) n
-later a zero = refl
-later a (suc n) = ap₂ (λ (k : ℕ) (z : List ℕ). k ∷ z) (let k : suc a ≡ a + 1 = omega arith in k) (later (a + 1) n)
-
-places : (xs : List ℕ) → Different xs → map (number_in xs) xs ≡ range_with_len 0 (length xs)
-places [] h = refl
-places (x ∷ xs) h =
-    let first : number_in (x ∷ xs) x ≡ 0 = rw (same_number x) refl in
-    let rest = shifted x xs xs (λ v k e. h.0 (in_same v x xs (sym e) k)) ∙ ap (map suc) (places xs h.1) ∙ later 0 (length xs) in
-    ap₂ (λ (k : ℕ) (z : List ℕ). k ∷ z) first rest
-  where
-    in_same : (v x : ℕ) (ys : List ℕ) → v ≡ x → In v ys → In x ys
-    in_same v x ys e k = subst (λ (w : ℕ). In w ys) e k
+use Rattle.text_read_back.proofs.Lists.{map_both, places}
 
 counted : (xs : List ℕ) → Different xs → IsCounted (map (number_in xs) xs)
 counted xs h = places xs h ∙ ap (range_with_len 0) (sym (length-map xs (number_in xs)))

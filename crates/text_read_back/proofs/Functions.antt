@@ -31,7 +31,8 @@ use Rattle.text_read_back.specs.Bare.{bare_decl, bare_block, bare_func_name, bar
 use Rattle.text_read_back.specs.RawOf as raws
 use Rattle.text_read_back.proofs.Spellable.{BlockSpellable, FunctionSpellable}
 use Rattle.text_read_back.proofs.Told.{lexeme_as, s_at, Told, told_as, told_pair, Reads, Closed, soft_space, seq, nothing_said}
-use Rattle.text_read_back.proofs.Terms.{word_says, map_both}
+use Rattle.text_read_back.proofs.Terms.{word_says}
+use Rattle.text_read_back.proofs.Lists.{map_both}
 use Rattle.text_read_back.proofs.Sizes.{counts}
 use Rattle.text_read_back.proofs.Blocks.{block_read, more_read}
 use Rattle.text_read_back.proofs.Signatures.{func_name_reads, signature_reads}

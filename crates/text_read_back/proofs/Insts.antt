@@ -1,8 +1,7 @@
 -- Each instruction but a `return`, read as what it says.
-use Rattle.std.proofs.Common.{◌≡◌, ℕ, ◌^◌, ◌<◌, ◌≤◌, ◌==◌, Bool, true, false, not, ◌&&◌, List, [], ◌∷◌, ◌++◌, length, Option, Some, None, refl, sym, ap, subst, arith}
+use Rattle.std.proofs.Common.{◌≡◌, ℕ, ◌^◌, ◌<◌, ◌≤◌, true, not, ◌&&◌, List, [], ◌∷◌, ◌++◌, length, Option, Some, None, refl, sym, ap, subst, arith}
 use Rattle.std.specs.Prelude.{codes, ℤ, nat_lt, ⊤}
-use Rattle.std.specs.Fmt.{decimal, digits}
-use Rattle.std.proofs.lemmas.Bool.{eqb-true}
+use Rattle.std.specs.Fmt.{decimal}
 use Rattle.clif_lex.specs.declared.spans.TokenKind.TheVariants as kind
 use Rattle.clk_num.specs.Numbers.{signed}
 use Rattle.clk_num.specs.Operations.{DataValue}
@@ -41,6 +40,7 @@ use Rattle.text_read_back.proofs.NumberTokens.{is_64_bits}
 use Rattle.text_read_back.proofs.Stretches.{is_word}
 use Rattle.text_read_back.specs.RawOf as raws
 use Rattle.text_read_back.proofs.Spellable.{ValueFits, ArgFits, TargetFits, ArgReads, TargetReads, EntryReads, SimpleNumbers, Spellable}
+use Rattle.text_read_back.proofs.Bytes.{at_8, at_16, at_32, by_bytes}
 use Rattle.text_read_back.proofs.Told.{lexeme_as, Reads}
 use Rattle.text_read_back.proofs.Terms.{opcode_named}
 use Rattle.text_read_back.proofs.Forms.{IsOpcode, opcode_reads, nullary_form, trap_form, iconst_form, binary_form, unary_form, convert_form, select_form, icmp_form, binary_imm_form, icmp_imm_form, load_form, load_wide_form, store_form, stack_load_form, stack_store_form, func_addr_form, trap_if_form, jump_form, brif_form, br_table_form, call_form, call_indirect_form, try_call_form, try_call_indirect_form}
@@ -48,18 +48,6 @@ use Rattle.text_read_back.proofs.Slots.{IsInst, in_iconst, in_binary, in_unary, 
 use Rattle.text_read_back.proofs.Constants.{constant_64_bits, immediate_64_bits, offset_64_bits}
 
 -- ---- opcodes that end with a number of bits
-
-at_8 : decimal 8 ≡ 56 ∷ []
-unfolding digits
-at_8 = refl
-
-at_16 : decimal 16 ≡ 49 ∷ 54 ∷ []
-unfolding digits
-at_16 = refl
-
-at_32 : decimal 32 ≡ 51 ∷ 50 ∷ []
-unfolding digits
-at_32 = refl
 
 sized_reads : (w : List ℕ) (k : ℕ) (c : Class) → is_word w ≡ true → nat_lt k (2 ^ 64) ≡ true → (word_meaning (w ++ decimal k)).class ≡ c → Reads (one c) opcode_named (raws.opcode (w ++ decimal k)) (Numbered w k)
 sized_reads w k c plain lt e = record {
@@ -102,23 +90,6 @@ istore16 = sized_reads (codes "istore") 16 classes.Store refl refl (rw at_16 ref
 istore32 : Reads (one classes.Store) opcode_named (raws.opcode (codes "istore" ++ decimal 32)) (Numbered (codes "istore") 32)
 unfolding word_meaning all_words
 istore32 = sized_reads (codes "istore") 32 classes.Store refl refl (rw at_32 refl)
-
--- ---- numbers of bytes
-
-by_bytes : (P : ℕ → Type 0) (bytes : ℕ) → is_bytes bytes ≡ true → P 1 → P 2 → P 4 → P bytes
-by_bytes P bytes h one two four = go_one (bytes == 1) refl
-  where
-    go_four : (bytes == 1) ≡ false → (bytes == 2) ≡ false → (b : Bool) → (bytes == 4) ≡ b → P bytes
-    go_four e f true k = subst P (sym (eqb-true bytes 4 k)) four
-    go_four e f false k = absurd (let bad : false ≡ true = rw (e, f, k) at h in cc)
-
-    go_two : (bytes == 1) ≡ false → (b : Bool) → (bytes == 2) ≡ b → P bytes
-    go_two e true k = subst P (sym (eqb-true bytes 2 k)) two
-    go_two e false k = go_four e k (bytes == 4) refl
-
-    go_one : (b : Bool) → (bytes == 1) ≡ b → P bytes
-    go_one true k = subst P (sym (eqb-true bytes 1 k)) one
-    go_one false k = go_two k (bytes == 2) refl
 
 -- ---- operations on values
 

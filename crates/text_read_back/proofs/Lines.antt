@@ -36,7 +36,8 @@ use Rattle.text_read_back.specs.Bare.{bare_name, bare_inst, bare_line}
 use Rattle.text_read_back.specs.RawOf as raws
 use Rattle.text_read_back.proofs.Spellable.{ValueFits, Spellable, TagSpellable, LineSpellable}
 use Rattle.text_read_back.proofs.Told.{lexeme_as, s_at, Told, told_as, told_pair, Closed, more_reads, nothing_said, then_nothing}
-use Rattle.text_read_back.proofs.Terms.{named, list_reads, map_both}
+use Rattle.text_read_back.proofs.Terms.{named, list_reads}
+use Rattle.text_read_back.proofs.Lists.{map_both}
 use Rattle.text_read_back.proofs.Operands.{value_reads, values_read}
 use Rattle.text_read_back.proofs.Forms.{IsOpcode, return_form}
 use Rattle.text_read_back.proofs.Slots.{IsInst, in_return_inst}

@@ -27,7 +27,7 @@ use Rattle.text_read_back.specs.RawOf as raws
 use Rattle.text_read_back.specs.ReadsBack.{ReadsBack}
 use Rattle.text_read_back.proofs.Spellable.{FunctionSpellable, ModuleSpellable}
 use Rattle.text_read_back.proofs.Told.{lexeme_as, s_at, Told, lexemes_of_text}
-use Rattle.text_read_back.proofs.Terms.{map_both}
+use Rattle.text_read_back.proofs.Lists.{map_both}
 use Rattle.text_read_back.proofs.Functions.{function_read}
 
 -- ---- all functions

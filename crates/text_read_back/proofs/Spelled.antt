@@ -1,5 +1,5 @@
 -- A module of whole functions that are writable can be spelled.
-use Rattle.std.proofs.Common.{◌≡◌, ℕ, suc, ◌<◌, ◌≤◌, nat_eq, Bool, true, false, cond, List, [], ◌∷◌, ◌++◌, map, length, Option, Some, refl, arith, inl, inr}
+use Rattle.std.proofs.Common.{◌≡◌, ℕ, ◌<◌, ◌≤◌, nat_eq, Bool, true, false, cond, List, [], ◌∷◌, ◌++◌, map, length, Option, Some, refl, arith, inl, inr}
 use Rattle.std.specs.Prelude.{◌⊎◌, is_some}
 use Rattle.std.proofs.lemmas.Bool.Decides.{nat_tests}
 use Rattle.debug_tags.specs.declared.tags.Tag.{Tag}
@@ -10,50 +10,16 @@ use Rattle.ir_core.specs.declared.instructions.Arg.TheVariants as arg
 use Rattle.ir_core.specs.declared.instructions.BlockCall.{BlockCall}
 use Rattle.ir_core.specs.declared.signatures.Ty.{Ty}
 use Rattle.ir_core.specs.Lists.{In, Each}
-use Rattle.ir_core.specs.Lookup.{type_in, line_definitions, definitions, block_numbers, number_in}
+use Rattle.ir_core.specs.Lookup.{type_in, line_definitions, definitions, block_numbers}
 use Rattle.ir_core.specs.Module.{Simple, Line, Block, Function, Module, CallTarget, TryTarget, Instruction}
 use Rattle.ir_core.specs.Module as insts
 use Rattle.ir_core.specs.Uses.{operands, targets, arg_values_used, targets_used, slots_shown, simple_slots, simple_callees, called_callees, called_sigs}
 use Rattle.ir_core.specs.WellFormed.{declared, LineWellFormed, BlockWellFormed, WellFormed}
 use Rattle.ir_text.specs.Numbering.{Numbering, numbering_of}
 use Rattle.ir_text.specs.Writable.{greatest_number, FunctionWritable}
+use Rattle.text_read_back.proofs.Lists.{below_length, each_as, each_left, each_right, in_left, in_right}
 use Rattle.text_read_back.proofs.Sizes.{Counts, counts}
 use Rattle.text_read_back.proofs.Spellable.{ValueFits, BlockFits, ArgFits, TargetFits, SimpleNumbers, CalledNumbers, Numbers, TagSpellable, LineSpellable, ParamSpellable, BlockSpellable, FunctionSpellable, ModuleSpellable}
-
--- ---- numbers in a list
-
-below_length : (xs : List ℕ) (v : ℕ) → In v xs → number_in xs v < length xs
-below_length [] v h = absurd h
-below_length (x ∷ xs) v h = go (nat_eq x v) refl (λ k. below_length xs v k)
-  where
-    in_rest : nat_eq x v ≡ false → (v ≡ x) ⊎ In v xs → In v xs
-    in_rest e (inl s) = absurd (let bad : nat_eq x v ≡ true = grind (arith, nat_tests) in cc)
-    in_rest e (inr k) = k
-
-    go : (b : Bool) → nat_eq x v ≡ b → (In v xs → number_in xs v < length xs) → cond b 0 (suc (number_in xs v)) < suc (length xs)
-    go true e ih = omega arith
-    go false e ih = let k = ih (in_rest e h) in omega arith
-
-each_as : {A : Type 0} (P Q : A → Type 0) → ((a : A) → P a → Q a) → (xs : List A) → Each P xs → Each Q xs
-each_as P Q as' [] h = tt
-each_as P Q as' (x ∷ xs) h = (as' x h.0, each_as P Q as' xs h.1)
-
-each_left : {A : Type 0} (P : A → Type 0) (xs ys : List A) → Each P (xs ++ ys) → Each P xs
-each_left P [] ys h = tt
-each_left P (x ∷ xs) ys h = (h.0, each_left P xs ys h.1)
-
-each_right : {A : Type 0} (P : A → Type 0) (xs ys : List A) → Each P (xs ++ ys) → Each P ys
-each_right P [] ys h = h
-each_right P (x ∷ xs) ys h = each_right P xs ys h.1
-
-in_left : (v : ℕ) (xs ys : List ℕ) → In v xs → In v (xs ++ ys)
-in_left v [] ys h = absurd h
-in_left v (x ∷ xs) ys (inl e) = inl e
-in_left v (x ∷ xs) ys (inr h) = inr (in_left v xs ys h)
-
-in_right : (v : ℕ) (xs ys : List ℕ) → In v ys → In v (xs ++ ys)
-in_right v [] ys h = h
-in_right v (x ∷ xs) ys h = inr (in_right v xs ys h)
 
 -- ---- instructions
 

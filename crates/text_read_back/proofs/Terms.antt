@@ -36,6 +36,7 @@ use Rattle.text_read_back.proofs.Stretches.{is_word}
 use Rattle.text_read_back.specs.Bare.{bare_name, bare_opcode, bare_number, bare_option}
 use Rattle.text_read_back.specs.RawOf as raws
 use Rattle.text_read_back.proofs.Told.{lexeme_as, Reads, Soft, AllRead, means, mark_then, left, right, some, none, separated_reads, soft_nothing}
+use Rattle.text_read_back.proofs.Lists.{map_both}
 use Rattle.text_read_back.proofs.Stems.{IsStem, stem_meaning}
 
 abbrev pub named : Lexeme → RawName
@@ -173,10 +174,6 @@ opt_suffix_soft None = soft_nothing
 opt_suffix_soft (Some t) = record { so = λ b h. refl }
 
 -- ---- lists behind commas
-
-pub map_both : {X A B : Type 0} (f : X → A) (h : A → B) (xs : List X) → map h (map f xs) ≡ map (λ x. h (f x)) xs
-map_both f h [] = refl
-map_both {X} {A} {B} f h (x ∷ xs) = ap (λ (z : List B). h (f x) ∷ z) (map_both f h xs)
 
 -- the same said by another function
 pub also : {r : Rule} {A : Type 0} {f g : Tree r → A} {x : A} {t : Text} → ((v : Tree r) → g v ≡ f v) → Reads r f x t → Reads r g x t

@@ -1,0 +1,74 @@
+-- Lists of numbers, and what holds of each of them.
+use Rattle.std.proofs.Common.{◌≡◌, ℕ, zero, suc, ◌+◌, ◌<◌, nat_eq, Bool, true, false, cond, List, [], ◌∷◌, ◌++◌, map, length, refl, sym, ap, ap₂, subst, ◌∙◌, arith, inl, inr}
+use Rattle.std.specs.Prelude.{◌⊎◌}
+use Rattle.std.specs.List.{range_with_len}
+use Rattle.std.proofs.lemmas.Bool.{eqb-true}
+use Rattle.std.proofs.lemmas.Bool.Decides.{nat_tests}
+use Rattle.ir_core.specs.Lists.{In, Each, Different}
+use Rattle.ir_core.specs.Lookup.{number_in}
+
+pub map_both : {X A B : Type 0} (f : X → A) (h : A → B) (xs : List X) → map h (map f xs) ≡ map (λ x. h (f x)) xs
+map_both f h [] = refl
+map_both {X} {A} {B} f h (x ∷ xs) = ap (λ (z : List B). h (f x) ∷ z) (map_both f h xs)
+
+-- ---- numbers in a list
+
+pub below_length : (xs : List ℕ) (v : ℕ) → In v xs → number_in xs v < length xs
+below_length [] v h = absurd h
+below_length (x ∷ xs) v h = go (nat_eq x v) refl (λ k. below_length xs v k)
+  where
+    in_rest : nat_eq x v ≡ false → (v ≡ x) ⊎ In v xs → In v xs
+    in_rest e (inl s) = absurd (let bad : nat_eq x v ≡ true = grind (arith, nat_tests) in cc)
+    in_rest e (inr k) = k
+
+    go : (b : Bool) → nat_eq x v ≡ b → (In v xs → number_in xs v < length xs) → cond b 0 (suc (number_in xs v)) < suc (length xs)
+    go true e ih = omega arith
+    go false e ih = let k = ih (in_rest e h) in omega arith
+
+pub each_as : {A : Type 0} (P Q : A → Type 0) → ((a : A) → P a → Q a) → (xs : List A) → Each P xs → Each Q xs
+each_as P Q as' [] h = tt
+each_as P Q as' (x ∷ xs) h = (as' x h.0, each_as P Q as' xs h.1)
+
+pub each_left : {A : Type 0} (P : A → Type 0) (xs ys : List A) → Each P (xs ++ ys) → Each P xs
+each_left P [] ys h = tt
+each_left P (x ∷ xs) ys h = (h.0, each_left P xs ys h.1)
+
+pub each_right : {A : Type 0} (P : A → Type 0) (xs ys : List A) → Each P (xs ++ ys) → Each P ys
+each_right P [] ys h = h
+each_right P (x ∷ xs) ys h = each_right P xs ys h.1
+
+pub in_left : (v : ℕ) (xs ys : List ℕ) → In v xs → In v (xs ++ ys)
+in_left v [] ys h = absurd h
+in_left v (x ∷ xs) ys (inl e) = inl e
+in_left v (x ∷ xs) ys (inr h) = inr (in_left v xs ys h)
+
+pub in_right : (v : ℕ) (xs ys : List ℕ) → In v ys → In v (xs ++ ys)
+in_right v [] ys h = h
+in_right v (x ∷ xs) ys h = inr (in_right v xs ys h)
+
+-- ---- places in a list without repetitions
+
+pub same_number : (a : ℕ) → nat_eq a a ≡ true
+same_number a = grind (arith, nat_tests)
+
+shifted : (x : ℕ) (xs vs : List ℕ) → ((v : ℕ) → In v vs → x ≡ v → ⊥) → map (number_in (x ∷ xs)) vs ≡ map suc (map (number_in xs) vs)
+shifted x xs [] h = refl
+shifted x xs (v ∷ vs) h = go (nat_eq x v) refl (shifted x xs vs (λ w k. h w (inr k)))
+  where
+    go : (b : Bool) → nat_eq x v ≡ b → map (number_in (x ∷ xs)) vs ≡ map suc (map (number_in xs) vs) → cond b 0 (suc (number_in xs v)) ∷ map (number_in (x ∷ xs)) vs ≡ suc (number_in xs v) ∷ map suc (map (number_in xs) vs)
+    go true e ih = absurd (h v (inl refl) (eqb-true x v e))
+    go false e ih = ap (λ (z : List ℕ). suc (number_in xs v) ∷ z) ih
+
+later : (a n : ℕ) → map suc (range_with_len a n) ≡ range_with_len (a + 1) n
+later a zero = refl
+later a (suc n) = ap₂ (λ (k : ℕ) (z : List ℕ). k ∷ z) (let k : suc a ≡ a + 1 = omega arith in k) (later (a + 1) n)
+
+pub places : (xs : List ℕ) → Different xs → map (number_in xs) xs ≡ range_with_len 0 (length xs)
+places [] h = refl
+places (x ∷ xs) h =
+    let first : number_in (x ∷ xs) x ≡ 0 = rw (same_number x) refl in
+    let rest = shifted x xs xs (λ v k e. h.0 (in_same v x xs (sym e) k)) ∙ ap (map suc) (places xs h.1) ∙ later 0 (length xs) in
+    ap₂ (λ (k : ℕ) (z : List ℕ). k ∷ z) first rest
+  where
+    in_same : (v x : ℕ) (ys : List ℕ) → v ≡ x → In v ys → In x ys
+    in_same v x ys e k = subst (λ (w : ℕ). In w ys) e k

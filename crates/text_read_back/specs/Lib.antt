@@ -1,0 +1,4 @@
+pub mod Bare
+pub mod Defining
+pub mod RawOf
+pub mod ReadsBack

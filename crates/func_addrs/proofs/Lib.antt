@@ -1,0 +1,4 @@
+pub mod Comparing
+pub mod Keeping
+pub mod Finding
+pub mod Mentioning

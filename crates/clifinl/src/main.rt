@@ -1,7 +1,8 @@
-//! `clifinl inline` over the standard streams.
+//! The commands of `clifinl` over the standard streams.
 #![tactic(auto)]
 
 mod command;
+mod report;
 mod status;
 #[cfg(test)]
 mod tests;

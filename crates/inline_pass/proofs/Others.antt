@@ -12,7 +12,7 @@ use Rattle.ir_core.specs.Lists.{In, Different}
 use Rattle.ir_core.specs.Uses.{callee_of}
 use Rattle.ir_core.specs.WellFormed.{WellFormed, IsModule}
 use Rattle.ir_semantics.specs.Accepted.{Accepted, signature_mismatch}
-use Rattle.ir_core.specs.declared.points.Item.TheVariants as item
+use Rattle.ir_core.specs.declared.places.Item.TheVariants as item
 use Rattle.ir_semantics.specs.Canon.{SameFunction}
 use Rattle.ir_semantics.specs.Import.{sigs_after, callees_with, callees_after, same_callee}
 use Rattle.ir_semantics.specs.Renaming.{Renaming, line_under, block_under}

@@ -1,11 +1,12 @@
--- Lists of numbers, and what holds of each of them.
-use Rattle.std.proofs.Common.{◌≡◌, ℕ, zero, suc, ◌+◌, ◌<◌, nat_eq, Bool, true, false, cond, List, [], ◌∷◌, ◌++◌, map, length, refl, sym, ap, ap₂, subst, ◌∙◌, arith, inl, inr}
-use Rattle.std.specs.Prelude.{◌⊎◌}
+-- Lists of numbers and of typed values, and what holds of each of them.
+use Rattle.std.proofs.Common.{◌≡◌, ℕ, zero, suc, ◌+◌, ◌<◌, nat_eq, Bool, true, false, cond, List, [], ◌∷◌, ◌++◌, map, length, Option, Some, refl, sym, ap, ap₂, subst, ◌∙◌, arith, inl, inr}
+use Rattle.std.specs.Prelude.{◌⊎◌, is_some, IsSome}
 use Rattle.std.specs.List.{range_with_len}
 use Rattle.std.proofs.lemmas.Bool.{eqb-true}
 use Rattle.std.proofs.lemmas.Bool.Decides.{nat_tests}
 use Rattle.ir_core.specs.Lists.{In, Each, Different}
-use Rattle.ir_core.specs.Lookup.{number_in}
+use Rattle.ir_core.specs.Lookup.{type_in, number_in}
+use Rattle.ir_core.specs.declared.signatures.Ty.{Ty}
 
 pub map_both : {X A B : Type 0} (f : X → A) (h : A → B) (xs : List X) → map h (map f xs) ≡ map (λ x. h (f x)) xs
 map_both f h [] = refl
@@ -28,6 +29,10 @@ below_length (x ∷ xs) v h = go (nat_eq x v) refl (λ k. below_length xs v k)
 pub each_as : {A : Type 0} (P Q : A → Type 0) → ((a : A) → P a → Q a) → (xs : List A) → Each P xs → Each Q xs
 each_as P Q as' [] h = tt
 each_as P Q as' (x ∷ xs) h = (as' x h.0, each_as P Q as' xs h.1)
+
+pub each_in : (P : ℕ → Type 0) (vs : List ℕ) → ((v : ℕ) → In v vs → P v) → Each P vs
+each_in P [] h = tt
+each_in P (v ∷ vs) h = (h v (inl refl), each_in P vs (λ w k. h w (inr k)))
 
 pub each_left : {A : Type 0} (P : A → Type 0) (xs ys : List A) → Each P (xs ++ ys) → Each P xs
 each_left P [] ys h = tt
@@ -72,3 +77,18 @@ places (x ∷ xs) h =
   where
     in_same : (v x : ℕ) (ys : List ℕ) → v ≡ x → In v ys → In x ys
     in_same v x ys e k = subst (λ (w : ℕ). In w ys) e k
+
+-- ---- a list of typed values
+
+-- a value that stands in it has a type
+pub type_there : (ts : List (ℕ × Ty)) (v : ℕ) → In v (map (λ x. x.0) ts) → IsSome (type_in ts v)
+type_there [] v h = absurd h
+type_there (x ∷ ts) v h = go (nat_eq x.0 v) refl h (λ k. type_there ts v k)
+  where
+    differ : (a b : ℕ) → nat_eq a b ≡ false → b ≡ a → ⊥
+    differ a b e k = absurd (let bad : nat_eq a b ≡ true = grind (arith, nat_tests) in cc)
+
+    go : (b : Bool) → nat_eq x.0 v ≡ b → (v ≡ x.0) ⊎ In v (map (λ y. y.0) ts) → (In v (map (λ y. y.0) ts) → is_some (type_in ts v) ≡ true) → is_some (cond {A = Option Ty} b (Some x.1) (type_in ts v)) ≡ true
+    go true e h ih = refl
+    go false e (inl k) ih = absurd (differ x.0 v e k)
+    go false e (inr k) ih = ih k

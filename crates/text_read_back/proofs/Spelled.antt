@@ -1,23 +1,20 @@
 -- A module of whole functions that are writable can be spelled.
-use Rattle.std.proofs.Common.{◌≡◌, ℕ, ◌<◌, ◌≤◌, nat_eq, Bool, true, false, cond, List, [], ◌∷◌, ◌++◌, map, length, Option, Some, refl, arith, inl, inr}
-use Rattle.std.specs.Prelude.{◌⊎◌, is_some}
-use Rattle.std.proofs.lemmas.Bool.Decides.{nat_tests}
+use Rattle.std.proofs.Common.{ℕ, ◌<◌, ◌≤◌, List, [], ◌∷◌, ◌++◌, map, length, refl, arith, inl, inr}
 use Rattle.debug_tags.specs.declared.tags.Tag.{Tag}
 use Rattle.debug_tags.specs.declared.tags.Tag.TheVariants as tag
 use Rattle.ir_core.specs.declared.declarations.Callee.{Callee}
 use Rattle.ir_core.specs.declared.instructions.Arg.{Arg}
 use Rattle.ir_core.specs.declared.instructions.Arg.TheVariants as arg
 use Rattle.ir_core.specs.declared.instructions.BlockCall.{BlockCall}
-use Rattle.ir_core.specs.declared.signatures.Ty.{Ty}
 use Rattle.ir_core.specs.Lists.{In, Each}
-use Rattle.ir_core.specs.Lookup.{type_in, line_definitions, definitions, block_numbers}
+use Rattle.ir_core.specs.Lookup.{line_definitions, definitions, block_numbers}
 use Rattle.ir_core.specs.Module.{Simple, Line, Block, Function, Module, CallTarget, TryTarget, Instruction}
 use Rattle.ir_core.specs.Module as insts
 use Rattle.ir_core.specs.Uses.{operands, targets, arg_values_used, targets_used, slots_shown, simple_slots, simple_callees, called_callees, called_sigs}
 use Rattle.ir_core.specs.WellFormed.{declared, LineWellFormed, BlockWellFormed, WellFormed}
 use Rattle.ir_text.specs.Numbering.{Numbering, numbering_of}
 use Rattle.ir_text.specs.Writable.{greatest_number, FunctionWritable}
-use Rattle.text_read_back.proofs.Lists.{below_length, each_as, each_left, each_right, in_left, in_right}
+use Rattle.text_read_back.proofs.Lists.{below_length, each_as, each_in, each_left, each_right, in_left, in_right, type_there}
 use Rattle.text_read_back.proofs.Sizes.{Counts, counts}
 use Rattle.text_read_back.proofs.Spellable.{ValueFits, BlockFits, ArgFits, TargetFits, SimpleNumbers, CalledNumbers, Numbers, TagSpellable, LineSpellable, ParamSpellable, BlockSpellable, FunctionSpellable, ModuleSpellable}
 
@@ -97,14 +94,10 @@ module _ (f : Function) (is : WellFormed f) (c : Counts f 262144) where
   tags_spellable (tag.User k ∷ ts) h = (tt, tags_spellable ts h)
   tags_spellable (tag.Slot k ∷ ts) h = (slot_small k h.0, tags_spellable ts h.1)
 
-  -- ---- lines and blocks, whose definitions stand among the function's
+  -- ---- lines, whose definitions stand among the function's
 
   abbrev Defined : ℕ → Type 0
   Defined v = In v (definitions f.blocks)
-
-  all_in : (vs : List ℕ) → ((v : ℕ) → In v vs → Defined v) → Each Defined vs
-  all_in [] h = tt
-  all_in (v ∷ vs) h = (h v (inl refl), all_in vs (λ w k. h w (inr k)))
 
   line_spellable : (l : Line) → LineWellFormed f l → ((v : ℕ) → In v l.results → Defined v) → LineSpellable n l
   line_spellable l w d = record {
@@ -113,7 +106,7 @@ module _ (f : Function) (is : WellFormed f) (c : Counts f 262144) where
       values = each_as Declared (ValueFits n) value_fits (operands l.inst) (each_left Declared (operands l.inst) (targets_used (targets l.inst)) w.values);
       targets = targets_fit (targets l.inst) (each_right Declared (operands l.inst) (targets_used (targets l.inst)) w.values) w.blocks;
     };
-    results = each_as Defined (ValueFits n) defined_fits l.results (all_in l.results d);
+    results = each_as Defined (ValueFits n) defined_fits l.results (each_in Defined l.results d);
     tags = tags_spellable l.tags w.shown;
   }
 
@@ -124,19 +117,7 @@ module _ (f : Function) (is : WellFormed f) (c : Counts f 262144) where
     lines_spellable ls h.1 (λ v k. d v (in_right v l.results (line_definitions ls) k)),
   )
 
-  -- ---- parameters
-
-  type_there : (ts : List (ℕ × Ty)) (v : ℕ) → In v (map (λ x. x.0) ts) → is_some (type_in ts v) ≡ true
-  type_there [] v h = absurd h
-  type_there (x ∷ ts) v h = go (nat_eq x.0 v) refl h (λ k. type_there ts v k)
-    where
-      differ : (a b : ℕ) → nat_eq a b ≡ false → b ≡ a → ⊥
-      differ a b e k = absurd (let bad : nat_eq a b ≡ true = grind (arith, nat_tests) in cc)
-
-      go : (b : Bool) → nat_eq x.0 v ≡ b → (v ≡ x.0) ⊎ In v (map (λ y. y.0) ts) → (In v (map (λ y. y.0) ts) → is_some (type_in ts v) ≡ true) → is_some (cond {A = Option Ty} b (Some x.1) (type_in ts v)) ≡ true
-      go true e h ih = refl
-      go false e (inl k) ih = absurd (differ x.0 v e k)
-      go false e (inr k) ih = ih k
+  -- ---- blocks
 
   param_spellable : (v : ℕ) → Defined v → ParamSpellable f n v
   param_spellable v h = (defined_fits v h, type_there f.types v (is.definitions_declared v h))
@@ -146,7 +127,7 @@ module _ (f : Function) (is : WellFormed f) (c : Counts f 262144) where
   blocks_spellable (b ∷ bs) d e w = (
     record {
       name = block_fits b.number (e b.number (inl refl));
-      params = each_as Defined (ParamSpellable f n) param_spellable b.params (all_in b.params (λ x k. d x (in_left x b.params (line_definitions b.lines ++ definitions bs) k)));
+      params = each_as Defined (ParamSpellable f n) param_spellable b.params (each_in Defined b.params (λ x k. d x (in_left x b.params (line_definitions b.lines ++ definitions bs) k)));
       lines = lines_spellable b.lines w.0 (λ x k. d x (in_right x b.params (line_definitions b.lines ++ definitions bs) (in_left x (line_definitions b.lines) (definitions bs) k)));
     },
     blocks_spellable bs (λ x k. d x (in_right x b.params (line_definitions b.lines ++ definitions bs) (in_right x (line_definitions b.lines) (definitions bs) k))) (λ x k. e x (inr k)) w.1,

@@ -1,0 +1,15 @@
+use Rattle.std.proofs.Common.{◌∷◌, [], ◌≤◌, length, map}
+use Rattle.clif_insts.specs.Reading.{each, with_front}
+use Rattle.clif_insts.proofs.Loops.{Keeps}
+use Rattle.host_script.specs.Script.{reply_of}
+use Rattle.script_text.specs.declared.terminal.Terminal.TheVariants as terminals
+use Rattle.script_text.specs.Terminals.{code}
+use Rattle.script_text.specs.Reading.{comma_at, reply_at}
+use Rattle.script_text.proofs.replies.more_replies.Given as goal
+
+abbrev pub invariant-list : goal.invariant-list
+invariant-list l = Keeps (comma_at reply_at) (code terminals.Comma ∷ []) (map reply_of l.list.items) l.reader (with_front (map reply_of l.fn.front.items) (each (comma_at reply_at) (code terminals.Comma ∷ []) (length l.fn.reader) l.fn.reader))
+    × (length l.reader ≤ length l.fn.reader)
+
+abbrev pub decreases-list : goal.decreases-list
+decreases-list l = length l.reader

@@ -1,0 +1,197 @@
+//! The tokens of a text, as scripts have them.
+
+ghost use Rattle.std.specs.Prelude.{◌≡◌, ◌<◌, ◌≤◌, ◌≢◌, length, map, take, Ok, IfOk, IfErr, IfSome, slice_get};
+ghost use Rattle.clif_lex.specs.Lexing.{tokens_of};
+ghost use Rattle.clif_lex.specs.Spelling.{AreIn};
+ghost use Rattle.script_text.specs.declared.scripts.ScriptErr.TheVariants.{NoMemory};
+ghost use Rattle.script_text.specs.Lexed as lexed;
+ghost use Rattle.script_text.specs.Pieces as spec;
+
+use crate::piece::Piece;
+use crate::scripts::ScriptErr;
+use crate::terminal::Terminal;
+use clif_lex::{LexErr, TokenKind, Tokens, tokens};
+use clif_words::{Class, Meaning, word_meaning};
+use clk_num::{Bits, Width};
+use std::alloc::{AllocError, Global};
+
+/// The greatest number of a `userN`.
+const MOST_USER: u64 = 65_535;
+
+/// The greatest number of a `tagN`.
+const MOST_TAG: u64 = 4_294_967_294;
+
+/// A token of which nothing but its terminal counts.
+fn plain(terminal: Terminal, spot: usize) -> Piece
+    ensures { spec.lexeme_of result ≡ spec.plain terminal spot }
+{
+    Piece {
+        terminal,
+        number: 0,
+        amount: 0,
+        spot,
+    }
+}
+
+/// `userN`, where the number is one of a trap code.
+fn user_trap(number: u64, spot: usize) -> Piece
+    ensures { spec.lexeme_of result ≡ spec.limited Terminal.UserTrap spec.most_user number spot }
+{
+    if number > MOST_USER {
+        return plain(Terminal::Other, spot);
+    }
+    Piece {
+        terminal: Terminal::UserTrap,
+        number,
+        amount: 0,
+        spot,
+    }
+}
+
+/// `tagN`, where the number is one of a tag.
+fn tag(number: u64, spot: usize) -> Piece
+    ensures { spec.lexeme_of result ≡ spec.limited Terminal.Tag spec.most_tag number spot }
+{
+    if number > MOST_TAG {
+        return plain(Terminal::Other, spot);
+    }
+    Piece {
+        terminal: Terminal::Tag,
+        number,
+        amount: 0,
+        spot,
+    }
+}
+
+/// A word that CLIF has too.
+fn clif_word(meaning: Meaning, spot: usize) -> Piece
+    ensures { spec.lexeme_of result ≡ spec.by_meaning meaning spot }
+{
+    match meaning.class {
+        Class::Return => plain(Terminal::Return, spot),
+        Class::Trap => plain(Terminal::Trap, spot),
+        Class::TrapCode => Piece {
+            terminal: Terminal::TrapCode,
+            number: meaning.number,
+            amount: 0,
+            spot,
+        },
+        Class::UserTrap => user_trap(meaning.number, spot),
+        Class::Tag => tag(meaning.number, spot),
+        _ => plain(Terminal::Other, spot),
+    }
+}
+
+/// A word.
+#[tactic(auto, unfolding(crate::specs::Pieces::word))]
+fn word(spelled: &[u8], spot: usize) -> Piece
+    ensures { spec.lexeme_of result ≡ spec.word spelled.now spot }
+{
+    if spelled == b"throw".as_slice() {
+        plain(Terminal::Throw, spot)
+    } else {
+        clif_word(word_meaning(spelled), spot)
+    }
+}
+
+/// The terminal of a number by its size.
+fn number_terminal(number: i128) -> Terminal
+    ensures { result ≡ spec.number_terminal number }
+{
+    if number < 0 {
+        Terminal::Negative
+    } else if number <= 255 {
+        Terminal::Byte
+    } else {
+        Terminal::Large
+    }
+}
+
+/// A number of 64 bits, with a sign or without.
+#[tactic(auto, unfolding(crate::specs::Pieces::number))]
+fn number(amount: i128, spot: usize) -> Piece
+    ensures { spec.lexeme_of result ≡ spec.number amount spot }
+{
+    let Some(bits) = Bits::fit(Width::W64, amount) else {
+        return plain(Terminal::Other, spot);
+    };
+    Piece {
+        terminal: number_terminal(amount),
+        number: bits.value() as u64,
+        amount,
+        spot,
+    }
+}
+
+fn mark_terminal(byte: u8) -> Terminal
+    ensures { result ≡ spec.mark_terminal byte }
+{
+    match byte {
+        b'(' => Terminal::LeftParen,
+        b')' => Terminal::RightParen,
+        b'[' => Terminal::LeftBracket,
+        b']' => Terminal::RightBracket,
+        b',' => Terminal::Comma,
+        b':' => Terminal::Colon,
+        _ => Terminal::Other,
+    }
+}
+
+/// A token of the text.
+fn piece(text: &[u8], tokens: &Tokens, i: usize) -> Piece
+    requires inside { AreIn text.now tokens.now }
+    requires below { i < length tokens.now }
+    ensures { IfSome (slice_get tokens.now i) (λ token. spec.lexeme_of result ≡ spec.lexeme text.now token) }
+{
+    let token = tokens.get(i);
+    let spot = token.start;
+    match token.kind {
+        TokenKind::Word => word(tokens.spelling(text, i), spot),
+        TokenKind::Number => number(tokens.number(text, i), spot),
+        TokenKind::Mark(byte) => plain(mark_terminal(byte), spot),
+        _ => plain(Terminal::Other, spot),
+    }
+}
+
+/// These tokens of the text.
+fn pieces(alloc: Global, text: &[u8], tokens: &Tokens) -> Result<Vec<Piece>, AllocError>
+    requires { AreIn text.now tokens.now }
+    ensures { IfOk result (λ v. map spec.lexeme_of v.items ≡ lexed.pieces text.now tokens.now) }
+{
+    let mut list = Vec::new(alloc);
+    'tokens: for i in 0..tokens.len() {
+        list.push(piece(text, tokens, i))?;
+    }
+    Ok(list)
+}
+
+/// The tokens before a place where none stands, and there one that stands in no script.
+fn pieces_before(alloc: Global, text: &[u8], spot: usize) -> Result<Vec<Piece>, ScriptErr>
+    requires { spot ≤ length text.now }
+    ensures pieces { IfOk result (λ v. map spec.lexeme_of v.items ≡ lexed.pieces_before text.now spot) }
+    ensures none { IfErr result (λ e. e ≡ NoMemory) }
+{
+    let front = &text[..spot];
+    let mut pieces = match tokens(alloc, front) {
+        Ok(tokens) => pieces(alloc, front, &tokens)?,
+        Err(LexErr::NoMemory) => return Err(ScriptErr::NoMemory),
+        Err(LexErr::BadChar(_) | LexErr::BadNumber(_)) => Vec::new(alloc),
+    };
+    pieces.push(plain(Terminal::Other, spot))?;
+    Ok(pieces)
+}
+
+/// The tokens of a text, up to the first place where none stands, and there one that stands in no script.
+/// It takes time and memory in proportion to the text.
+/// A text of 2^32 bytes or more is refused with NoMemory, since tokens keep their places in 32 bits.
+#[tactic(auto, unfolding(crate::specs::Lexed::lexed))]
+pub(crate) fn lexed(alloc: Global, text: &[u8]) -> Result<Vec<Piece>, ScriptErr>
+    ensures pieces { IfOk result (λ v. map spec.lexeme_of v.items ≡ lexed.lexed text.now) }
+    ensures none { IfErr result (λ e. e ≡ NoMemory) }
+{
+    match tokens(alloc, text) {
+        Ok(tokens) => Ok(pieces(alloc, text, &tokens)?),
+        Err(LexErr::BadChar(spot) | LexErr::BadNumber(spot)) => pieces_before(alloc, text, spot),
+        Err(LexErr::NoMemory) => Err(ScriptErr::NoMemory),
+    }
+}

@@ -1,0 +1,57 @@
+//! That texts are read with ample memory, and where they go wrong.
+
+use crate::{ScriptErr, number_list, script};
+use host_script::Act;
+
+#[test]
+fn reads_replies(rt: HostRuntime) {
+    let text = "return(1, -2)[16: 255, 17: 0], trap user7, throw tag3 (7, -1), return";
+    match script(rt.alloc(), text) {
+        Err(_) => assert!(rt; false),
+        Ok(script) => {
+            let replies = script.replies.as_slice();
+            assert_eq!(rt; replies.len(), 4);
+            assert!(rt;
+                matches!(
+                    &replies[2].act,
+                    Act::Throw {
+                        tag: 3,
+                        p0: 7,
+                        p1: u64::MAX
+                    }
+                )
+            );
+            assert!(rt; replies[0].writes.as_slice() == [(16, 255), (17, 0)].as_slice());
+        }
+    }
+}
+
+#[test]
+fn reads_numbers(rt: HostRuntime) {
+    match number_list(rt.alloc(), "5, -1, 0x10") {
+        Err(_) => assert!(rt; false),
+        Ok(numbers) => assert!(rt; numbers.as_slice() == [5, -1, 16].as_slice()),
+    }
+}
+
+#[test]
+fn names_the_first_byte_that_does_not_fit(rt: HostRuntime) {
+    for (text, spot) in [
+        ("throw 3", 6),
+        ("return(1,)", 9),
+        ("return, ", 8),
+        ("return ; x", 7),
+        ("return[1: 256]", 10),
+        ("return[-1: 2]", 7),
+        ("trap user65536", 5),
+        ("return) 9x", 6),
+        ("return 9x", 7),
+        ("test", 0),
+    ] {
+        let read = script(rt.alloc(), text);
+        assert!(rt;
+            matches!(read, Err(ScriptErr::BadScript(at)) if at == spot),
+            "at {text}"
+        );
+    }
+}

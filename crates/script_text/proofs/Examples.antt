@@ -5,11 +5,11 @@ use Rattle.clif_words.specs.Table.{all_words}
 use Rattle.clif_words.specs.Words.{stems, refused_stems, is_refused, entity_number, is_lanes, numbered_meaning, word_meaning}
 use Rattle.clk_num.specs.Numbers.{fits, wrapped}
 use Rattle.script_text.specs.Lexed.{lexed}
-use Rattle.script_text.specs.Pieces as pieces
+use Rattle.script_text.specs.Symbols as symbols
 use Rattle.script_text.specs.Examples.{WorkedScripts, RefusedScripts, WorkedLists}
 
 pub worked_scripts : WorkedScripts
-unfolding number_at word_at token_at tokens_from all_words stems refused_stems is_refused entity_number is_lanes numbered_meaning word_meaning fits wrapped lexed pieces.word pieces.number
+unfolding number_at word_at token_at tokens_from all_words stems refused_stems is_refused entity_number is_lanes numbered_meaning word_meaning fits wrapped lexed symbols.word symbols.number
 worked_scripts = record {
   empty = refl;
   bare = refl;
@@ -20,7 +20,7 @@ worked_scripts = record {
 }
 
 pub refused_scripts : RefusedScripts
-unfolding number_at word_at token_at tokens_from all_words stems refused_stems is_refused entity_number is_lanes numbered_meaning word_meaning fits wrapped lexed pieces.word pieces.number
+unfolding number_at word_at token_at tokens_from all_words stems refused_stems is_refused entity_number is_lanes numbered_meaning word_meaning fits wrapped lexed symbols.word symbols.number
 refused_scripts = record {
   tag_missing = refl;
   reply_missing = refl;
@@ -36,7 +36,7 @@ refused_scripts = record {
 }
 
 pub worked_lists : WorkedLists
-unfolding number_at word_at token_at tokens_from all_words stems refused_stems is_refused entity_number is_lanes numbered_meaning word_meaning fits wrapped lexed pieces.word pieces.number
+unfolding number_at word_at token_at tokens_from all_words stems refused_stems is_refused entity_number is_lanes numbered_meaning word_meaning fits wrapped lexed symbols.word symbols.number
 worked_lists = record {
   none = refl;
   some = refl;

@@ -6,7 +6,7 @@ use Rattle.std.specs.Int.RustNames.{int_lt, int_le}
 use Rattle.clk_num.specs.Numbers.{wrapped}
 use Rattle.script_text.specs.declared.terminal.Terminal.{Terminal}
 use Rattle.script_text.specs.declared.terminal.Terminal.TheVariants.{Negative, Byte, Large}
-use Rattle.script_text.specs.Pieces.{number_terminal}
+use Rattle.script_text.specs.Symbols.{number_terminal}
 
 pub byte_small : (z : ℤ) → number_terminal z ≡ Byte → wrapped 64 z < 2 ^ 8
 unfolding wrapped

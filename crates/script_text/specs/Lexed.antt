@@ -7,10 +7,10 @@ use Rattle.clif_lex.specs.declared.faults.LexErr.TheVariants.{BadChar, BadNumber
 use Rattle.clif_lex.specs.Lexing.{tokens_of}
 use Rattle.clif_lex.specs.Spelling.{IsDivided, IsAtFault}
 use Rattle.script_text.specs.declared.terminal.Terminal.TheVariants.{Other}
-use Rattle.script_text.specs.Pieces.{lexeme, plain}
+use Rattle.script_text.specs.Symbols.{lexeme, plain}
 
-abbrev pub pieces : List ℕ → List Token → List Lexeme
-pieces text tokens = map (lexeme text) tokens
+abbrev pub symbols : List ℕ → List Token → List Lexeme
+symbols text tokens = map (lexeme text) tokens
 
 -- where there are none, there are no tokens
 abbrev pub or_none : Result (List Token) LexErr → List Token
@@ -18,13 +18,13 @@ or_none (Ok tokens) = tokens
 or_none (Err fault) = []
 
 -- the tokens before a place where none stands, and there one that stands in no script
-abbrev pub pieces_before : List ℕ → ℕ → List Lexeme
-pieces_before text spot = pieces (take spot text) (or_none (tokens_of (take spot text))) ++ plain Other spot ∷ []
+abbrev pub symbols_before : List ℕ → ℕ → List Lexeme
+symbols_before text spot = symbols (take spot text) (or_none (tokens_of (take spot text))) ++ plain Other spot ∷ []
 
 abbrev pub lexed_by : List ℕ → Result (List Token) LexErr → List Lexeme
-lexed_by text (Ok tokens) = pieces text tokens
-lexed_by text (Err (BadChar spot)) = pieces_before text spot
-lexed_by text (Err (BadNumber spot)) = pieces_before text spot
+lexed_by text (Ok tokens) = symbols text tokens
+lexed_by text (Err (BadChar spot)) = symbols_before text spot
+lexed_by text (Err (BadNumber spot)) = symbols_before text spot
 lexed_by text (Err NoMemory) = []
 
 -- The tokens of a text. Where no token stands at a place, there are those of the text before it, and one that stands in

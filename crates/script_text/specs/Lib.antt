@@ -1,5 +1,5 @@
 pub mod Terminals
-pub mod Pieces
+pub mod Symbols
 pub mod Lexed
 pub mod Grammar
 pub mod Values

@@ -6,11 +6,11 @@
 
 mod acts;
 pub mod laws;
-mod piece;
-mod pieces;
 mod reader;
 mod replies;
 mod scripts;
+mod symbol;
+mod symbols;
 mod terminal;
 #[cfg(test)]
 mod tests;

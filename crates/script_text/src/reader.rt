@@ -4,10 +4,10 @@ ghost use Rattle.std.specs.Prelude.{◌≡◌, ◌≢◌, ◌<◌, length, map, 
 ghost use Rattle.clif_insts.specs.declared.stop.Stop.TheVariants.{NoMemory};
 ghost use Rattle.clif_insts.specs.Next.{spot_or};
 ghost use Rattle.clif_insts.specs.Reading.{Gives};
-ghost use Rattle.script_text.specs.Pieces.{lexeme_of};
+ghost use Rattle.script_text.specs.Symbols.{lexeme_of};
 ghost use Rattle.script_text.specs.Reading as spec;
 
-use crate::piece::Piece;
+use crate::symbol::Symbol;
 use crate::terminal::Terminal;
 use clif_insts::Stop;
 use std::marker::Model;
@@ -15,13 +15,13 @@ use std::marker::Model;
 /// The tokens that are still to be read. Contracts see them as the grammar does.
 #[derive(Drop)]
 pub struct Reader<'a> {
-    rest: &'a [Piece],
+    rest: &'a [Symbol],
 }
 
 impl<'a> Model for Reader<'a> {
     ghost use Rattle.std.specs.Prelude.{List, map};
     ghost use Rattle.grammar.specs.Rules.{Lexeme};
-    ghost use Rattle.script_text.specs.Pieces.{lexeme_of};
+    ghost use Rattle.script_text.specs.Symbols.{lexeme_of};
 
     ghost Value = { List Lexeme };
 
@@ -29,10 +29,10 @@ impl<'a> Model for Reader<'a> {
 }
 
 impl<'a> Reader<'a> {
-    pub fn new(pieces: &'a [Piece]) -> Self
-        ensures { result ≡ map lexeme_of pieces.now }
+    pub fn new(symbols: &'a [Symbol]) -> Self
+        ensures { result ≡ map lexeme_of symbols.now }
     {
-        Reader { rest: pieces }
+        Reader { rest: symbols }
     }
 
     /// Whether the next token is of this terminal.
@@ -41,7 +41,7 @@ impl<'a> Reader<'a> {
     {
         match self.rest {
             [] => false,
-            [piece, ..] => terminal as u8 == piece.terminal as u8,
+            [symbol, ..] => terminal as u8 == symbol.terminal as u8,
         }
     }
 
@@ -82,22 +82,22 @@ impl<'a> Reader<'a> {
     {
         match self.rest {
             [] => end,
-            [piece, ..] => piece.spot,
+            [symbol, ..] => symbol.spot,
         }
     }
 
     /// The next token, where it is of this terminal.
     #[tactic(auto, unfolding(crate::specs::Reading::token_at))]
-    pub fn take(&mut self, terminal: Terminal) -> Result<Piece, Stop>
+    pub fn take(&mut self, terminal: Terminal) -> Result<Symbol, Stop>
         ensures is { Gives lexeme_of self.new result (spec.token_at terminal self.old) }
         ensures terminal { IfOk result (λ p. p.terminal ≡ terminal) }
         ensures no_memory { IfErr result (λ e. e ≢ NoMemory) }
         ensures shorter { IfOk result (λ _. length self.new < length self.old) }
     {
         match self.rest {
-            [piece, rest @ ..] if piece.terminal as u8 == terminal as u8 => {
+            [symbol, rest @ ..] if symbol.terminal as u8 == terminal as u8 => {
                 self.rest = rest;
-                Ok(*piece)
+                Ok(*symbol)
             }
             _ => Err(Stop::Syntax),
         }

@@ -10,9 +10,9 @@ ghost use Rattle.script_text.specs.Scripts.{Reads, Refuses};
 ghost use Rattle.script_text.specs.Scripts as spec;
 ghost use Rattle.script_text.specs.Values.{number_list_value, script_value};
 
-use crate::pieces::lexed;
 use crate::reader::Reader;
 use crate::replies::replies;
+use crate::symbols::lexed;
 use crate::values::numbers;
 use clif_insts::Stop;
 use host_script::{Reply, Script};
@@ -85,8 +85,8 @@ pub fn script(alloc: Global, text: &str) -> Result<Script, ScriptErr>
     ensures read { IfOk result (λ s. Reads grammar.script script_value text.now (replies_of s)) }
     ensures refused { IfErr result (Refuses grammar.script text.now) }
 {
-    let pieces = lexed(alloc, text.as_bytes())?;
-    let mut reader = Reader::new(pieces.as_slice());
+    let symbols = lexed(alloc, text.as_bytes())?;
+    let mut reader = Reader::new(symbols.as_slice());
     match whole_script(alloc, &mut reader) {
         Ok(replies) => Ok(Script {
             replies: List::from_vec(replies),
@@ -105,8 +105,8 @@ pub fn number_list(alloc: Global, text: &str) -> Result<Vec<i128>, ScriptErr>
     ensures read { IfOk result (λ v. Reads grammar.number_list number_list_value text.now v.items) }
     ensures refused { IfErr result (Refuses grammar.number_list text.now) }
 {
-    let pieces = lexed(alloc, text.as_bytes())?;
-    let mut reader = Reader::new(pieces.as_slice());
+    let symbols = lexed(alloc, text.as_bytes())?;
+    let mut reader = Reader::new(symbols.as_slice());
     match whole_list(alloc, &mut reader) {
         Ok(numbers) => Ok(numbers),
         Err(stop) => Err(error_at(stop, reader.spot_or(text.len()))),

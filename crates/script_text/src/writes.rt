@@ -2,18 +2,18 @@
 
 ghost use Rattle.std.specs.Prelude.{◌≡◌, ◌<◌, ◌≤◌, length, IfOk};
 ghost use Rattle.clif_insts.specs.Reading.{Gives, same};
-ghost use Rattle.script_text.specs.Pieces.{lexeme_of};
+ghost use Rattle.script_text.specs.Symbols.{lexeme_of};
 ghost use Rattle.script_text.specs.Reading as spec;
 
-use crate::piece::Piece;
 use crate::reader::Reader;
+use crate::symbol::Symbol;
 use crate::terminal::Terminal;
 use clif_insts::{Stop, one_item};
 use std::alloc::Global;
 
 /// A number that is not negative.
 #[tactic(auto, unfolding(crate::specs::Reading::address_at))]
-fn address(reader: &mut Reader<'_>) -> Result<Piece, Stop>
+fn address(reader: &mut Reader<'_>) -> Result<Symbol, Stop>
     ensures is { Gives lexeme_of reader.new result (spec.address_at reader.old) }
     ensures shorter { IfOk result (λ _. length reader.new < length reader.old) }
 {

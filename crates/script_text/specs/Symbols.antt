@@ -13,7 +13,7 @@ use Rattle.clif_words.specs.declared.class.Class.TheVariants as words
 use Rattle.clif_words.specs.declared.items.Meaning.{Meaning}
 use Rattle.clif_words.specs.Words.{word_meaning}
 use Rattle.clk_num.specs.Numbers.{fits, wrapped}
-use Rattle.script_text.specs.declared.piece.Piece.{Piece}
+use Rattle.script_text.specs.declared.symbol.Symbol.{Symbol}
 use Rattle.script_text.specs.declared.terminal.Terminal.{Terminal}
 use Rattle.script_text.specs.declared.terminal.Terminal.TheVariants as terminals
 use Rattle.script_text.specs.Terminals.{code}
@@ -25,8 +25,8 @@ most_user = 65535
 abbrev pub most_tag : ℕ
 most_tag = 4294967294
 
-abbrev pub piece : Terminal → ℕ → ℤ → ℕ → Lexeme
-piece terminal number amount spot = record {
+abbrev pub symbol : Terminal → ℕ → ℤ → ℕ → Lexeme
+symbol terminal number amount spot = record {
   class = code terminal;
   number = number;
   amount = amount;
@@ -36,18 +36,18 @@ piece terminal number amount spot = record {
 
 -- a token of which nothing but its terminal counts
 abbrev pub plain : Terminal → ℕ → Lexeme
-plain terminal spot = piece terminal 0 (pos 0) spot
+plain terminal spot = symbol terminal 0 (pos 0) spot
 
 -- a word with a number, which is at most `most`
 abbrev pub limited : Terminal → ℕ → ℕ → ℕ → Lexeme
 limited terminal most number spot =
-    if nat_lt most number then plain terminals.Other spot else piece terminal number (pos 0) spot
+    if nat_lt most number then plain terminals.Other spot else symbol terminal number (pos 0) spot
 
 -- a word that CLIF has too
 abbrev pub clif_word : Class → ℕ → ℕ → Lexeme
 clif_word words.Return number spot = plain terminals.Return spot
 clif_word words.Trap number spot = plain terminals.Trap spot
-clif_word words.TrapCode number spot = piece terminals.TrapCode number (pos 0) spot
+clif_word words.TrapCode number spot = symbol terminals.TrapCode number (pos 0) spot
 clif_word words.UserTrap number spot = limited terminals.UserTrap most_user number spot
 clif_word words.Tag number spot = limited terminals.Tag most_tag number spot
 clif_word class number spot = plain terminals.Other spot
@@ -66,7 +66,7 @@ number_terminal z =
 
 -- a number of 64 bits, with a sign or without
 unfoldable pub number : ℤ → ℕ → Lexeme
-number z spot = if fits 64 z then piece (number_terminal z) (wrapped 64 z) z spot else plain terminals.Other spot
+number z spot = if fits 64 z then symbol (number_terminal z) (wrapped 64 z) z spot else plain terminals.Other spot
 
 abbrev pub mark_terminal : ℕ → Terminal
 mark_terminal byte =
@@ -88,6 +88,6 @@ of_kind kind spelled spot = plain terminals.Other spot
 abbrev pub lexeme : List ℕ → Token → Lexeme
 lexeme text token = of_kind token.kind (spelling text token) token.start
 
--- the code's piece, as the grammar sees it
-abbrev pub lexeme_of : Piece → Lexeme
-lexeme_of p = piece p.terminal p.number p.amount p.spot
+-- the code's symbol, as the grammar sees it
+abbrev pub lexeme_of : Symbol → Lexeme
+lexeme_of p = symbol p.terminal p.number p.amount p.spot

@@ -7,7 +7,7 @@ use crate::terminal::Terminal;
 
 /// A token of a script.
 #[derive(Clone, Copy, Debug)]
-pub struct Piece {
+pub struct Symbol {
     pub terminal: Terminal,
     /// Which of the words of its terminal it is, or what a number is modulo 2^64.
     pub number: u64,

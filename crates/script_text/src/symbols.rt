@@ -5,10 +5,10 @@ ghost use Rattle.clif_lex.specs.Lexing.{tokens_of};
 ghost use Rattle.clif_lex.specs.Spelling.{AreIn};
 ghost use Rattle.script_text.specs.declared.scripts.ScriptErr.TheVariants.{NoMemory};
 ghost use Rattle.script_text.specs.Lexed as lexed;
-ghost use Rattle.script_text.specs.Pieces as spec;
+ghost use Rattle.script_text.specs.Symbols as spec;
 
-use crate::piece::Piece;
 use crate::scripts::ScriptErr;
+use crate::symbol::Symbol;
 use crate::terminal::Terminal;
 use clif_lex::{LexErr, TokenKind, Tokens, tokens};
 use clif_words::{Class, Meaning, word_meaning};
@@ -22,10 +22,10 @@ const MOST_USER: u64 = 65_535;
 const MOST_TAG: u64 = 4_294_967_294;
 
 /// A token of which nothing but its terminal counts.
-fn plain(terminal: Terminal, spot: usize) -> Piece
+fn plain(terminal: Terminal, spot: usize) -> Symbol
     ensures { spec.lexeme_of result ≡ spec.plain terminal spot }
 {
-    Piece {
+    Symbol {
         terminal,
         number: 0,
         amount: 0,
@@ -34,13 +34,13 @@ fn plain(terminal: Terminal, spot: usize) -> Piece
 }
 
 /// `userN`, where the number is one of a trap code.
-fn user_trap(number: u64, spot: usize) -> Piece
+fn user_trap(number: u64, spot: usize) -> Symbol
     ensures { spec.lexeme_of result ≡ spec.limited Terminal.UserTrap spec.most_user number spot }
 {
     if number > MOST_USER {
         return plain(Terminal::Other, spot);
     }
-    Piece {
+    Symbol {
         terminal: Terminal::UserTrap,
         number,
         amount: 0,
@@ -49,13 +49,13 @@ fn user_trap(number: u64, spot: usize) -> Piece
 }
 
 /// `tagN`, where the number is one of a tag.
-fn tag(number: u64, spot: usize) -> Piece
+fn tag(number: u64, spot: usize) -> Symbol
     ensures { spec.lexeme_of result ≡ spec.limited Terminal.Tag spec.most_tag number spot }
 {
     if number > MOST_TAG {
         return plain(Terminal::Other, spot);
     }
-    Piece {
+    Symbol {
         terminal: Terminal::Tag,
         number,
         amount: 0,
@@ -64,13 +64,13 @@ fn tag(number: u64, spot: usize) -> Piece
 }
 
 /// A word that CLIF has too.
-fn clif_word(meaning: Meaning, spot: usize) -> Piece
+fn clif_word(meaning: Meaning, spot: usize) -> Symbol
     ensures { spec.lexeme_of result ≡ spec.by_meaning meaning spot }
 {
     match meaning.class {
         Class::Return => plain(Terminal::Return, spot),
         Class::Trap => plain(Terminal::Trap, spot),
-        Class::TrapCode => Piece {
+        Class::TrapCode => Symbol {
             terminal: Terminal::TrapCode,
             number: meaning.number,
             amount: 0,
@@ -83,8 +83,8 @@ fn clif_word(meaning: Meaning, spot: usize) -> Piece
 }
 
 /// A word.
-#[tactic(auto, unfolding(crate::specs::Pieces::word))]
-fn word(spelled: &[u8], spot: usize) -> Piece
+#[tactic(auto, unfolding(crate::specs::Symbols::word))]
+fn word(spelled: &[u8], spot: usize) -> Symbol
     ensures { spec.lexeme_of result ≡ spec.word spelled.now spot }
 {
     if spelled == b"throw".as_slice() {
@@ -108,14 +108,14 @@ fn number_terminal(number: i128) -> Terminal
 }
 
 /// A number of 64 bits, with a sign or without.
-#[tactic(auto, unfolding(crate::specs::Pieces::number))]
-fn number(amount: i128, spot: usize) -> Piece
+#[tactic(auto, unfolding(crate::specs::Symbols::number))]
+fn number(amount: i128, spot: usize) -> Symbol
     ensures { spec.lexeme_of result ≡ spec.number amount spot }
 {
     let Some(bits) = Bits::fit(Width::W64, amount) else {
         return plain(Terminal::Other, spot);
     };
-    Piece {
+    Symbol {
         terminal: number_terminal(amount),
         number: bits.value() as u64,
         amount,
@@ -138,7 +138,7 @@ fn mark_terminal(byte: u8) -> Terminal
 }
 
 /// A token of the text.
-fn piece(text: &[u8], tokens: &Tokens, i: usize) -> Piece
+fn symbol(text: &[u8], tokens: &Tokens, i: usize) -> Symbol
     requires inside { AreIn text.now tokens.now }
     requires below { i < length tokens.now }
     ensures { IfSome (slice_get tokens.now i) (λ token. spec.lexeme_of result ≡ spec.lexeme text.now token) }
@@ -154,44 +154,44 @@ fn piece(text: &[u8], tokens: &Tokens, i: usize) -> Piece
 }
 
 /// These tokens of the text.
-fn pieces(alloc: Global, text: &[u8], tokens: &Tokens) -> Result<Vec<Piece>, AllocError>
+fn symbols(alloc: Global, text: &[u8], tokens: &Tokens) -> Result<Vec<Symbol>, AllocError>
     requires { AreIn text.now tokens.now }
-    ensures { IfOk result (λ v. map spec.lexeme_of v.items ≡ lexed.pieces text.now tokens.now) }
+    ensures { IfOk result (λ v. map spec.lexeme_of v.items ≡ lexed.symbols text.now tokens.now) }
 {
     let mut list = Vec::new(alloc);
     'tokens: for i in 0..tokens.len() {
-        list.push(piece(text, tokens, i))?;
+        list.push(symbol(text, tokens, i))?;
     }
     Ok(list)
 }
 
 /// The tokens before a place where none stands, and there one that stands in no script.
-fn pieces_before(alloc: Global, text: &[u8], spot: usize) -> Result<Vec<Piece>, ScriptErr>
+fn symbols_before(alloc: Global, text: &[u8], spot: usize) -> Result<Vec<Symbol>, ScriptErr>
     requires { spot ≤ length text.now }
-    ensures pieces { IfOk result (λ v. map spec.lexeme_of v.items ≡ lexed.pieces_before text.now spot) }
+    ensures symbols { IfOk result (λ v. map spec.lexeme_of v.items ≡ lexed.symbols_before text.now spot) }
     ensures none { IfErr result (λ e. e ≡ NoMemory) }
 {
     let front = &text[..spot];
-    let mut pieces = match tokens(alloc, front) {
-        Ok(tokens) => pieces(alloc, front, &tokens)?,
+    let mut symbols = match tokens(alloc, front) {
+        Ok(tokens) => symbols(alloc, front, &tokens)?,
         Err(LexErr::NoMemory) => return Err(ScriptErr::NoMemory),
         Err(LexErr::BadChar(_) | LexErr::BadNumber(_)) => Vec::new(alloc),
     };
-    pieces.push(plain(Terminal::Other, spot))?;
-    Ok(pieces)
+    symbols.push(plain(Terminal::Other, spot))?;
+    Ok(symbols)
 }
 
 /// The tokens of a text, up to the first place where none stands, and there one that stands in no script.
 /// It takes time and memory in proportion to the text.
 /// A text of 2^32 bytes or more is refused with NoMemory, since tokens keep their places in 32 bits.
 #[tactic(auto, unfolding(crate::specs::Lexed::lexed))]
-pub(crate) fn lexed(alloc: Global, text: &[u8]) -> Result<Vec<Piece>, ScriptErr>
-    ensures pieces { IfOk result (λ v. map spec.lexeme_of v.items ≡ lexed.lexed text.now) }
+pub(crate) fn lexed(alloc: Global, text: &[u8]) -> Result<Vec<Symbol>, ScriptErr>
+    ensures symbols { IfOk result (λ v. map spec.lexeme_of v.items ≡ lexed.lexed text.now) }
     ensures none { IfErr result (λ e. e ≡ NoMemory) }
 {
     match tokens(alloc, text) {
-        Ok(tokens) => Ok(pieces(alloc, text, &tokens)?),
-        Err(LexErr::BadChar(spot) | LexErr::BadNumber(spot)) => pieces_before(alloc, text, spot),
+        Ok(tokens) => Ok(symbols(alloc, text, &tokens)?),
+        Err(LexErr::BadChar(spot) | LexErr::BadNumber(spot)) => symbols_before(alloc, text, spot),
         Err(LexErr::NoMemory) => Err(ScriptErr::NoMemory),
     }
 }

@@ -1,0 +1,11 @@
+use Rattle.std.proofs.Common.{rules, ◌≡◌}
+use Rattle.clif_insts.proofs.Views.{some_at, if_some}
+use Rattle.script_text.specs.Symbols.{lexeme, lexeme_of}
+use Rattle.script_text.proofs.Tokens.{one_more}
+use Rattle.script_text.proofs.symbols.symbols.Goals as goal
+
+pub tokens-preserved : goal.tokens-preserved
+tokens-preserved c =
+    let t = some_at c.args.tokens.now c.tokens.i (search rules) in
+    let same = if_some (λ token. lexeme_of c.symbol.result ≡ lexeme c.args.text.now token) _ t.0 t.1 c.symbol.ensures in
+    rw c.in_ok-push.ensures.items (one_more c.args.text.now c.args.tokens.now c.tokens.i t.0 c.tokens.list.items c.symbol.result t.1 same c.tokens.invariant)

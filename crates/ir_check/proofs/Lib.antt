@@ -3,6 +3,7 @@ pub mod Tests
 pub mod ByTests
 pub mod Walking
 pub mod Walks
+pub mod Signed
 pub mod Ranged
 pub mod Rowed
 pub mod Using

@@ -6,8 +6,6 @@ use Rattle.std.proofs.lemmas.Option.{slice_get_within}
 use Rattle.std.proofs.lemmas.Option.{slice_get_past, same_Some}
 use Rattle.std.proofs.Common.{subst, ◌≤◌, eq-eqb, ne_eqb}
 use Rattle.std.specs.Prelude.{nat_eq}
-use Rattle.ir_core.specs.declared.signatures.Param.{Param}
-use Rattle.ir_core.specs.declared.signatures.Sig.{Sig}
 use Rattle.ir_core.specs.declared.instructions.BlockCall.{BlockCall}
 use Rattle.ir_core.specs.declared.instructions.Arg.{Arg}
 use Rattle.ir_core.specs.Module.{Block, Function}
@@ -17,11 +15,9 @@ use Rattle.ir_core.specs.Lists.{In, Below}
 use Rattle.ir_core.specs.Sound.{IsSound}
 use Rattle.ir_core.specs.Uses.{targets, blocks_used}
 use Rattle.ir_core.specs.Module.{Instruction}
-use Rattle.ir_core.specs.Signatures.{same_param, same_params, same_sig}
 use Rattle.ir_core.proofs.Counting.{all_in}
-use Rattle.ir_core.proofs.Equal.{sig_same}
 use Rattle.std.proofs.lemmas.List.{length-map}
-use Rattle.ir_check.specs.Twins.{some_and, same_option, leaves, arg_counts, target_counts}
+use Rattle.ir_check.specs.Twins.{some_and, leaves, arg_counts, target_counts}
 use Rattle.avail_flow.proofs.Blocks.{number_found, found_parts}
 use Rattle.avail_flow.proofs.Listing.{left_at, left_past}
 
@@ -39,31 +35,6 @@ all_done p xs i whole at e = sym (ap (list_all p) (left_past xs i at)) ∙ e
 
 pub fewer : {A : Type 0} (xs : List A) (i : ℕ) (x : A) → slice_get xs i ≡ Some x → length xs - (i + 1) < length xs - i
 fewer xs i x at = let l = slice_get_within xs i x at in omega arith
-
--- ---- lists of parameters
-
-step_params : (as' bs : List Param) (i : ℕ) (a b : Param) → slice_get as' i ≡ Some a → slice_get bs i ≡ Some b → same_params (drop i as') (drop i bs) ≡ (same_param a b && same_params (drop (i + 1) as') (drop (i + 1) bs))
-step_params as' bs i a b p q = ap (λ (z : List Param). same_params z (drop i bs)) (left_at as' i a p) ∙ ap (λ (z : List Param). same_params (a ∷ drop (i + 1) as') z) (left_at bs i b q)
-
-pub params_more : (as' bs : List Param) (i : ℕ) (a b : Param) (whole : Bool) → slice_get as' i ≡ Some a → slice_get bs i ≡ Some b → same_param a b ≡ true → same_params (drop i as') (drop i bs) ≡ whole → same_params (drop (i + 1) as') (drop (i + 1) bs) ≡ whole
-params_more as' bs i a b whole p q good e = sym (ap (λ (z : Bool). z && same_params (drop (i + 1) as') (drop (i + 1) bs)) good) ∙ (sym (step_params as' bs i a b p q) ∙ e)
-
-pub params_fail : (as' bs : List Param) (i : ℕ) (a b : Param) (whole : Bool) → slice_get as' i ≡ Some a → slice_get bs i ≡ Some b → same_param a b ≡ false → same_params (drop i as') (drop i bs) ≡ whole → false ≡ whole
-params_fail as' bs i a b whole p q bad e = sym (ap (λ (z : Bool). z && same_params (drop (i + 1) as') (drop (i + 1) bs)) bad) ∙ (sym (step_params as' bs i a b p q) ∙ e)
-
-pub params_done : (as' bs : List Param) (i : ℕ) (whole : Bool) → length as' ≤ i → length as' ≡ length bs → same_params (drop i as') (drop i bs) ≡ whole → true ≡ whole
-params_done as' bs i whole high same e =
-    sym (ap (λ (z : List Param). same_params z (drop i bs)) (left_past as' i (slice_get_past as' i high)) ∙ ap (same_params []) (left_past bs i (slice_get_past bs i (omega arith)))) ∙ e
-
-pub params_differ : (as' bs : List Param) → (length as' ≡ length bs → ⊥) → false ≡ same_params as' bs
-params_differ [] [] ne = absurd (ne refl)
-params_differ [] (b ∷ bs) ne = refl
-params_differ (a ∷ as') [] ne = refl
-params_differ (a ∷ as') (b ∷ bs) ne = by (same_param a b) (params_differ as' bs (λ e. ne (let x : length as' ≡ length bs = e in omega arith)))
-  where
-    by : (z : Bool) → false ≡ same_params as' bs → false ≡ (z && same_params as' bs)
-    by true h = h
-    by false h = refl
 
 -- ---- targets
 
@@ -100,10 +71,3 @@ target_below n i k t b at = go (targets i) k b at
     go [] k b at = absurd cc
     go (u ∷ ts) zero b at = subst (λ (z : BlockCall). z.block < n) (same_Some u t at) b.0
     go (u ∷ ts) (suc k) b at = go ts k b.1 at
-
-pub named_twice : (sigs : List Sig) (n : ℕ) → true ≡ same_option same_sig (slice_get sigs n) (slice_get sigs n)
-named_twice sigs n = by (slice_get sigs n)
-  where
-    by : (o : Option Sig) → true ≡ same_option same_sig o o
-    by None = refl
-    by (Some a) = sym (sig_same a)

@@ -11,6 +11,7 @@ use crate::faults::Fault;
 use crate::kinds::CheckKind;
 use crate::late::find_late_fault;
 use ir_core::{Item, Module};
+use sig_numbers::number_sigs;
 use std::alloc::{AllocError, Global};
 use std::error::Error;
 use std::fmt;
@@ -52,7 +53,8 @@ pub struct Rejected {
 fn find_fault(alloc: Global, module: &Module) -> Result<Option<Fault>, AllocError>
     ensures { IfOk result (λ found. FindsAny «module».now (checks «module».now) found) }
 {
-    if let Some(fault) = find_early_fault(module) {
+    let sigs = number_sigs(alloc, module)?;
+    if let Some(fault) = find_early_fault(module, &sigs) {
         return Ok(Some(fault));
     }
     find_late_fault(alloc, module)
@@ -73,11 +75,11 @@ fn find_err(alloc: Global, module: &Module) -> Option<CheckErr>
     }
 }
 
-/// Checks a module. Accepted or not, it is handed back. All rules but availability take no memory, and time linear in
-/// the module but for a look-up of the name of each callee declaration, and for the signatures that callee
-/// declarations, tail calls and `try_call`s compare. Availability takes a logarithm of the number of blocks for each
-/// use, and for each function a few sweeps over its edges (more only for paths that are made to need them) and memory
-/// proportional to the function.
+/// Checks a module. Accepted or not, it is handed back. The signatures are numbered once, in memory linear in them, and
+/// compared by their numbers. So all rules but availability take time linear in the module, times the logarithm of the
+/// number of signatures for each signature, and of the number of functions for each callee declaration. Availability
+/// takes a logarithm of the number of blocks for each use, and for each function a few sweeps over its edges (more only
+/// for paths that are made to need them) and memory proportional to the function.
 pub fn check(alloc: Global, module: Module) -> Result<Checked, Rejected>
     ensures accepted { IfOk result (λ checked. (checked ≡ «module») × Accepted «module») }
     ensures same { IfErr result (λ rejected. rejected.«module» ≡ «module») }

@@ -1,5 +1,5 @@
 //! The first fault by another rule than availability.
-ghost use Rattle.std.specs.Prelude.{◌≡◌, ◌<◌, length, nat_eq};
+ghost use Rattle.std.specs.Prelude.{◌≡◌, ◌<◌, Some, length, nat_eq, slice_get};
 ghost use Rattle.ir_core.specs.Lists.{In};
 ghost use Rattle.ir_core.specs.Lookup.{block_numbers};
 ghost use Rattle.ir_core.specs.Sound.{IsSound};
@@ -17,6 +17,7 @@ use crate::lines::find_line_fault;
 use crate::rules::declares_signature;
 use crate::types::have_param_types;
 use ir_core::{Block, Callee, Func, Item, Module, Point};
+use sig_numbers::{FuncSigs, ModuleSigs};
 
 /// Whether a block has an instruction.
 fn is_filled(func: &Func, block: Block) -> bool
@@ -95,8 +96,15 @@ fn find_block_fault(func: &Func, first: Block, block: Block) -> Option<CheckKind
 }
 
 /// The first fault but availability among the instructions of a block. `number` is the function's place.
-fn find_fault_in_lines(func: &Func, number: usize, first: Block, block: Block) -> Option<Fault>
+fn find_fault_in_lines(
+    func: &Func,
+    sigs: &FuncSigs<'_>,
+    number: usize,
+    first: Block,
+    block: Block,
+) -> Option<Fault>
     requires sound { IsSound func.now.function }
+    requires same { sigs.now ≡ func.now.function }
     requires first { first ≡ first_number func.now.function.blocks }
     requires there { In block (block_numbers func.now.function.blocks) }
     ensures { FindsIn func.now.function (line_checks first_rules number func.now.function block) result }
@@ -104,7 +112,7 @@ fn find_fault_in_lines(func: &Func, number: usize, first: Block, block: Block) -
     let insts = func.inst_slice(block);
     for (i, added) in insts.iter().enumerate() {
         let index = i as u32;
-        if let Some(kind) = find_line_fault(func, first, added, i + 1 == insts.len()) {
+        if let Some(kind) = find_line_fault(func, sigs, first, added, i + 1 == insts.len()) {
             return Some(Fault {
                 kind,
                 func: number,
@@ -116,8 +124,15 @@ fn find_fault_in_lines(func: &Func, number: usize, first: Block, block: Block) -
 }
 
 /// The first fault but availability at a block and its instructions.
-fn find_fault_in_block(func: &Func, number: usize, first: Block, block: Block) -> Option<Fault>
+fn find_fault_in_block(
+    func: &Func,
+    sigs: &FuncSigs<'_>,
+    number: usize,
+    first: Block,
+    block: Block,
+) -> Option<Fault>
     requires sound { IsSound func.now.function }
+    requires same { sigs.now ≡ func.now.function }
     requires first { first ≡ first_number func.now.function.blocks }
     requires there { In block (block_numbers func.now.function.blocks) }
     ensures { FindsIn func.now.function (block_checks first_rules number func.now.function block) result }
@@ -129,16 +144,22 @@ fn find_fault_in_block(func: &Func, number: usize, first: Block, block: Block) -
             item: Item::Block(block.number()),
         });
     }
-    find_fault_in_lines(func, number, first, block)
+    find_fault_in_lines(func, sigs, number, first, block)
 }
 
 /// The first fault but availability among the blocks of a function. `first` is its first block.
-fn find_fault_in_blocks(func: &Func, number: usize, first: Block) -> Option<Fault>
-    requires { first ≡ first_number func.now.function.blocks }
+fn find_fault_in_blocks(
+    func: &Func,
+    sigs: &FuncSigs<'_>,
+    number: usize,
+    first: Block,
+) -> Option<Fault>
+    requires same { sigs.now ≡ func.now.function }
+    requires first { first ≡ first_number func.now.function.blocks }
     ensures { FindsIn func.now.function (checks_of_blocks first_rules number func.now.function) result }
 {
     for block in func.blocks() {
-        if let Some(fault) = find_fault_in_block(func, number, first, block) {
+        if let Some(fault) = find_fault_in_block(func, sigs, number, first, block) {
             return Some(fault);
         }
     }
@@ -146,11 +167,19 @@ fn find_fault_in_blocks(func: &Func, number: usize, first: Block) -> Option<Faul
 }
 
 /// The first rule but availability that a callee declaration does not keep.
-fn find_callee_fault(module: &Module, func: &Func, callee: &Callee) -> Option<CheckKind>
-    requires { callee.now.sig < length func.now.function.sigs }
+fn find_callee_fault(
+    module: &Module,
+    sigs: &ModuleSigs<'_>,
+    func: &Func,
+    number: usize,
+    callee: &Callee,
+) -> Option<CheckKind>
+    requires same { sigs.now ≡ «module».now }
+    requires at { slice_get «module».now number ≡ Some func.now.function }
+    requires there { callee.now.sig < length func.now.function.sigs }
     ensures { rule_named result ≡ failing_rule (callee_keeps «module».now func.now.function callee.now) first_rules }
 {
-    if declares_signature(module, func, callee) {
+    if declares_signature(module, sigs, func, number, callee) {
         None
     } else {
         Some(CheckKind::SignatureMismatch)
@@ -158,14 +187,21 @@ fn find_callee_fault(module: &Module, func: &Func, callee: &Callee) -> Option<Ch
 }
 
 /// The first fault but availability among the callee declarations of a function.
-fn find_fault_in_callees(module: &Module, func: &Func, number: usize) -> Option<Fault>
-    requires { IsSound func.now.function }
+fn find_fault_in_callees(
+    module: &Module,
+    sigs: &ModuleSigs<'_>,
+    func: &Func,
+    number: usize,
+) -> Option<Fault>
+    requires sound { IsSound func.now.function }
+    requires same { sigs.now ≡ «module».now }
+    requires at { slice_get «module».now number ≡ Some func.now.function }
     ensures { Finds «module».now func.now.function (checks_of_callees first_rules number func.now.function) result }
 {
     let declared = func.callees();
     for (i, callee) in declared.iter().enumerate() {
         let index = i as u32;
-        if let Some(kind) = find_callee_fault(module, func, callee) {
+        if let Some(kind) = find_callee_fault(module, sigs, func, number, callee) {
             return Some(Fault {
                 kind,
                 func: number,
@@ -188,22 +224,30 @@ fn find_first(func: &Func) -> Block
 }
 
 /// The first fault but availability in a function.
-fn find_fault_in_func(module: &Module, func: &Func, number: usize) -> Option<Fault>
+fn find_fault_in_func(
+    module: &Module,
+    sigs: &ModuleSigs<'_>,
+    func: &Func,
+    number: usize,
+) -> Option<Fault>
+    requires same { sigs.now ≡ «module».now }
+    requires at { slice_get «module».now number ≡ Some func.now.function }
     ensures { Finds «module».now func.now.function (checks_of_function first_rules number func.now.function) result }
 {
     let first = find_first(func);
-    if let Some(fault) = find_fault_in_callees(module, func, number) {
+    if let Some(fault) = find_fault_in_callees(module, sigs, func, number) {
         return Some(fault);
     }
-    find_fault_in_blocks(func, number, first)
+    find_fault_in_blocks(func, &sigs.func(number), number, first)
 }
 
 /// The first fault of a module by another rule than availability.
-pub(crate) fn find_early_fault(module: &Module) -> Option<Fault>
+pub(crate) fn find_early_fault(module: &Module, sigs: &ModuleSigs<'_>) -> Option<Fault>
+    requires { sigs.now ≡ «module».now }
     ensures { FindsAny «module».now (tried first_rules 0 «module».now) result }
 {
     for i in 0..module.len() {
-        if let Some(fault) = find_fault_in_func(module, module.func(i), i) {
+        if let Some(fault) = find_fault_in_func(module, sigs, module.func(i), i) {
             return Some(fault);
         }
     }

@@ -12,15 +12,18 @@ use crate::rules::{
 };
 use crate::typing::keeps_types;
 use ir_core::{Block, Func, InstData};
+use sig_numbers::FuncSigs;
 
 /// The first rule but availability that an instruction does not keep. `first` is the function's first block.
 pub fn find_line_fault(
     func: &Func,
+    sigs: &FuncSigs<'_>,
     first: Block,
     added: &InstData,
     is_last: bool,
 ) -> Option<CheckKind>
     requires sound { IsSound func.now.function }
+    requires same { sigs.now ≡ func.now.function }
     requires line { LineInRange (counts_of func.now.function) (line_of added.now) }
     ensures { rule_named result
         ≡ failing_rule (line_keeps func.now.function first is_last (line_of added.now)) first_rules }
@@ -34,13 +37,13 @@ pub fn find_line_fault(
     if !keeps_counts(func, added) {
         return Some(CheckKind::CountMismatch);
     }
-    if !keeps_types(func, added) {
+    if !keeps_types(func, sigs, added) {
         return Some(CheckKind::TypeMismatch);
     }
     if !keeps_convention(func, added) {
         return Some(CheckKind::Convention);
     }
-    if !states_signature(func, added) {
+    if !states_signature(func, sigs, added) {
         return Some(CheckKind::SignatureMismatch);
     }
     if !stays_in_slot(func, added) {

@@ -1,5 +1,5 @@
 //! The rules of acceptance at one instruction, each a test.
-ghost use Rattle.std.specs.Prelude.{◌≡◌, ◌<◌, ◌≤◌, ℕ, ℤ, length, not, nat_eq, slice_get, is_some};
+ghost use Rattle.std.specs.Prelude.{◌≡◌, ◌<◌, ◌≤◌, ℕ, ℤ, length, not, nat_eq, slice_get, is_some, Some};
 ghost use Rattle.std.specs.List.{list_all};
 ghost use Rattle.ir_core.specs.Module.{Function};
 ghost use Rattle.ir_core.specs.Lookup.{width_of};
@@ -12,9 +12,10 @@ ghost use Rattle.ir_semantics.specs.Values.{bytes_in, slot_place};
 ghost use Rattle.ir_check.specs.Twins.{declared, ends_by, leaves, instruction_tags, instruction_convention};
 ghost use Rattle.ir_check.specs.Twins.{instruction_signature, instruction_slot};
 
-use crate::calls::{callee_sig, is_same_sig, is_tail, named_sig, width};
+use crate::calls::{callee_sig, callee_sig_ref, is_tail, named_sig};
 use avail_flow::{ends_block, target_at};
 use ir_core::{Block, Callee, Func, Inst, InstData, Module, Slot, Ty};
+use sig_numbers::{FuncSigs, ModuleSigs};
 
 /// NoTerminator: an instruction ends its block exactly where it is the last.
 pub fn ends_rightly(inst: &Inst, is_last: bool) -> bool
@@ -55,15 +56,14 @@ pub fn keeps_convention(func: &Func, added: &InstData) -> bool
 }
 
 /// SignatureMismatch: the signature of a `try_call` is its callee's.
-pub fn states_signature(func: &Func, added: &InstData) -> bool
+pub fn states_signature(func: &Func, sigs: &FuncSigs<'_>, added: &InstData) -> bool
     requires sound { IsSound func.now.function }
+    requires same { sigs.now ≡ func.now.function }
     requires line { LineInRange (counts_of func.now.function) (line_of added.now) }
     ensures { result ≡ instruction_signature func.now.function (instruction_of added.now.inst) }
 {
     match &added.inst {
-        Inst::TryCall { callee, sig, .. } => {
-            is_same_sig(named_sig(func, *sig), callee_sig(func, *callee))
-        }
+        Inst::TryCall { callee, sig, .. } => { sigs.are_same(*sig, callee_sig_ref(func, *callee)) }
         Inst::TryCallIndirect { .. } => true,
         _ => true,
     }
@@ -124,13 +124,22 @@ pub fn places_tags(added: &InstData) -> bool
     }
 }
 
-/// SignatureMismatch: a declaration of a function of the module states its signature.
-pub fn declares_signature(module: &Module, func: &Func, callee: &Callee) -> bool
+/// SignatureMismatch: a declaration of a function of the module states its signature. `number` is the place of the
+/// function that has the declaration.
+pub fn declares_signature(
+    module: &Module,
+    sigs: &ModuleSigs<'_>,
+    func: &Func,
+    number: usize,
+    callee: &Callee,
+) -> bool
+    requires same { sigs.now ≡ «module».now }
+    requires at { slice_get «module».now number ≡ Some func.now.function }
     requires there { callee.now.sig < length func.now.function.sigs }
     ensures { result ≡ declared «module».now func.now.function callee.now }
 {
     match module.find(&callee.name) {
-        Some(i) => is_same_sig(named_sig(func, callee.sig), module.func(i).sig()),
+        Some(i) => sigs.is_own(number, callee.sig, i),
         None => true,
     }
 }

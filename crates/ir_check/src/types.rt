@@ -10,11 +10,11 @@ ghost use Rattle.ir_semantics.specs.TypeRules.{arg_type, types_of};
 ghost use Rattle.ir_check.specs.Twins.{have_types, is_type, same_types, some_and, target_types};
 ghost use Rattle.ir_check.specs.RowTypes.{widths_of_row};
 
-use crate::calls::is_same_type;
 use crate::row_types::RowTypes;
 use avail_flow::target_at;
 use clk_num::Width;
 use ir_core::{Arg, BlockCall, Func, Inst, Param, Ty, Value};
+use sig_numbers::is_same_type;
 
 /// The type of a width.
 pub fn type_of_width(width: Width) -> Ty

@@ -1,5 +1,5 @@
 //! TypeMismatch at one instruction.
-ghost use Rattle.std.specs.Prelude.{◌≡◌, ◌<◌, ◌&&◌, [], ◌∷◌, None, length, drop};
+ghost use Rattle.std.specs.Prelude.{◌≡◌, ◌<◌, ◌&&◌, [], ◌∷◌, None, length, drop, slice_get};
 ghost use Rattle.clk_num.specs.Rows.{row};
 ghost use Rattle.clk_num.specs.Views.{data_of};
 ghost use Rattle.ir_core.specs.Forms.{controlling};
@@ -14,9 +14,10 @@ ghost use Rattle.ir_core.specs.declared.signatures.Ty.TheVariants.{I64};
 ghost use Rattle.ir_core.specs.Viewed.{line_of, instruction_of};
 ghost use Rattle.ir_semantics.specs.TypeRules.{type_at, widths_of_values};
 ghost use Rattle.ir_check.specs.RowTypes.{widths_of_row};
-ghost use Rattle.ir_check.specs.Twins.{have_types, is_type, simple_types, by_value, same_list, target_types, types};
+ghost use Rattle.ir_check.specs.Twins.{have_types, is_type, simple_types, by_value, same_list, some_and, target_types};
+ghost use Rattle.ir_check.specs.Twins.{types};
 
-use crate::calls::{callee_sig, is_same_type, named_sig, width};
+use crate::calls::{callee_sig, callee_sig_ref, named_sig, width};
 use crate::forms::{
     find_access_suffix, find_access_type, has_access_form, has_store_form, have_flags_form,
     is_in_range, is_same_width, takes_immediate,
@@ -27,7 +28,8 @@ use crate::types::{
     is_same_suffix, type_of_width,
 };
 use clk_num::{Bits, Op, Width};
-use ir_core::{Access, BlockCall, Flags, Func, Inst, InstData, Param, Sig, Ty, Value};
+use ir_core::{Access, BlockCall, Flags, Func, Inst, InstData, Sig, SigRef, Ty, Value};
+use sig_numbers::{FuncSigs, is_same_type};
 
 /// A constant has no suffix, and one result of its type.
 fn const_has_types(func: &Func, added: &InstData, bits: &Bits) -> bool
@@ -176,21 +178,6 @@ fn passes_types(func: &Func, added: &InstData, sig: &Sig, args: &[Value]) -> boo
     is_same_suffix(added.ty, None) && have_param_types(func, args, sig.params.as_slice())
 }
 
-/// Whether two lists of parameters have the same types.
-fn are_same_types(a: &[Param], b: &[Param]) -> bool
-    ensures { result ≡ same_list same_type (param_types a.now) (param_types b.now) }
-{
-    if a.len() != b.len() {
-        return false;
-    }
-    for i in 0..a.len() {
-        if !is_same_type(a[i].ty, b[i].ty) {
-            return false;
-        }
-    }
-    true
-}
-
 /// A branch with no suffix but the value's type, whose targets' arguments have the types of the parameters.
 fn branch_has_types(func: &Func, inst: &Inst) -> bool
     requires sound { IsSound func.now.function }
@@ -218,8 +205,9 @@ fn try_has_types(func: &Func, sig: &Sig, normal: &BlockCall, inst: &Inst) -> boo
 }
 
 /// TypeMismatch, at one instruction.
-pub fn keeps_types(func: &Func, added: &InstData) -> bool
+pub fn keeps_types(func: &Func, sigs: &FuncSigs<'_>, added: &InstData) -> bool
     requires sound { IsSound func.now.function }
+    requires same { sigs.now ≡ func.now.function }
     requires line { LineInRange (counts_of func.now.function) (line_of added.now) }
     ensures { result ≡ types func.now.function (line_of added.now) }
 {
@@ -268,11 +256,17 @@ pub fn keeps_types(func: &Func, added: &InstData) -> bool
                 && call_has_types(func, added, named_sig(func, *sig), args.as_slice())
         }
         Inst::ReturnCall { callee, args } => {
-            tail_has_types(func, added, callee_sig(func, *callee), args.as_slice())
+            tail_has_types(
+                func,
+                sigs,
+                added,
+                callee_sig_ref(func, *callee),
+                args.as_slice(),
+            )
         }
         Inst::ReturnCallIndirect { sig, address, args } => {
             is_same_type(func.ty(*address), Ty::I64)
-                && tail_has_types(func, added, named_sig(func, *sig), args.as_slice())
+                && tail_has_types(func, sigs, added, *sig, args.as_slice())
         }
         Inst::TryCall {
             callee,
@@ -313,13 +307,20 @@ fn call_has_types(func: &Func, added: &InstData, sig: &Sig, args: &[Value]) -> b
 }
 
 /// A tail call's arguments have the types of the signature, and the signature's results those of the function's.
-fn tail_has_types(func: &Func, added: &InstData, sig: &Sig, args: &[Value]) -> bool
+fn tail_has_types(
+    func: &Func,
+    sigs: &FuncSigs<'_>,
+    added: &InstData,
+    sig: SigRef,
+    args: &[Value],
+) -> bool
     requires inside { Below (length func.now.function.types) args.now }
+    requires same { sigs.now ≡ func.now.function }
+    requires there { sig < length func.now.function.sigs }
     ensures { result
-        ≡ (is_type added.now.ty None
-        && (have_types func.now.function args.now (param_types sig.now.params)
-        && same_list same_type (param_types sig.now.results) (param_types func.now.function.sig.results))) }
+        ≡ (is_type added.now.ty None && some_and (slice_get func.now.function.sigs sig)
+        (λ s. have_types func.now.function args.now (param_types s.params)
+        && same_list same_type (param_types s.results) (param_types func.now.function.sig.results))) }
 {
-    passes_types(func, added, sig, args)
-        && are_same_types(sig.results.as_slice(), func.sig().results.as_slice())
+    passes_types(func, added, named_sig(func, sig), args) && sigs.returns_alike(sig)
 }

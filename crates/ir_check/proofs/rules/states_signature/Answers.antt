@@ -1,9 +1,12 @@
-use Rattle.std.proofs.Common.{Some, sym, ap, ◌∙◌}
+use Rattle.std.proofs.Common.{length, sym, ap, subst, ◌∙◌}
 use Rattle.std.specs.Prelude.{slice_get}
-use Rattle.ir_core.specs.Signatures.{same_sig}
+use Rattle.ir_core.specs.Lists.{Below}
+use Rattle.ir_core.specs.Lookup.{and_then, signature_of}
+use Rattle.ir_core.specs.Module.{Function, Direct}
+use Rattle.ir_core.specs.Uses.{sigs_used}
 use Rattle.ir_core.specs.Viewed.{instruction_of}
-use Rattle.ir_check.specs.Twins.{same_option, instruction_signature}
-use Rattle.ir_check.proofs.Walks.{named_twice}
+use Rattle.ir_check.specs.Twins.{instruction_signature}
+use Rattle.ir_check.proofs.Signed.{named_twice, named_alike}
 use Rattle.ir_check.proofs.rules.states_signature.Goals as goal
 
 pub returns-in-TryCallIndirect : goal.returns-in-TryCallIndirect
@@ -11,6 +14,7 @@ returns-in-TryCallIndirect c = named_twice c.args.func.now.function.sigs c.in-Tr
 
 pub returns-in-TryCall : goal.returns-in-TryCall
 returns-in-TryCall c =
-    c.is_same_sig.ensures
-    ∙ (ap (λ o. same_option same_sig o (Some c.callee_sig.result.now)) (sym c.named_sig.ensures)
-    ∙ (ap (λ o. same_option same_sig (slice_get c.args.func.now.function.sigs c.in-TryCall.sig) o) (sym c.callee_sig.ensures) ∙ ap (λ i. instruction_signature c.args.func.now.function (instruction_of i)) (sym c.in-TryCall.is)))
+    let f : Function = c.args.func.now.function in
+    let low = subst (λ i. Below (length f.sigs) (sigs_used (instruction_of i))) c.in-TryCall.is c.requires.line.sigs in
+    named_alike f c.args.sigs.now c.requires.same c.in-TryCall.sig c.callee_sig_ref.result low.0 c.callee_sig_ref.ensures.inside c.are_same.result c.are_same.ensures (signature_of f (Direct c.in-TryCall.callee)) (ap (λ o. and_then o (slice_get f.sigs)) c.callee_sig_ref.ensures.number)
+    ∙ ap (λ i. instruction_signature f (instruction_of i)) (sym c.in-TryCall.is)

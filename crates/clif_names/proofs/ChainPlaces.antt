@@ -1,7 +1,7 @@
 -- Chains over places are chains over words.
-use Rattle.std.proofs.Common.{◌≡◌, ℕ, zero, suc, ◌+◌, ◌<◌, ◌≤◌, ◌⊎◌, ◌≢◌, Bool, true, false, not, cond, List, [], ◌∷◌, ◌++◌, length, get_or, slice_get, Option, None, Some, map, refl, sym, ap, ◌∙◌, arith, inl, inr, append_assoc}
-use Rattle.std.specs.Prelude.{nat_eq, nat_lt, fold, find, position, option_map}
-use Rattle.std.specs.List.{list_any, position_or_len}
+use Rattle.std.proofs.Common.{◌≡◌, ℕ, zero, suc, ◌+◌, ◌<◌, List, [], ◌∷◌, ◌++◌, length, get_or, slice_get, Option, None, Some, map, refl, sym, ap, ◌∙◌, arith, inl, inr, append_assoc}
+use Rattle.std.specs.Prelude.{nat_eq, fold, position, option_map}
+use Rattle.std.specs.List.{position_or_len}
 use Rattle.std.specs.Option.{option_or}
 use Rattle.std.proofs.lemmas.Bool.Decides.{eqb_tells, leb_tells}
 use Rattle.std.proofs.lemmas.List.Folds.{find-append, position_or_len_push}
@@ -11,9 +11,9 @@ use Rattle.std.proofs.lemmas.Bool.{eq-eqb}
 use Rattle.clif_names.proofs.LeastLaws.{get_push}
 use Rattle.clif_names.proofs.WordPlaces.{at_end}
 use Rattle.clif_names.specs.declared.links.Link.{Link}
-use Rattle.clif_names.specs.declared.links.Link.TheVariants.{Value, Missing, To}
+use Rattle.clif_names.specs.declared.links.Link.TheVariants.{Value}
 use Rattle.clif_names.specs.declared.links.End.{End}
-use Rattle.clif_names.specs.declared.links.End.TheVariants.{At, Nowhere, Endless}
+use Rattle.clif_names.specs.declared.links.End.TheVariants.{At, Nowhere}
 use Rattle.clif_names.specs.Links as places
 use Rattle.clif_insts.specs.declared.raw.RawName.{RawName}
 use Rattle.clif_names.specs.declared.firsts.Def.{Def}

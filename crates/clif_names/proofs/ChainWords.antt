@@ -1,7 +1,6 @@
 -- The ends that the code finds are the ends of the chains of words.
-use Rattle.std.proofs.Common.{◌≡◌, ℕ, zero, suc, ◌+◌, ◌<◌, ◌≤◌, ◌⊎◌, inl, inr, Bool, true, false, cond, List, [], ◌∷◌, ◌++◌, length, get_or, slice_get, Option, None, Some, map, refl, sym, ap, ◌∙◌, arith}
-use Rattle.std.specs.Prelude.{nat_eq, nat_lt, position, option_map}
-use Rattle.std.specs.List.{position_or_len}
+use Rattle.std.proofs.Common.{◌≡◌, ℕ, zero, suc, ◌<◌, ◌≤◌, inl, inr, List, length, get_or, slice_get, Option, None, Some, map, refl, sym, ap, ◌∙◌, arith}
+use Rattle.std.specs.Prelude.{nat_eq, position, option_map}
 use Rattle.std.proofs.lemmas.Bool.Decides.{leb_tells}
 use Rattle.std.proofs.lemmas.List.{length-map}
 use Rattle.std.proofs.lemmas.Option.{slice_get-get_or, get_or_from_slice_get, slice_get_within}
@@ -15,7 +14,7 @@ use Rattle.clif_names.specs.Chains.{look, Ending, chain, ComesTo, NeverEnds}
 use Rattle.clif_names.specs.Chains.Ending.{Ends, Lost}
 use Rattle.clif_names.specs.Aliases.{link_of}
 use Rattle.clif_names.proofs.LateWords.{IsLate}
-use Rattle.clif_names.proofs.ChainPlaces.{number, place, end_of, look_place, look_number, same_chain}
+use Rattle.clif_names.proofs.ChainPlaces.{number, place, end_of, look_place, same_chain}
 
 -- a chain has one end
 pub one_end : (links : List Link) (k j i : ℕ) (a b : End) → places.chain links k i ≡ Some a → places.chain links j i ≡ Some b → a ≡ b

@@ -1,5 +1,5 @@
 -- The words of each kind are those of the definitions in the text.
-use Rattle.std.proofs.Common.{◌≡◌, ℕ, List, [], ◌∷◌, ◌++◌, map, refl, sym, ap, ◌∙◌}
+use Rattle.std.proofs.Common.{◌≡◌, List, [], ◌∷◌, ◌++◌, map, refl, sym, ap, ◌∙◌}
 use Rattle.std.specs.Prelude.{fold, flat_map}
 use Rattle.std.proofs.lemmas.Grind.{fold-append, flat_map-append}
 use Rattle.clif_read.specs.declared.raw.RawDecl.{RawDecl}
@@ -11,7 +11,7 @@ use Rattle.clif_names.specs.declared.names.Names.{Names}
 use Rattle.clif_names.specs.declared.tables.Tables.{Tables}
 use Rattle.clif_names.specs.Taking.{no_names, declare}
 use Rattle.clif_names.specs.Defining.{no_tables, define_decl, define_value, define_block, defined}
-use Rattle.clif_names.specs.Definitions.{Kind, Slots, Sigs, Callees, Blocks, Values, definitions, slot_names, sig_names, callee_names, param_defs, line_defs, step_defs, block_steps, value_defs, names_of, Step, Param, Line}
+use Rattle.clif_names.specs.Definitions.{Kind, Slots, Sigs, Callees, Blocks, Values, definitions, slot_names, sig_names, callee_names, param_defs, line_defs, step_defs, block_steps, value_defs, names_of, Param, Line}
 use Rattle.clif_names.proofs.ListParts.{flat_map_map, flat_flat, flat_same}
 
 -- the words of a kind

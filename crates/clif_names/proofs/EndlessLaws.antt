@@ -1,6 +1,6 @@
 -- The first alias line whose chain never ends.
-use Rattle.std.proofs.Common.{◌≡◌, ℕ, zero, suc, ◌<◌, ◌⊎◌, inl, inr, List, [], ◌∷◌, length, slice_get, get_or, Option, None, Some, map, refl, sym, ap, ◌∙◌, arith}
-use Rattle.std.specs.Prelude.{fold, zip}
+use Rattle.std.proofs.Common.{◌≡◌, ℕ, zero, suc, ◌<◌, ◌⊎◌, List, [], ◌∷◌, length, slice_get, get_or, Option, Some, map, refl, sym, ap, ◌∙◌, arith}
+use Rattle.std.specs.Prelude.{zip}
 use Rattle.std.proofs.lemmas.List.{length-map}
 use Rattle.std.proofs.lemmas.Option.{slice_get-get_or, get_or_from_slice_get, slice_get_within}
 use Rattle.clif_names.specs.declared.firsts.Def.{Def}
@@ -8,7 +8,7 @@ use Rattle.clif_names.specs.declared.links.End.{End}
 use Rattle.clif_names.specs.declared.links.End.TheVariants.{At, Nowhere, Endless}
 use Rattle.clif_names.specs.declared.tables.Tables.{Tables}
 use Rattle.clif_names.specs.Aliases.{link_of, note_end, note_pair, least_endless}
-use Rattle.clif_names.specs.Chains.{look, chain, NeverEnds, IsEndless}
+use Rattle.clif_names.specs.Chains.{look, IsEndless}
 use Rattle.clif_names.specs.Least.{IsLeast}
 use Rattle.clif_names.specs.Links as places
 use Rattle.clif_names.proofs.ChainPlaces.{number, place, look_place, Firsts, chain_same}

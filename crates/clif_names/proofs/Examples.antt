@@ -1,16 +1,15 @@
 -- The worked texts have these faults and sizes: each is computed.
-use Rattle.std.proofs.Common.{◌≡◌, ℕ, zero, suc, inl, inr, true, List, [], ◌∷◌, take, refl, None, Some, arith}
+use Rattle.std.proofs.Common.{◌≡◌, ℕ, zero, suc, inl, inr, List, [], ◌∷◌, take, refl, None, Some, arith}
 use Rattle.clk_num.specs.Numbers.{signed, wrapped, fits}
 use Rattle.clif_lex.specs.declared.faults.TextKind.TheVariants.{Duplicate, Undefined, NumberRange, Untyped}
 use Rattle.clif_names.specs.Definitions.{Values, definitions, steps, defs_of, value_defs, names_of}
 use Rattle.clif_names.specs.Chains.{chain}
-use Rattle.clif_names.specs.Listed.{value_of, chains_end}
 use Rattle.clif_insts.specs.declared.raw.RawName.{RawName}
 use Rattle.clif_read.specs.declared.raw.RawFunction.{RawFunction}
 use Rattle.clif_read.specs.declared.raw.RawFuncName.TheVariants as func_name
 use Rattle.clif_names.specs.Rows as text
 use Rattle.clif_names.specs.Examples.{WorkedFaults, WorkedFreedom, WorkedSizes}
-use Rattle.clif_names.proofs.ListedLaws.{listed_first, listed_none, chains_number, undefined}
+use Rattle.clif_names.proofs.ListedLaws.{listed_first, listed_none, undefined}
 
 pub worked_freedom : WorkedFreedom
 unfolding chain signed wrapped fits

@@ -1,5 +1,5 @@
 -- The first fault is the first of the least ones of each kind.
-use Rattle.std.proofs.Common.{◌≡◌, ℕ, suc, ◌+◌, ◌<◌, ◌≤◌, ◌⊎◌, inl, inr, List, [], ◌∷◌, ◌++◌, length, take, get_or, Option, None, Some, refl, sym, ap, ◌∙◌, arith}
+use Rattle.std.proofs.Common.{◌≡◌, ℕ, suc, ◌+◌, ◌<◌, ◌≤◌, ◌⊎◌, inl, inr, List, [], ◌∷◌, ◌++◌, length, take, get_or, Option, None, Some, refl, ap, arith}
 use Rattle.std.proofs.lemmas.List.{take_more}
 use Rattle.std.proofs.lemmas.Bool.Decides.{leb_tells}
 use Rattle.clif_lex.specs.declared.faults.TextKind.{TextKind}
@@ -10,7 +10,7 @@ use Rattle.clif_names.specs.declared.first.NamesFault.{NamesFault}
 use Rattle.clif_names.specs.declared.least.LeastSpots.{LeastSpots}
 use Rattle.clif_names.specs.Faults.{FunctionFault, IsFault, IsOneTooMany, ListFault, InSomeFunction, RepeatsName, rank, Before}
 use Rattle.clif_names.specs.FirstOf.{IsFirstFault, or_earlier, first_of}
-use Rattle.clif_names.specs.Least.{IsLeast, earlier_of}
+use Rattle.clif_names.specs.Least.{IsLeast}
 use Rattle.clif_names.specs.LeastSpots.{AreLeast, joined, no_spots}
 use Rattle.clif_names.proofs.LeastLaws.{get_push, get_front, get_last, least_along, least_of_both}
 

@@ -1,27 +1,24 @@
 -- The least spots that are found in a function are those of its faults.
-use Rattle.std.proofs.Common.{◌≡◌, ℕ, zero, suc, ◌<◌, ◌≤◌, ◌⊎◌, inl, inr, true, false, Bool, List, [], ◌∷◌, ◌++◌, length, take, slice_get, Option, None, Some, map, ℤ, pos, refl, sym, ap, ◌∙◌, arith, append_assoc}
-use Rattle.std.specs.Prelude.{nat_eq, nat_le, nat_lt, fold, flat_map, position, if◌then◌else◌}
-use Rattle.std.proofs.lemmas.Bool.Decides.{leb_tells, eqb_tells}
+use Rattle.std.proofs.Common.{◌≡◌, ℕ, zero, suc, ◌<◌, ◌≤◌, ◌⊎◌, inl, inr, true, false, Bool, List, [], ◌∷◌, ◌++◌, slice_get, Option, None, Some, map, pos, refl, sym, ap, ◌∙◌, arith, append_assoc}
+use Rattle.std.specs.Prelude.{fold, flat_map, if◌then◌else◌}
+use Rattle.std.proofs.lemmas.Bool.Decides.{leb_tells}
 use Rattle.std.proofs.lemmas.List.{map-append}
 use Rattle.ir_core.specs.Size.{capped}
 use Rattle.ir_text.specs.Writable.{greatest_number}
-use Rattle.clif_lex.specs.declared.faults.TextKind.TheVariants.{Duplicate, Undefined, NumberRange, Untyped, TooLarge}
+use Rattle.clif_lex.specs.declared.faults.TextKind.TheVariants.{TooLarge}
 use Rattle.clif_insts.specs.declared.raw.RawName.{RawName}
 use Rattle.clif_read.specs.declared.raw.RawDecl.{RawDecl}
 use Rattle.clif_read.specs.declared.raw.RawDecl.TheVariants as decl
-use Rattle.clif_read.specs.declared.raw.RawBlock.{RawBlock}
 use Rattle.clif_read.specs.declared.raw.RawFunction.{RawFunction}
-use Rattle.clif_names.specs.declared.firsts.Def.{Def}
 use Rattle.clif_names.specs.declared.limits.Limit.TheVariants.{Entity}
 use Rattle.clif_names.specs.declared.limits.Limited.{Limited}
 use Rattle.clif_names.specs.declared.links.End.{End}
 use Rattle.clif_names.specs.declared.names.Names.{Names}
-use Rattle.clif_names.specs.declared.tables.Tables.{Tables}
 use Rattle.clif_names.specs.declared.uses.Uses.{Uses}
 use Rattle.clif_names.specs.Aliases.{link_of, least_endless}
 use Rattle.clif_names.specs.Chains.{IsEndless}
 use Rattle.clif_names.specs.Defining.{no_tables, define_value, defined}
-use Rattle.clif_names.specs.Definitions.{Kind, Slots, Sigs, Callees, Blocks, Values, all_kinds, definitions, steps, value_defs, block_steps, lines}
+use Rattle.clif_names.specs.Definitions.{Kind, Slots, Sigs, Callees, Blocks, Values, all_kinds, definitions, steps, value_defs, lines}
 use Rattle.clif_read.specs.Marks.{name_spot}
 use Rattle.clif_names.specs.Faults.{FunctionFault}
 use Rattle.clif_names.specs.Least.{IsLeast, earlier_of, earlier_spot}
@@ -33,14 +30,14 @@ use Rattle.clif_names.specs.Sizes.{raw_size, greatest_size}
 use Rattle.clif_names.specs.Taking.{no_names, declare, refer}
 use Rattle.clif_names.specs.Typing.{IsUntyped}
 use Rattle.clif_names.specs.Uses.{uses}
-use Rattle.clif_names.specs.Using.{table_at, note_name, use_decl, use_block, use_function, uses_of}
+use Rattle.clif_names.specs.Using.{table_at, note_name, use_decl, use_function, uses_of}
 use Rattle.clif_names.specs.Words.{Repeats, IsMissing}
 use Rattle.clif_names.proofs.ChainPlaces.{number, Firsts, firsts}
 use Rattle.clif_names.proofs.DefiningLaws.{names_at, defined_names, defined_values}
 use Rattle.clif_names.proofs.EndlessLaws.{endless_least}
 use Rattle.clif_names.proofs.LateLaws.{use_step, steps_used, UntypedAt, late}
 use Rattle.clif_names.proofs.LeastLaws.{least_of_both, least_along, SomeBad, least_of_list, add_spot, add_none}
-use Rattle.clif_names.proofs.TakingLaws.{IsAbove, Holds, Refers, declared, taken}
+use Rattle.clif_names.proofs.TakingLaws.{IsAbove, declared, taken}
 use Rattle.clif_names.proofs.UntypedLaws.{untyped_up, untyped_down}
 use Rattle.clif_names.proofs.UsingLaws.{each_kind, Adds, adds_function}
 

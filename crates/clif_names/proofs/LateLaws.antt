@@ -1,20 +1,18 @@
 -- The walk over a function's lines finds the first opcode whose type is asked for too early.
-use Rattle.std.proofs.Common.{◌≡◌, ℕ, zero, suc, ◌+◌, ◌<◌, ◌≤◌, ◌⊎◌, ◌≢◌, Bool, true, false, List, [], ◌∷◌, ◌++◌, length, length-append, take, slice_get, Option, None, Some, map, refl, sym, ap, subst, ◌∙◌, arith, inl, inr, append_assoc}
-use Rattle.std.specs.Prelude.{nat_eq, nat_le, fold, flat_map, position}
+use Rattle.std.proofs.Common.{◌≡◌, ℕ, zero, suc, ◌+◌, ◌<◌, ◌≤◌, ◌⊎◌, Bool, true, false, List, [], ◌∷◌, ◌++◌, length, length-append, take, slice_get, Option, None, Some, map, refl, sym, ap, subst, ◌∙◌, arith, inl, inr, append_assoc}
+use Rattle.std.specs.Prelude.{nat_eq, fold, flat_map, position}
 use Rattle.std.proofs.lemmas.Grind.{fold-append, flat_map-append}
 use Rattle.std.proofs.lemmas.Bool.{eq-eqb}
 use Rattle.std.proofs.lemmas.Bool.Decides.{eqb_tells, leb_tells}
 use Rattle.std.proofs.lemmas.List.{append-nil, map-append}
-use Rattle.std.proofs.lemmas.Option.{slice_get_past, slice_get_within}
+use Rattle.std.proofs.lemmas.Option.{slice_get_within}
 use Rattle.clif_insts.specs.declared.raw.RawName.{RawName}
 use Rattle.clif_insts.specs.declared.raw.RawArg.{RawArg}
 use Rattle.clif_insts.specs.declared.raw.RawArg.TheVariants as arg
 use Rattle.clif_insts.specs.declared.raw.RawTarget.{RawTarget}
-use Rattle.clif_insts.specs.declared.raw.RawOperands.{RawOperands}
 use Rattle.clif_insts.specs.declared.raw.RawInst.{RawInst}
 use Rattle.clif_read.specs.declared.raw.RawTag.{RawTag}
 use Rattle.clif_read.specs.declared.raw.RawTag.TheVariants as tag
-use Rattle.clif_read.specs.declared.raw.RawLine.{RawLine}
 use Rattle.clif_read.specs.declared.raw.RawLine.TheVariants as line
 use Rattle.clif_read.specs.declared.raw.RawBlock.{RawBlock}
 use Rattle.clif_names.specs.declared.firsts.Def.{Def}
@@ -27,9 +25,9 @@ use Rattle.clif_names.specs.Least.{IsLeast, earlier_spot}
 use Rattle.clif_names.specs.Taking.{no_names, declare, refer}
 use Rattle.clif_names.specs.Typing.{asks, step_inst}
 use Rattle.clif_names.specs.Uses.{operand_values, operand_targets}
-use Rattle.clif_names.specs.Using.{use_tag, use_arg, use_target, note_operands, use_operands, is_past, is_late_at, ask_operand, ask_type, next_count, define, use_line, define_param, use_block}
+use Rattle.clif_names.specs.Using.{use_tag, use_arg, use_target, note_operands, use_operands, is_late_at, ask_operand, ask_type, next_count, define, use_line, define_param, use_block}
 use Rattle.clif_names.proofs.LeastLaws.{get_push, get_front, get_last, least_add, least_same}
-use Rattle.clif_names.proofs.ListParts.{fold_map, fold_flat}
+use Rattle.clif_names.proofs.ListParts.{fold_map}
 use Rattle.clif_names.proofs.WordPlaces.{at, at_end, position_new, position_kept}
 use Rattle.clif_names.proofs.LateWords.{IsLate}
 

@@ -1,12 +1,11 @@
 -- The links of a function lead to its words.
-use Rattle.std.proofs.Common.{◌≡◌, ℕ, zero, suc, ◌<◌, List, [], ◌∷◌, length, get_or, Option, None, Some, map, refl, sym, ap, ◌∙◌, arith}
+use Rattle.std.proofs.Common.{◌≡◌, ℕ, zero, suc, ◌<◌, List, [], ◌∷◌, length, get_or, Option, None, Some, map, refl, ap, arith}
 use Rattle.std.specs.Prelude.{nat_eq, fold, position}
 use Rattle.std.proofs.lemmas.List.{length-map}
 use Rattle.clif_insts.specs.declared.raw.RawName.{RawName}
 use Rattle.clif_read.specs.declared.raw.RawFunction.{RawFunction}
 use Rattle.clif_names.specs.declared.firsts.Def.{Def}
-use Rattle.clif_names.specs.declared.links.Link.{Link}
-use Rattle.clif_names.specs.declared.links.Link.TheVariants.{Value, Missing, To}
+use Rattle.clif_names.specs.declared.links.Link.TheVariants.{Value, To}
 use Rattle.clif_names.specs.declared.names.Names.{Names}
 use Rattle.clif_names.specs.Aliases.{to_place, link_to, link_of}
 use Rattle.clif_names.specs.Defining.{no_tables, define_value, defined}

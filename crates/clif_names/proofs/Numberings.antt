@@ -14,7 +14,7 @@ use Rattle.clif_read.specs.declared.raw.RawLine.TheVariants as line
 use Rattle.clif_read.specs.declared.raw.RawBlock.{RawBlock}
 use Rattle.clif_read.specs.declared.raw.RawFunction.{RawFunction}
 use Rattle.clif_names.specs.declared.firsts.Def.{Def}
-use Rattle.clif_names.specs.Definitions.{Values, Param, Line, value_def, step_defs, block_steps, steps, defs_of, value_defs, names_of, lines}
+use Rattle.clif_names.specs.Definitions.{Values, Param, Line, value_def, step_defs, block_steps, defs_of, value_defs, names_of, lines}
 use Rattle.clif_names.specs.FunctionNames.{NoFunctionFault}
 use Rattle.clif_names.specs.Uses.{uses, line_uses, decl_uses}
 use Rattle.clif_names.specs.Words.{IsDefined, Repeats, place_in}

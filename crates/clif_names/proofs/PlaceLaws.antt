@@ -1,15 +1,13 @@
 -- The names of a function without a fault give each word the place of its definition.
-use Rattle.std.proofs.Common.{◌≡◌, ℕ, suc, ◌<◌, ◌≤◌, List, [], ◌∷◌, length, refl, sym, ap, ◌∙◌, arith, inl, inr}
+use Rattle.std.proofs.Common.{◌≡◌, ℕ, suc, ◌<◌, List, [], ◌∷◌, length, refl, sym, ap, ◌∙◌, arith, inl, inr}
 use Rattle.std.specs.Prelude.{nat_eq}
 use Rattle.std.proofs.lemmas.Bool.{eq-eqb}
 use Rattle.std.proofs.lemmas.Bool.Decides.{eqb_tells, leb_tells}
 use Rattle.clif_lex.specs.declared.faults.TextKind.TheVariants.{Duplicate}
-use Rattle.clif_read.specs.declared.raw.RawFunction.{RawFunction}
-use Rattle.clif_names.specs.declared.function.FunctionNames.{FunctionNames}
 use Rattle.clif_names.specs.declared.names.Names.{Names}
 use Rattle.clif_names.specs.declared.uses.Uses.{Uses}
-use Rattle.clif_names.specs.Definitions.{Kind, definitions}
-use Rattle.clif_names.specs.FunctionNames.{NoFunctionFault, AreNamesOf, WordsPlaced}
+use Rattle.clif_names.specs.Definitions.{definitions}
+use Rattle.clif_names.specs.FunctionNames.{WordsPlaced}
 use Rattle.clif_names.specs.Taking.{place_or_count}
 use Rattle.clif_names.specs.Uses.{uses}
 use Rattle.clif_names.specs.Using.{table_at}

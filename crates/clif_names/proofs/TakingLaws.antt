@@ -1,6 +1,6 @@
 -- What is kept of the words of a kind says which are defined, and where the first faults among them stand.
-use Rattle.std.proofs.Common.{◌≡◌, ℕ, zero, suc, ◌+◌, ◌<◌, ◌≤◌, ◌⊎◌, ◌≢◌, Bool, true, false, List, [], ◌∷◌, ◌++◌, length, slice_get, Option, None, Some, map, refl, sym, ap, ◌∙◌, arith, inl, inr, append_assoc}
-use Rattle.std.specs.Prelude.{nat_eq, nat_lt, fold, position}
+use Rattle.std.proofs.Common.{◌≡◌, ℕ, suc, ◌+◌, ◌<◌, ◌⊎◌, List, [], ◌∷◌, ◌++◌, length, slice_get, Option, None, Some, map, refl, sym, ap, ◌∙◌, arith, inl, inr, append_assoc}
+use Rattle.std.specs.Prelude.{nat_eq, fold, position}
 use Rattle.std.proofs.lemmas.Bool.{eq-eqb}
 use Rattle.std.proofs.lemmas.Bool.Decides.{eqb_tells, leb_tells}
 use Rattle.std.proofs.lemmas.List.{append-nil, map-append}
@@ -8,8 +8,8 @@ use Rattle.std.proofs.lemmas.Option.{slice_get_within}
 use Rattle.ir_text.specs.Writable.{greatest_number}
 use Rattle.clif_insts.specs.declared.raw.RawName.{RawName}
 use Rattle.clif_names.specs.declared.names.Names.{Names}
-use Rattle.clif_names.specs.Least.{IsLeast, earlier_spot}
-use Rattle.clif_names.specs.Taking.{no_names, is_new, see, declare, refer}
+use Rattle.clif_names.specs.Least.{IsLeast}
+use Rattle.clif_names.specs.Taking.{no_names, see, declare, refer}
 use Rattle.clif_names.specs.Words.{Repeats, IsDefined, IsMissing}
 use Rattle.clif_names.proofs.LeastLaws.{get_push, get_front, get_last, least_add, least_same}
 use Rattle.clif_names.proofs.WordPlaces.{at_end, position_new, position_more}

@@ -3,13 +3,10 @@ use Rattle.std.proofs.Common.{◌≡◌, ℕ, suc, ◌+◌, ◌<◌, ◌≤◌, 
 use Rattle.std.specs.Prelude.{nat_eq, fold, position}
 use Rattle.std.proofs.lemmas.Bool.Decides.{eqb_tells}
 use Rattle.std.proofs.lemmas.List.{take-append-drop}
-use Rattle.clif_insts.specs.declared.raw.RawName.{RawName}
 use Rattle.clif_read.specs.declared.raw.RawFunction.{RawFunction}
-use Rattle.clif_names.specs.declared.firsts.Def.{Def}
 use Rattle.clif_names.specs.declared.links.End.{End}
 use Rattle.clif_names.specs.declared.tables.Tables.{Tables}
 use Rattle.clif_names.specs.Aliases.{link_of}
-use Rattle.clif_names.specs.Chains.{Ends, chain}
 use Rattle.clif_names.specs.Definitions.{Values, definitions, steps, defs_of, names_of, value_defs}
 use Rattle.clif_names.specs.Links as places
 use Rattle.clif_names.specs.Taking.{no_names, declare}

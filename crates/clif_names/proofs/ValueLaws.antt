@@ -6,16 +6,14 @@ use Rattle.std.proofs.lemmas.List.{append-nil, length-map, map-append, take_all}
 use Rattle.std.proofs.lemmas.Option.{slice_get-get_or, slice_get_within}
 use Rattle.ir_core.specs.Size.{total}
 use Rattle.clif_insts.specs.declared.raw.RawName.{RawName}
-use Rattle.clif_read.specs.declared.raw.RawFunction.{RawFunction}
 use Rattle.clif_names.specs.declared.firsts.Def.{Def}
 use Rattle.clif_names.specs.declared.links.End.{End}
-use Rattle.clif_names.specs.declared.links.End.TheVariants.{At, Nowhere, Endless}
 use Rattle.clif_names.specs.declared.names.Names.{Names}
 use Rattle.clif_names.specs.declared.tables.Tables.{Tables}
 use Rattle.clif_names.specs.declared.uses.Uses.{Uses}
 use Rattle.clif_names.specs.Aliases.{AreCounts, link_of, value_count}
 use Rattle.clif_names.specs.Chains.{Ending, Ends, Lost, look, chain, own_name, numbered, HasNumber, IsNumbering}
-use Rattle.clif_names.specs.Defining.{no_tables, define_value, defined}
+use Rattle.clif_names.specs.Defining.{no_tables, define_value}
 use Rattle.clif_names.specs.Definitions.{Values, definitions, value_defs, names_of}
 use Rattle.clif_names.specs.FunctionNames.{value_at, ValuesNumbered}
 use Rattle.clif_names.specs.Links as places

@@ -1,5 +1,5 @@
 -- What is wrong with the worked texts of `Rows`, and how large their functions are.
-use Rattle.std.specs.Prelude.{◌≡◌, map, List, [], ◌∷◌}
+use Rattle.std.specs.Prelude.{◌≡◌, map, [], ◌∷◌}
 use Rattle.clif_lex.specs.declared.faults.TextKind.TheVariants.{Duplicate, Undefined, NumberRange, Untyped}
 use Rattle.clif_names.specs.Faults.{NoFault, FirstFault}
 use Rattle.clif_names.specs.Sizes.{raw_size}

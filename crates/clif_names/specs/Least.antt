@@ -1,5 +1,5 @@
 -- The least spot of a set of spots.
-use Rattle.std.specs.Prelude.{◌≡◌, ℕ, ◌≤◌, nat_le, Option, None, Some, if◌then◌else◌}
+use Rattle.std.specs.Prelude.{ℕ, ◌≤◌, nat_le, Option, None, Some, if◌then◌else◌}
 
 -- the answer is the least spot of the set, or there is none
 abbrev pub IsLeast : (ℕ → Type 0) → Option ℕ → Type 0

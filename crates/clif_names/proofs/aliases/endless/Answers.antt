@@ -1,5 +1,5 @@
-use Rattle.std.proofs.Common.{◌≡◌, ℕ, List, [], ◌∷◌, length, refl, sym, ap, ◌∙◌, arith, inl, inr}
-use Rattle.std.specs.Prelude.{zip, fold, Option}
+use Rattle.std.proofs.Common.{◌≡◌, List, [], ◌∷◌, length, refl, sym, ap, ◌∙◌, arith, inl, inr}
+use Rattle.std.specs.Prelude.{zip, fold}
 use Rattle.clif_names.specs.Aliases.{note_pair}
 use Rattle.clif_names.specs.declared.firsts.Def.{Def}
 use Rattle.clif_names.specs.declared.links.End.{End}

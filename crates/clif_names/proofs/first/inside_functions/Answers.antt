@@ -1,8 +1,6 @@
 use Rattle.std.proofs.Common.{◌≤◌, length, arith}
 use Rattle.std.proofs.lemmas.List.{take_all}
-use Rattle.clif_names.specs.Faults.{InSomeFunction}
-use Rattle.clif_names.specs.LeastSpots.{AreLeast}
-use Rattle.clif_names.proofs.FirstLaws.{one_more_function, no_functions}
+use Rattle.clif_names.proofs.FirstLaws.{one_more_function}
 use Rattle.clif_names.proofs.first.inside_functions.Goals as goal
 
 pub loop-func-preserved : goal.loop-func-preserved

@@ -1,7 +1,5 @@
-use Rattle.std.proofs.Common.{◌≡◌, ◌<◌, ◌≤◌, length, take, subst, arith}
+use Rattle.std.proofs.Common.{◌<◌, ◌≤◌, length, arith}
 use Rattle.std.proofs.lemmas.List.{take_all}
-use Rattle.clif_names.specs.Faults.{IsOneTooMany}
-use Rattle.clif_names.specs.Least.{IsLeast}
 use Rattle.clif_names.proofs.NameSetLaws.{many_next, few_next}
 use Rattle.clif_names.proofs.first.one_too_many.Goals as goal
 use Rattle.clif_names.proofs.first.one_too_many.Goals.{then-place-ge-MOST_FUNCTIONS, else-place-ge-MOST_FUNCTIONS}

@@ -1,4 +1,4 @@
-use Rattle.std.proofs.Common.{◌≡◌, ◌≤◌, length, arith}
+use Rattle.std.proofs.Common.{◌≤◌, length, arith}
 use Rattle.std.proofs.lemmas.List.{take_all}
 use Rattle.clif_names.proofs.NameSetLaws.{names_more, repeated_more, repeated_same, when_new, when_old}
 use Rattle.clif_names.proofs.repeated.repeated_name.Goals as goal

@@ -1,4 +1,4 @@
-use Rattle.std.proofs.Common.{arith, length, ap}
+use Rattle.std.proofs.Common.{arith, ap}
 use Rattle.clif_names.specs.Sizes as spec
 use Rattle.ir_core.proofs.Sizing.{total_more}
 use Rattle.clif_names.proofs.sizes.blocks_size.Goals as goal

@@ -1,4 +1,4 @@
-use Rattle.std.proofs.Common.{◌≡◌, ◌+◌, length, take, map}
+use Rattle.std.proofs.Common.{◌≡◌, take}
 use Rattle.ir_core.specs.Size.{capped, total}
 use Rattle.clif_names.specs.Sizes as spec
 use Rattle.clif_names.proofs.sizes.blocks_size.Given as goal

@@ -1,10 +1,8 @@
-use Rattle.std.proofs.Common.{◌≡◌, List, map, refl, sym, ap, subst, ◌∙◌}
-use Rattle.clif_names.specs.declared.firsts.Def.{Def}
-use Rattle.clif_names.specs.declared.links.Link.{Link}
+use Rattle.std.proofs.Common.{◌≡◌, map, refl, sym, ap, subst, ◌∙◌}
 use Rattle.clif_names.specs.declared.tables.Tables.{Tables}
-use Rattle.clif_names.specs.Aliases.{link_of, least_endless}
+use Rattle.clif_names.specs.Aliases.{link_of}
 use Rattle.clif_names.specs.Defining.{defined}
-use Rattle.clif_names.specs.Links.{InRange, AreEnds}
+use Rattle.clif_names.specs.Links.{InRange}
 use Rattle.clif_names.proofs.LinkLaws.{links_in_range}
 use Rattle.clif_names.proofs.function.FunctionNames.of.Goals as goal
 

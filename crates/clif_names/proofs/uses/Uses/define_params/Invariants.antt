@@ -1,4 +1,4 @@
-use Rattle.std.proofs.Common.{◌≡◌, take, map}
+use Rattle.std.proofs.Common.{◌≡◌, take}
 use Rattle.std.specs.Prelude.{fold}
 use Rattle.clif_names.specs.Using as spec
 use Rattle.clif_names.proofs.uses.Uses.define_params.Given as goal

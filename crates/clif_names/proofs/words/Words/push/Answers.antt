@@ -1,4 +1,4 @@
-use Rattle.std.proofs.Common.{◌≡◌, length, nat_eq, ℕ, Option, None, ap, ◌∙◌, cond, Some}
+use Rattle.std.proofs.Common.{◌≡◌, length, nat_eq, ℕ, None, ap, ◌∙◌, cond, Some}
 use Rattle.std.specs.Prelude.{position}
 use Rattle.indexmap.specs.IndexMap.{get}
 use Rattle.clif_names.proofs.DenseLaws.{near_written, far_written}

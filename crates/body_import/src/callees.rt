@@ -103,7 +103,8 @@ pub fn callee_places(
 ) -> Result<Places, AllocError>
     requires few { length callees.now < 2 ^ 32 - 1 }
     requires in_range { Each (λ c. c.sig < length first.now) callees.now }
-    ensures { IfOk result (λ places. Knows 0 (map (λ c. key_of_callee (get_or first.now c.sig 0) c) callees.now) places) }
+    ensures { IfOk result
+        (λ places. Knows 0 (map (λ c. key_of_callee (get_or first.now c.sig 0) c) callees.now) places) }
 {
     let mut places = Places::new(alloc);
     let mut place = 0;

@@ -17,4 +17,5 @@ pub mod ResultTypes
 pub mod UsesUnder
 pub mod BodyRanges
 pub mod BodyDefinitions
-pub mod PieceReady
+pub mod Ready
+pub mod Preparing

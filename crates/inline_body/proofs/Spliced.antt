@@ -11,15 +11,15 @@ use Rattle.ir_semantics.specs.Renaming.{Renaming, typed_under, line_under, block
 use Rattle.ir_semantics.specs.Splice.{Splicing, Kind, kind_of, caller_names, callee_names, body, jump_in, cut_block, after_block, after_blocks, spliced_blocks, new_types, spliced}
 use Rattle.ir_core.specs.Viewed.{line_of}
 use Rattle.inline_body.specs.WithBody.{with_body}
-use Rattle.inline_body.specs.declared.piece.Piece.{Piece}
-use Rattle.inline_body.specs.Pieces.{IsPieceOf, appended, body_of}
+use Rattle.inline_body.specs.declared.piece.PreparedBody.{PreparedBody}
+use Rattle.inline_body.specs.Prepared.{IsBodyOf, appended, body_of}
 use Rattle.inline_body.proofs.OwnNames.{values_kept, lines_kept, block_kept, blocks_kept}
 
 types_kept : (u : Renaming) → ((v : ℕ) → u.value v ≡ v) → (ts : List (ℕ × Ty)) → map (typed_under u) ts ≡ ts
 types_kept u h [] = refl
 types_kept u h (t ∷ ts) = ap₂ (λ (v : ℕ) (xs : List (ℕ × Ty)). (v, t.1) ∷ xs) (h t.0) (types_kept u h ts)
 
-module _ (p : Splicing) (f : Function) (site : Point) (q : Piece) (is : IsPieceOf p f site q) where
+module _ (p : Splicing) (f : Function) (site : Point) (q : PreparedBody) (is : IsBodyOf p f site q) where
   sig_kept : (k : ℕ) → (caller_names p).sig k ≡ k
   sig_kept k = refl
 

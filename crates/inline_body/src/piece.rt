@@ -1,18 +1,18 @@
-//! A piece, and how it is put into a caller.
+//! A callee's body prepared for a call, and how it is put into the caller.
 ghost use Rattle.std.specs.Prelude.{◌≡◌, slice_get, Some};
 ghost use Rattle.ir_semantics.specs.Splice.{Splicing, spliced};
 ghost use Rattle.ir_core.specs.Edits.{HasRoom, lines_of};
 ghost use Rattle.ir_core.specs.Viewed.{line_of};
-ghost use Rattle.inline_body.specs.Pieces.{IsPieceOf, IsReady, room_of};
+ghost use Rattle.inline_body.specs.Prepared.{IsBodyOf, IsReady, room_of};
 
 use crate::blocks::BlockLines;
 use crate::placing::put_body;
 use ir_core::{Callee, Func, InstData, List, Point, Sig, SlotDecl, Ty, Value};
 
-/// What a splice puts into its caller: declarations, the jump into the body, the site's results, the parameters of the
-/// body's first block and of its others, and the lines of all.
+/// A callee's body as it stands in its caller in the place of a plain call: new declarations, the jump into the body,
+/// the site's results, the parameters of the body's first block and of its others, and the lines of all.
 #[derive(Drop)]
-pub struct Piece {
+pub struct PreparedBody {
     pub slots: List<SlotDecl>,
     pub sigs: List<Sig>,
     pub callees: List<Callee>,
@@ -24,16 +24,16 @@ pub struct Piece {
     pub block_lines: List<BlockLines>,
 }
 
-/// Puts a piece in the place of a plain call, and answers the call: the function is then the splice. No memory is
-/// taken.
-pub fn put_piece(caller: &mut Func, site: Point, piece: Piece) -> InstData
-    requires room { HasRoom (room_of piece) caller.old.room }
-    requires ready { IsReady caller.old.function site piece }
-    ensures spliced { (p : Splicing) → IsPieceOf p caller.old.function site piece → caller.new.function ≡ spliced p }
+/// Puts a prepared body in the place of a plain call, and answers the call: the function is then the splice. No memory
+/// is taken.
+pub fn put_piece(caller: &mut Func, site: Point, body: PreparedBody) -> InstData
+    requires room { HasRoom (room_of body) caller.old.room }
+    requires ready { IsReady caller.old.function site body }
+    ensures spliced { (p : Splicing) → IsBodyOf p caller.old.function site body → caller.new.function ≡ spliced p }
     ensures call { slice_get (lines_of site.block caller.old.function.blocks) site.index ≡ Some (line_of result) }
 {
     let _ = caller.values();
-    let Piece {
+    let PreparedBody {
         slots,
         sigs,
         callees,
@@ -43,7 +43,7 @@ pub fn put_piece(caller: &mut Func, site: Point, piece: Piece) -> InstData
         first,
         block_params,
         block_lines,
-    } = piece;
+    } = body;
     caller.append(slots, sigs, callees, types);
     put_body(
         caller,

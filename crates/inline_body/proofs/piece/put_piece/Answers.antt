@@ -4,7 +4,7 @@ use Rattle.ir_core.specs.Lookup.{definitions}
 use Rattle.ir_core.specs.Lists.{In}
 use Rattle.ir_core.specs.Viewed.{line_of}
 use Rattle.inline_body.specs.WithBody.{with_body}
-use Rattle.inline_body.specs.Pieces.{body_of}
+use Rattle.inline_body.specs.Prepared.{body_of}
 use Rattle.inline_body.proofs.Spliced.{splice_is}
 use Rattle.inline_body.proofs.piece.put_piece.Goals as goal
 
@@ -16,7 +16,7 @@ put_body-requires-clause-lines_undefined c = λ v i j. c.requires.ready.lines_un
 
 pub returns-clause-spliced : goal.returns-clause-spliced
 returns-clause-spliced c = λ p is.
-    let q = c.args.piece in
+    let q = c.args.body in
     c.put_body.ensures.body
     ∙ (ap (λ (z : Function). record z { blocks = with_body c.args.site.block c.args.site.index (line_of q.jump) (body_of q) (length z.blocks + 1) q.results z.blocks }) c.append.ensures.body
     ∙ sym (splice_is p c.args.caller.now.function c.args.site q is))

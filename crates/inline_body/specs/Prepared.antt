@@ -1,4 +1,4 @@
--- A piece is what a splice puts into its caller.
+-- A prepared body is what a splice puts into its caller.
 use Rattle.std.specs.Prelude.{◌≡◌, ℕ, suc, ◌+◌, ◌-◌, ◌<◌, ◌^◌, List, [], ◌∷◌, ◌++◌, length, map, take, drop, slice_get}
 use Rattle.std.specs.Prelude.{Some}
 use Rattle.std.specs.List.{enumerate_from}
@@ -16,10 +16,10 @@ use Rattle.ir_semantics.specs.Renaming.{typed_under}
 use Rattle.ir_semantics.specs.Splice.{Splicing, Within, kind_of, callee_names, body, jump_in, new_types}
 use Rattle.ir_core.specs.Viewed.{line_of}
 use Rattle.inline_body.specs.Inlined.{blocks_from}
-use Rattle.inline_body.specs.declared.piece.Piece.{Piece}
+use Rattle.inline_body.specs.declared.piece.PreparedBody.{PreparedBody}
 
--- the function with a piece's declarations
-abbrev pub appended : Function → Piece → Function
+-- the function with a prepared body's declarations
+abbrev pub appended : Function → PreparedBody → Function
 appended f q =
     record f {
       slots = f.slots ++ q.slots;
@@ -29,12 +29,12 @@ appended f q =
           ++ enumerate_from (length f.types) q.types;
     }
 
-abbrev pub body_of : Piece → List Block
+abbrev pub body_of : PreparedBody → List Block
 body_of q = blocks_from (q.first ∷ q.block_params) q.block_lines
 
--- the piece is what the splice p puts into f at a plain call, where the caller's numbers stay and the block behind the
+-- the body is what the splice p puts into f at a plain call, where the caller's numbers stay and the block behind the
 -- body is the second new one
-pub record IsPieceOf (p : Splicing) (f : Function) (site : Point) (q : Piece) : Type 0 where
+pub record IsBodyOf (p : Splicing) (f : Function) (site : Point) (q : PreparedBody) : Type 0 where
   pub caller : p.caller ≡ f
   pub at : p.at ≡ site.block
   pub before : p.before ≡ take site.index (lines_of site.block f.blocks)
@@ -52,8 +52,8 @@ pub record IsPieceOf (p : Splicing) (f : Function) (site : Point) (q : Piece) : 
   pub body : body p p.callee.blocks ≡ body_of q
   pub results : p.site.results ≡ q.results
 
--- the piece can be put into f at the site, where there is room for it
-pub record IsReady (f : Function) (site : Point) (q : Piece) : Type 0 where
+-- the body can be put into f at the site, where there is room for it
+pub record IsReady (f : Function) (site : Point) (q : PreparedBody) : Type 0 where
   pub few_slots : length f.slots + length q.slots < 2 ^ 32 - 1
   pub few_sigs : length f.sigs + length q.sigs < 2 ^ 32 - 1
   pub few_callees : length f.callees + length q.callees < 2 ^ 32 - 1
@@ -77,8 +77,8 @@ pub record IsReady (f : Function) (site : Point) (q : Piece) : Type 0 where
   pub lines_undefined : (v : ℕ) → In v (line_definitions (lines_in q.block_lines)) → In v (definitions f.blocks) → ⊥
   pub apart : (v : ℕ) → In v (line_definitions (lines_in q.block_lines)) → In v (all_of (q.first ∷ q.block_params)) → ⊥
 
--- the room that a piece takes
-abbrev pub room_of : Piece → Room
+-- the room that a body takes
+abbrev pub room_of : PreparedBody → Room
 room_of q =
     record {
       slots = length q.slots;

@@ -24,13 +24,13 @@ use Rattle.body_import.specs.declared.declarations.Import.{Import}
 use Rattle.body_import.specs.Imports.{IsImportOf}
 use Rattle.body_import.proofs.FirstPlaces.{each_at}
 use Rattle.inline_body.specs.declared.names.Names.{Names}
-use Rattle.inline_body.specs.declared.piece.Piece.{Piece}
+use Rattle.inline_body.specs.declared.piece.PreparedBody.{PreparedBody}
 use Rattle.inline_body.specs.Named.{names_of}
 use Rattle.inline_body.specs.Dense.{after_number, numbers_along}
 use Rattle.inline_body.specs.Inlined.{jump_line, results_from, inlined_block, blocks_from, BlockReached}
 use Rattle.inline_body.specs.WithBody.{empty_from, all_of, lines_in, numbers_of, counts_with}
 use Rattle.inline_body.specs.Within.{Numbers}
-use Rattle.inline_body.specs.Pieces.{IsPieceOf, IsReady, appended}
+use Rattle.inline_body.specs.Prepared.{IsBodyOf, IsReady, appended}
 use Rattle.inline_body.specs.Results.{tail_calls, tail_calls_in, starts_along, repeated, OneTail}
 use Rattle.inline_body.specs.PlainCall.{IsPlainCall, CanSplice, Keeps, splicing_at, IsPrepared, IsSplice}
 use Rattle.inline_body.proofs.Along.{fits}
@@ -143,7 +143,7 @@ is_within (TryCall t sig args normal table) h = absurd h
 
 -- ---- what `prepare` makes
 
-pub record IsMade (f g : Function) (l : Line) (i : Import) (n : Names) (starts : List ℕ) (ts : List Ty) (q : Piece) : Type 0 where
+pub record IsMade (f g : Function) (l : Line) (i : Import) (n : Names) (starts : List ℕ) (ts : List Ty) (q : PreparedBody) : Type 0 where
   pub values : n.values ≡ length f.types
   pub slots : n.slots ≡ length f.slots
   pub blocks : length n.blocks ≡ length g.blocks
@@ -184,7 +184,7 @@ module _ (f g : Function) (at : Point) (sf : IsSound f) (sg : IsSound g) (can : 
         blocks_reached n (counts_of g) reach starts (length can.line.results) long g.blocks sg.blocks (numbers_below g.blocks (length g.blocks) sg.block_range)
         (starts_fit starts (length can.line.results) (length f.types + length g.types + length can.line.results * tail_calls_in g.blocks) g.blocks (omega (arith, fv)) ends)
 
-  module _ (i : Import) (imp : IsImportOf f g i) (n : Names) (starts : List ℕ) (ts : List Ty) (q : Piece) (made : IsMade f g can.line i n starts ts q) where
+  module _ (i : Import) (imp : IsImportOf f g i) (n : Names) (starts : List ℕ) (ts : List Ty) (q : PreparedBody) (made : IsMade f g can.line i n starts ts q) where
     abbrev count : ℕ
     count = length can.line.results
 
@@ -321,8 +321,8 @@ module _ (f g : Function) (at : Point) (sf : IsSound f) (sg : IsSound g) (can : 
     jump_is : jump_in p ≡ line_of q.jump
     jump_is = ap₂ (λ (x : ℕ) (y : List ℕ). jump_line x y) (first_is g.blocks can.has_block made.numbers) (same_list (args_of can.line.inst)) ∙ sym made.jump
 
-    is_piece : IsPieceOf p f at q
-    is_piece =
+    is_body : IsBodyOf p f at q
+    is_body =
         record {
           caller = refl;
           at = refl;
@@ -342,7 +342,7 @@ module _ (f g : Function) (at : Point) (sf : IsSound f) (sg : IsSound g) (can : 
         }
 
     pub prepared : IsPrepared f g at q
-    prepared = record { ready = ready; line = can.line; found = can.found; naming = naming; keeps = record { caller_value = λ v. refl; caller_block = λ b. refl; after = refl }; is_piece = is_piece }
+    prepared = record { ready = ready; line = can.line; found = can.found; naming = naming; keeps = record { caller_value = λ v. refl; caller_block = λ b. refl; after = refl }; is_body = is_body }
 
 -- ---- the splice by its place
 

@@ -1,0 +1,119 @@
+//! A callee's body made ready for a plain call, before the caller is changed.
+ghost use Rattle.std.specs.Prelude.{◌≡◌, ℕ, ◌+◌, ◌-◌, ◌<◌, ◌^◌, length, IfOk};
+ghost use Rattle.ir_core.specs.Viewed.{instruction_of};
+ghost use Rattle.ir_semantics.specs.Splice.{args_of};
+ghost use Rattle.body_import.specs.Imports.{IsIndexOf};
+ghost use Rattle.inline_body.specs.WithBody.{lines_in};
+ghost use Rattle.inline_body.specs.Prepared.{room_of};
+ghost use Rattle.inline_body.specs.PlainCall.{CanSplice, IsPrepared};
+
+use crate::blocks::{BlockLines, InlinedBlocks, inline_blocks};
+use crate::lines::jump;
+use crate::names::Names;
+use crate::piece::PreparedBody;
+use crate::results::{new_types, number_results, result_types};
+use crate::tables::number_blocks;
+use body_import::{Import, Index, plan_import};
+use ir_core::{Block, Func, Inst, List, Point, Room, Value};
+use std::alloc::{AllocError, Global};
+
+/// The arguments of a call; no values where the instruction is none.
+fn call_args(inst: &Inst) -> &[Value]
+    ensures { result.now ≡ args_of (instruction_of inst.now) }
+{
+    match inst {
+        Inst::Call { args, .. } => args.as_slice(),
+        Inst::ReturnCall { args, .. } => args.as_slice(),
+        Inst::TryCall { args, .. } => args.as_slice(),
+        Inst::CallIndirect { args, .. } => args.as_slice(),
+        Inst::ReturnCallIndirect { args, .. } => args.as_slice(),
+        Inst::TryCallIndirect { args, .. } => args.as_slice(),
+        _ => &[],
+    }
+}
+
+/// How many lines the blocks have.
+fn count_lines(blocks: &[BlockLines]) -> usize
+    requires { length (lines_in blocks.now) < 2 ^ 32 }
+    ensures { result ≡ length (lines_in blocks.now) }
+{
+    let mut count = 0;
+    for block in blocks {
+        count += block.lines.as_slice().len();
+    }
+    count
+}
+
+/// The room that a prepared body takes in its caller.
+pub fn body_room(body: &PreparedBody) -> Room
+    requires blocks { length body.now.block_params + 2 < 2 ^ 32 }
+    requires lines { length (lines_in body.now.block_lines) + 1 < 2 ^ 32 }
+    ensures { result ≡ room_of body.now }
+{
+    Room {
+        slots: body.slots.as_slice().len(),
+        sigs: body.sigs.as_slice().len(),
+        callees: body.callees.as_slice().len(),
+        values: body.types.as_slice().len(),
+        blocks: body.block_params.as_slice().len() + 2,
+        insts: count_lines(body.block_lines.as_slice()) + 1,
+    }
+}
+
+/// A callee's body for a plain call of a caller that has so many blocks, and whose declarations have the index. The
+/// caller stays as it is. Time is the callee's size, and the number of its tail calls times that of the site's results,
+/// times the logarithm of the number of declarations. Only `AllocError` refuses.
+pub fn prepare_body(
+    alloc: Global,
+    caller: &Func,
+    block_count: u32,
+    index: &Index,
+    site: Point,
+    callee: &Func,
+) -> Result<PreparedBody, AllocError>
+    requires counted { block_count ≡ length caller.now.function.blocks }
+    requires indexed { IsIndexOf caller.now.function index.now }
+    requires can { CanSplice caller.now.function callee.now.function site }
+    ensures { IfOk result (λ body. IsPrepared caller.now.function callee.now.function site body) }
+{
+    let _ = caller.values();
+    let _ = callee.values();
+    let call = caller.inst(site);
+    let results = call.results.as_slice();
+    let count = results.len() as u32;
+    let first_result = (caller.values() + callee.values()) as u32;
+    let new_results = number_results(alloc, callee, first_result, count)?;
+    let Import { sigs, callees } = plan_import(alloc, index, caller, callee)?;
+    let names = Names {
+        values: caller.values() as u32,
+        slots: caller.slots().len() as u32,
+        blocks: number_blocks(alloc, callee, block_count)?,
+        sig_count: caller.sigs().len() + sigs.added.as_slice().len(),
+        callee_count: caller.callees().len() + callees.added.as_slice().len(),
+        sigs: sigs.table,
+        callees: callees.table,
+    };
+    let body = inline_blocks(
+        alloc,
+        &names,
+        &call.tags,
+        Block::new(block_count + 1),
+        new_results.starts.as_slice(),
+        count,
+        callee,
+    )?;
+    let types = result_types(alloc, caller, results)?;
+    let mut block_params = body.block_params.into_vec();
+    let first = block_params.remove(0);
+    Ok(PreparedBody {
+        slots: List::from_vec(Vec::from_slice(alloc, callee.slots())?),
+        sigs: sigs.added,
+        callees: callees.added,
+        types: new_types(alloc, callee, types.as_slice(), new_results.tail_calls)?,
+        jump: jump(alloc, Block::new(block_count), call_args(&call.inst))?,
+        results: List::from_vec(Vec::from_slice(alloc, results)?),
+        first,
+        block_params: List::from_vec(block_params),
+        block_lines: body.block_lines,
+    })
+}

@@ -1,0 +1,42 @@
+//! A plain call replaced by its callee's body.
+ghost use Rattle.std.specs.Prelude.{◌≡◌, length, OnOk, OnErr};
+ghost use Rattle.inline_body.specs.PlainCall.{CanSplice, IsSplice};
+
+use crate::piece::put_piece;
+use crate::prepare::{body_room, prepare_body};
+use body_import::index_declarations;
+use ir_core::{Func, Point};
+use std::alloc::{AllocError, Global};
+
+/// The number of blocks.
+fn count_blocks(func: &Func) -> usize
+    ensures { result ≡ length func.now.function.blocks }
+{
+    func.blocks().count()
+}
+
+/// Replaces a plain call by its callee's body. After `AllocError` the caller is as before. Time is the size of both,
+/// times the logarithm of the number of declarations.
+pub fn splice_plain(
+    alloc: Global,
+    caller: &mut Func,
+    site: Point,
+    callee: &Func,
+) -> Result<(), AllocError>
+    requires { CanSplice caller.old.function callee.now.function site }
+    ensures ok { OnOk result (IsSplice caller.old.function callee.now.function site caller.new.function) }
+    ensures err { OnErr result (caller.new.function ≡ caller.old.function) }
+{
+    let _ = caller.values();
+    let block_count = count_blocks(caller) as u32;
+    let index = index_declarations(alloc, caller)?;
+    let place = Point {
+        block: site.block,
+        index: site.index,
+    };
+    let body = prepare_body(alloc, caller, block_count, &index, place, callee)?;
+    let room = body_room(&body);
+    caller.reserve(room)?;
+    let _ = put_piece(caller, site, body);
+    Ok(())
+}

@@ -1,6 +1,6 @@
-//! The reference interpreter: it makes the steps of a run one by one.
+//! The words of the reference interpreter: what each instruction does in a run, and what a run finds in a module.
 //!
-//! Contracts see a run as the definition does (`ir_semantics`, `specs/Runs.antt`).
+//! Contracts see a run as the definition does (`ir_semantics`, `specs/Step.antt`).
 #![tactic(auto)]
 
 mod accesses;
@@ -11,7 +11,7 @@ mod hosts;
 mod invokes;
 pub mod laws;
 mod lines;
-mod link;
+pub mod link;
 mod moves;
 mod outcome;
 mod shows;
@@ -20,4 +20,14 @@ mod slots;
 mod state;
 mod throws;
 
+pub use accesses::{load, store};
+pub use branches::{br_table, brif, jump};
+pub use calls::{begin, join_numbers};
+pub use hosts::fit_values;
+pub use invokes::{invoke, invoke_tail};
+pub use lines::{call_callee, give_back, sequence_point, tail_call_callee};
+pub use moves::read_all;
 pub use outcome::{End, Event, Outcome, Shown};
+pub use simple::{give_results, pure_imm, pure_op, trapnz, trapz};
+pub use slots::{stack_load, stack_store, width_of};
+pub use state::{Frame, Links, Program, Stop, Target, Wait, World};

@@ -1,0 +1,14 @@
+//! Runs of modules: one instruction after another, by the words of `interp`.
+//!
+//! Contracts see a run as the definition does (`ir_semantics`, `specs/Runs.antt`).
+#![tactic(auto)]
+
+mod act;
+mod addresses;
+mod calls;
+mod run;
+mod signatures;
+mod steps;
+
+pub use interp::{End, Event, Outcome, Shown};
+pub use run::{RunErr, run_module};

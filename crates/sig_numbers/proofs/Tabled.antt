@@ -8,7 +8,7 @@ use Rattle.ir_core.specs.declared.signatures.Sig.{Sig}
 use Rattle.ir_core.specs.Module.{Function, Module}
 use Rattle.ir_core.specs.Lookup.{same_bytes}
 use Rattle.ir_core.specs.Signatures.{same_sig}
-use Rattle.ir_core.proofs.Equal.{sig_equal, sig_same}
+use Rattle.ir_core.proofs.Equal.{sig_equal}
 use Rattle.ir_core.proofs.Indexing.{same_bytes_self}
 use Rattle.body_import.specs.SigKeys.{sig_key}
 use Rattle.body_import.proofs.SigsDecided.{sigs_decide}

@@ -1,4 +1,4 @@
-use Rattle.std.proofs.Common.{refl, ap, arith}
+use Rattle.std.proofs.Common.{ap, arith}
 use Rattle.std.proofs.Common.{length}
 use Rattle.sig_numbers.specs.Index.{number_of}
 use Rattle.sig_numbers.proofs.Tabled.{no_tables, tabling_more, index_tells}

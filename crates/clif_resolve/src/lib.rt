@@ -1,0 +1,4 @@
+//! Name resolution: the module that a raw module without a fault of names means.
+#![tactic(auto)]
+
+pub mod laws;

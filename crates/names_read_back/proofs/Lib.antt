@@ -1,0 +1,16 @@
+mod Agreeing
+mod CanonTypes
+mod Canonical
+mod Constants
+mod Declarations
+mod Example
+mod Insts
+mod Names
+mod NoRepeats
+mod Numbers
+mod Opcodes
+mod Operands
+mod ResultTypes
+mod Spotless
+mod TextMeans
+mod Types

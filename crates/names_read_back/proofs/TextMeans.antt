@@ -1,0 +1,137 @@
+-- The raw module that a canonical text is means the module under canonical numbers.
+use Rattle.std.proofs.Common.{◌≡◌, ℕ, List, [], ◌∷◌, ◌++◌, map, Option, Some, None, refl, sym, ap, ap₂, subst, ◌∙◌}
+use Rattle.std.specs.Prelude.{flat_map}
+use Rattle.std.specs.List.{enumerate_from}
+use Rattle.std.proofs.lemmas.List.{map-append}
+use Rattle.ir_core.specs.declared.signatures.Ty.{Ty}
+use Rattle.ir_core.specs.Lists.{Each}
+use Rattle.ir_core.specs.Module.{Function, Module}
+use Rattle.ir_core.specs.WellFormed.{WellFormed}
+use Rattle.ir_semantics.specs.Canon.{canonical, canonical_module}
+use Rattle.ir_text.specs.Writable.{FunctionWritable}
+use Rattle.clif_insts.specs.declared.raw.RawName.{RawName}
+use Rattle.clif_read.specs.declared.raw.RawBlock.{RawBlock}
+use Rattle.clif_read.specs.declared.raw.RawBlockParam.{RawBlockParam}
+use Rattle.clif_read.specs.declared.raw.RawFunction.{RawFunction}
+use Rattle.clif_read.specs.declared.raw.RawLine.{RawLine}
+use Rattle.clif_read.specs.declared.raw.RawLine.TheVariants as lines
+use Rattle.clif_names.specs.declared.firsts.Def.{Def}
+use Rattle.clif_names.specs.Chains.{own_name, numbered, IsNumbering}
+use Rattle.clif_names.specs.Definitions.{Param, Line as Written, value_def, step_defs, block_steps, value_defs}
+use Rattle.clif_names.specs.Words.{place_among, place_in}
+use Rattle.clif_resolve.specs.Meaning.{FunctionMeans, FunctionsMean, Means, OneMeaning, function_with, value_types}
+use Rattle.clif_resolve.specs.Reads.{Reads}
+use Rattle.text_read_back.specs.Bare as bare
+use Rattle.text_read_back.specs.Defining.{number_of}
+use Rattle.text_read_back.specs.RawOf as raws
+use Rattle.text_read_back.specs.ReadsBack.{ReadsBack}
+use Rattle.clif_read.specs.Stretches.{IsModuleText}
+use Rattle.clif_read.specs.declared.raw.RawModule.{RawModule}
+use Rattle.ir_text.specs.Text.{text_of}
+use Rattle.names_read_back.proofs.Canonical.{function_is, types_are}
+use Rattle.names_read_back.proofs.Declarations.{flat_append}
+use Rattle.names_read_back.proofs.Names.{IsNoAlias, plain_numbering}
+use Rattle.names_read_back.proofs.Numbers.{value_number, none_aliased}
+use Rattle.names_read_back.proofs.Spotless.{function_same, types_same}
+
+-- ---- definitions without their spots
+
+abbrev pub bare_def : Def → Def
+bare_def d = record { name = bare.bare_name d.name; target = bare.bare_option bare.bare_name d.target }
+
+results_defs : (rs : List RawName) → map value_def (map bare.bare_name rs) ≡ map bare_def (map value_def rs)
+results_defs [] = refl
+results_defs (r ∷ rs) = ap (λ (ds : List Def). bare_def (value_def r) ∷ ds) (results_defs rs)
+
+line_defs : (l : RawLine) → step_defs (Written (bare.bare_line l)) ≡ map bare_def (step_defs (Written l))
+line_defs (lines.Alias location n x) = refl
+line_defs (lines.Inst location ts rs i) = results_defs rs
+
+lines_defs : (ls : List RawLine) → flat_map step_defs (map Written (map bare.bare_line ls)) ≡ map bare_def (flat_map step_defs (map Written ls))
+lines_defs [] = refl
+lines_defs (l ∷ ls) = ap₂ (λ (xs ys : List Def). xs ++ ys) (line_defs l) (lines_defs ls) ∙ sym (map-append bare_def (step_defs (Written l)) (flat_map step_defs (map Written ls)))
+
+params_defs : (ps : List RawBlockParam) → flat_map step_defs (map Param (map bare.bare_block_param ps)) ≡ map bare_def (flat_map step_defs (map Param ps))
+params_defs [] = refl
+params_defs (p ∷ ps) = ap (λ (ds : List Def). bare_def (value_def p.value) ∷ ds) (params_defs ps)
+
+block_defs : (b : RawBlock) → flat_map step_defs (block_steps (bare.bare_block b)) ≡ map bare_def (flat_map step_defs (block_steps b))
+block_defs b =
+    let ps = map Param b.params in let ls = map Written b.lines in
+    flat_append step_defs (map Param (map bare.bare_block_param b.params)) (map Written (map bare.bare_line b.lines))
+    ∙ ap₂ (λ (xs ys : List Def). xs ++ ys) (params_defs b.params) (lines_defs b.lines)
+    ∙ sym (ap (map bare_def) (flat_append step_defs ps ls) ∙ map-append bare_def (flat_map step_defs ps) (flat_map step_defs ls))
+
+blocks_defs : (bs : List RawBlock) → flat_map step_defs (flat_map block_steps (map bare.bare_block bs)) ≡ map bare_def (flat_map step_defs (flat_map block_steps bs))
+blocks_defs [] = refl
+blocks_defs (b ∷ bs) =
+    flat_append step_defs (block_steps (bare.bare_block b)) (flat_map block_steps (map bare.bare_block bs))
+    ∙ ap₂ (λ (xs ys : List Def). xs ++ ys) (block_defs b) (blocks_defs bs)
+    ∙ sym (ap (map bare_def) (flat_append step_defs (block_steps b) (flat_map block_steps bs)) ∙ map-append bare_def (flat_map step_defs (block_steps b)) (flat_map step_defs (flat_map block_steps bs)))
+
+-- ---- no alias lines
+
+no_target : (t : Option RawName) → bare.bare_option bare.bare_name t ≡ None → t ≡ None
+no_target None e = refl
+no_target (Some x) e = absurd cc
+
+none_bare : (ds : List Def) → Each IsNoAlias (map bare_def ds) → Each IsNoAlias ds
+none_bare [] h = tt
+none_bare (d ∷ ds) h = (no_target d.target h.0, none_bare ds h.1)
+
+own_bare : (d : Def) (t : Option RawName) → d.target ≡ t → map number_of (own_name (bare_def d)) ≡ map number_of (own_name d)
+own_bare d None e = rw e refl
+own_bare d (Some x) e = rw e refl
+
+words_bare : (ds : List Def) → map number_of (numbered (map bare_def ds)) ≡ map number_of (numbered ds)
+words_bare [] = refl
+words_bare (d ∷ ds) =
+    map-append number_of (own_name (bare_def d)) (numbered (map bare_def ds))
+    ∙ ap₂ (λ (xs ys : List ℕ). xs ++ ys) (own_bare d d.target refl) (words_bare ds)
+    ∙ sym (map-append number_of (own_name d) (numbered ds))
+
+-- ---- a raw function that says what the function's own one says
+
+module _ (f : Function) (is : WellFormed f) (w : FunctionWritable f) (r : RawFunction) (e : bare.bare_function r ≡ raws.raw_function f) where
+  abbrev value : ℕ → ℕ
+  value = value_number f is
+
+  abbrev types : List (ℕ × Ty)
+  types = (canonical f).types
+
+  pub own_defs : map bare_def (value_defs r) ≡ value_defs (raws.raw_function f)
+  own_defs = sym (blocks_defs r.blocks) ∙ ap value_defs e
+
+  pub no_aliases : Each IsNoAlias (value_defs r)
+  no_aliases = none_bare (value_defs r) (subst (Each IsNoAlias) (sym own_defs) (none_aliased f is))
+
+  same_places : place_in (numbered (value_defs r)) ≡ value
+  same_places = ap place_among (sym (words_bare (value_defs r)) ∙ ap (λ (ds : List Def). map number_of (numbered ds)) own_defs)
+
+  pub means_canonical : FunctionMeans r (canonical f)
+  means_canonical = record {
+    value = value;
+    numbering = subst (IsNumbering (value_defs r)) same_places (plain_numbering (value_defs r) no_aliases);
+    function = sym (function_is f is w) ∙ ap (λ (x : RawFunction). function_with x value types) (sym e) ∙ function_same r value types;
+    types = types_are f is w ∙ ap (λ (x : RawFunction). enumerate_from 0 (value_types x value types)) (sym e) ∙ ap (enumerate_from 0) (types_same r value types);
+  }
+
+pub functions_mean : (rs : List RawFunction) (m : Module) → Each WellFormed m → Each FunctionWritable m → map bare.bare_function rs ≡ map raws.raw_function m → FunctionsMean rs (canonical_module m)
+functions_mean [] [] is w e = tt
+functions_mean [] (f ∷ fs) is w e = absurd cc
+functions_mean (r ∷ rs) [] is w e = absurd cc
+functions_mean (r ∷ rs) (f ∷ fs) is w e =
+    let first : bare.bare_function r ≡ raws.raw_function f = cc in
+    let rest : map bare.bare_function rs ≡ map raws.raw_function fs = cc in
+    (means_canonical f is.0 w.0 r first, functions_mean rs fs is.1 w.1 rest)
+
+-- the only raw module that a text is says what the module says, and means that
+pub functions_say : (m : Module) → ReadsBack m → (raw : RawModule) → IsModuleText (text_of m) raw → map bare.bare_function raw.functions ≡ map raws.raw_function m
+functions_say m says raw text = ap (λ (x : RawModule). map bare.bare_function x.functions) (says.only raw text) ∙ ap (λ (x : RawModule). x.functions) says.says
+
+pub text_means : (m : Module) → Each WellFormed m → Each FunctionWritable m → ReadsBack m → (raw : RawModule) → IsModuleText (text_of m) raw → Means raw (canonical_module m)
+text_means m is w says raw text = functions_mean raw.functions m is w (functions_say m says raw text)
+
+-- and where the text is read, it is read as that
+pub only_reading : OneMeaning → (m : Module) → Each WellFormed m → Each FunctionWritable m → ReadsBack m → (other : Module) → Reads (text_of m) other → other ≡ canonical_module m
+only_reading one m is w says other reads = one reads.0 other (canonical_module m) reads.2 reads.3 (text_means m is w says reads.0 reads.1)

@@ -1,0 +1,17 @@
+pub mod Examples
+pub mod OneMeaning
+pub mod SizeLaws
+pub mod RangeLaws
+pub mod BoundLaws
+pub mod WholeLaws
+pub mod ModuleLaws
+pub mod Existence
+pub mod Readings
+pub mod Parting
+pub mod Opening
+pub mod TypesAlong
+pub mod Keepings
+pub mod DeclaringLaws
+pub mod FillingLaws
+pub mod WordLaws
+pub mod ReadyLaws

@@ -1,0 +1,13 @@
+pub mod Operations
+pub mod Instructions
+pub mod Meaning
+pub mod Spots
+pub mod Reads
+pub mod Examples
+pub mod Keeping
+pub mod WordNumbers
+pub mod WordRenaming
+pub mod Parts
+pub mod FormTypes
+pub mod Declaring
+pub mod Filling

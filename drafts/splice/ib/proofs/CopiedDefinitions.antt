@@ -1,0 +1,31 @@
+-- What copied blocks define: the callee's values under their numbers.
+use Rattle.std.proofs.Common.{◌≡◌, ℕ, ◌+◌, List, [], ◌∷◌, ◌++◌, map, length, refl, sym, ap, ap₂, ◌∙◌}
+use Rattle.std.proofs.lemmas.List.{length-map}
+use Rattle.debug_tags.specs.declared.tags.Tag.{Tag}
+use Rattle.ir_core.specs.Module.{Line, Block}
+use Rattle.ir_core.specs.Lookup.{definitions, line_definitions}
+use Rattle.ir_core.specs.Sound.{instruction_count}
+use Rattle.inline_body.specs.declared.names.Names.{Names}
+use Rattle.inline_body.specs.Inlined.{copied_line, copied_block}
+
+map_join : (h : ℕ → ℕ) (xs ys : List ℕ) → map h (xs ++ ys) ≡ map h xs ++ map h ys
+map_join h [] ys = refl
+map_join h (x ∷ xs) ys = ap (λ z. h x ∷ z) (map_join h xs ys)
+
+module _ (n : Names) (outer : List Tag) where
+  abbrev up : ℕ → ℕ
+  up v = n.values + v
+
+  lines_define : (ls : List Line) → line_definitions (map (copied_line n outer) ls) ≡ map up (line_definitions ls)
+  lines_define [] = refl
+  lines_define (l ∷ ls) = ap (λ z. map up l.results ++ z) (lines_define ls) ∙ sym (map_join up l.results (line_definitions ls))
+
+  pub blocks_define : (bs : List Block) → definitions (map (copied_block n outer) bs) ≡ map (λ v. n.values + v) (definitions bs)
+  blocks_define [] = refl
+  blocks_define (b ∷ bs) =
+      ap₂ (λ x y. map up b.params ++ (x ++ y)) (lines_define b.lines) (blocks_define bs)
+      ∙ (ap (λ z. map up b.params ++ z) (sym (map_join up (line_definitions b.lines) (definitions bs))) ∙ sym (map_join up b.params (line_definitions b.lines ++ definitions bs)))
+
+  pub blocks_counted : (bs : List Block) → instruction_count (map (copied_block n outer) bs) ≡ instruction_count bs
+  blocks_counted [] = refl
+  blocks_counted (b ∷ bs) = ap₂ (λ (x y : ℕ). x + y) (length-map b.lines (copied_line n outer)) (blocks_counted bs)

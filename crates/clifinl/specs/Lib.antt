@@ -1,4 +1,3 @@
 pub mod Asked
 pub mod Codes
-pub mod Lines
 pub mod Output

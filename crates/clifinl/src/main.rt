@@ -1,8 +1,7 @@
-//! The commands of `clifinl` over the standard streams.
+//! `clifinl inline` over the standard streams.
 #![tactic(auto)]
 
 mod command;
-mod report;
 mod status;
 #[cfg(test)]
 mod tests;

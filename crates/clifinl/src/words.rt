@@ -1,20 +1,13 @@
-//! What the words of the command line ask for.
-ghost use Rattle.std.specs.Prelude.{◌≡◌, Some, is_some};
-ghost use Rattle.settings.specs.Shown.{shown};
-ghost use Rattle.clifinl.specs.Asked.{is_carried_out};
+//! The words of the command line.
+ghost use Rattle.std.specs.Prelude.{◌≡◌, map, string_bytes};
+ghost use Rattle.clifinl.specs.Asked as spec;
 
-use settings::Settings;
-
-/// How many workers read and print where the words say nothing of it.
-const WORKERS: usize = 4;
-
-/// How many workers share the job, where the program carries it out.
-pub(crate) fn workers_for(settings: &Settings) -> Option<usize>
-    ensures { is_some result ≡ is_carried_out (Some (shown settings.now)) }
+/// Whether the words ask for `inline`.
+pub(crate) fn asks_inline(words: &[String]) -> bool
+    ensures { result ≡ spec.asks_inline (map string_bytes words.now) }
 {
-    match settings {
-        Settings::Print => Some(WORKERS),
-        Settings::Inline(options) => Some(options.workers),
-        Settings::Check | Settings::Run(_) => None,
+    match words {
+        [_, word] => word.as_bytes() == b"inline".as_slice(),
+        _ => false,
     }
 }

@@ -1,7 +1,7 @@
 use Rattle.std.proofs.Common.{◌≡◌, ℕ, List, Option, sym, subst, ◌∙◌, arith}
 use Rattle.std.specs.Prelude.{IfSome}
 use Rattle.clif_read.specs.SimpleModule.{Reads}
-use Rattle.clifinl.proofs.command.rewrite.Goals as goal
+use Rattle.clifinl.proofs.command.command.Goals as goal
 
 pub returns-in-Err-NotSimple-clause-not_simple : goal.returns-in-Err-NotSimple-clause-not_simple
 returns-in-Err-NotSimple-clause-not_simple g c = λ _.
@@ -12,6 +12,6 @@ returns-in-Err-NotSimple-clause-not_simple g c = λ _.
     )
 
 pub returns-in-Err-NotSimple-clause-complete : goal.returns-in-Err-NotSimple-clause-complete
-returns-in-Err-NotSimple-clause-complete g c = λ bytes told m reads short input_stays out_stays.
+returns-in-Err-NotSimple-clause-complete g c = λ _ bytes told m reads short input_stays out_stays.
     let same : c.in-Ok.bytes.items ≡ bytes = subst (λ (o : Option (List ℕ)). IfSome o (λ bs. c.in-Ok.bytes.items ≡ bs)) told c.in-Ok.ensures.told_whole in
     absurd (c.in-Err-NotSimple.ensures.not_simple c.in-Err-NotSimple.field-0-is m (subst (λ (z : List ℕ). Reads z m) (sym (c.as_slice.ensures.value ∙ same)) reads))

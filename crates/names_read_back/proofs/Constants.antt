@@ -15,7 +15,7 @@ use Rattle.clk_num.proofs.Numbers.{signed_low, signed_high, complement_mod}
 use Rattle.ir_core.specs.Lookup.{width_of, ty_of}
 use Rattle.ir_core.specs.Forms.{ValueInRange}
 use Rattle.ir_text.specs.Writable.{by_zeros, SignedWithin, ImmediateWithin, ImmediateWritable, WhereWidest}
-use Rattle.clif_resolve.specs.Instructions as says
+use Rattle.clif_meaning.specs.Instructions as says
 
 pub width_back : (w : Width) → width_of (ty_of w) ≡ w
 width_back W8 = refl

@@ -16,7 +16,7 @@ use Rattle.ir_text.specs.Numbering.{numbering_of}
 use Rattle.clif_words.specs.Opcodes.{opcode_of}
 use Rattle.clif_words.specs.Table.{all_words}
 use Rattle.clif_words.specs.Words.{word_meaning}
-use Rattle.clif_resolve.specs.Meaning.{numbers, function_with}
+use Rattle.clif_meaning.specs.Meaning.{numbers, function_with}
 use Rattle.text_read_back.specs.RawOf.{raw_function}
 use Rattle.names_read_back.specs.ReadNames.{read_under, AccessType, IsTypeFor, value_number}
 

@@ -32,8 +32,8 @@ use Rattle.clif_words.specs.Words.{word_meaning}
 use Rattle.clif_insts.specs.declared.raw.RawInst.{RawInst}
 use Rattle.clif_insts.specs.declared.raw.RawOperands.{RawOperands}
 use Rattle.clif_insts.specs.declared.raw.RawOperands.TheVariants as form
-use Rattle.clif_resolve.specs.Operations.{operation, access_of, stored_bytes}
-use Rattle.clif_resolve.specs.Instructions as says
+use Rattle.clif_meaning.specs.Operations.{operation, access_of, stored_bytes}
+use Rattle.clif_meaning.specs.Instructions as says
 use Rattle.text_read_back.specs.RawOf as raws
 use Rattle.names_read_back.specs.ReadNames.{read_under, ConversionType, NarrowType, AccessType, SimpleType, IsTypeFor}
 use Rattle.names_read_back.proofs.Opcodes.{Spells, plain_opcode, op_spells, uload_8, uload_16, uload_32, sload_8, sload_16, sload_32, istore_8, istore_16, istore_32, load_spells, store_spells, trapz_spells, trapnz_spells, call_spells, return_call_spells, call_indirect_spells, return_call_indirect_spells, nop_spells, sequence_point_spells}

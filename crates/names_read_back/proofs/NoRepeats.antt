@@ -19,8 +19,8 @@ use Rattle.clif_names.specs.Chains.{IsEndless}
 use Rattle.clif_names.specs.Definitions.{Kind, Slots, Sigs, Callees, Blocks, Values, slot_names, sig_names, callee_names, definitions, value_defs}
 use Rattle.clif_names.specs.Faults.{SameName, FunctionFault, IsFault}
 use Rattle.clif_names.specs.Words.{Repeats}
-use Rattle.clif_resolve.specs.Instructions.{natural}
-use Rattle.clif_resolve.specs.Meaning.{name_of}
+use Rattle.clif_meaning.specs.Instructions.{natural}
+use Rattle.clif_meaning.specs.Meaning.{name_of}
 use Rattle.text_read_back.specs.Bare as bare
 use Rattle.text_read_back.specs.Defining.{number_of}
 use Rattle.text_read_back.specs.RawOf as raws

@@ -19,7 +19,7 @@ use Rattle.clif_names.specs.declared.firsts.Def.{Def}
 use Rattle.clif_names.specs.Definitions.{Param, Line as Written, value_def, step_defs, block_steps, value_defs, slot_names, sig_names, callee_names}
 use Rattle.clif_names.specs.Words.{place_among, place_in}
 use Rattle.clif_names.specs.Chains.{numbered, IsNumbering}
-use Rattle.clif_resolve.specs.Meaning.{numbers, decl_sigs, sig_place, callees_from}
+use Rattle.clif_meaning.specs.Meaning.{numbers, decl_sigs, sig_place, callees_from}
 use Rattle.text_read_back.specs.Defining.{number_of}
 use Rattle.text_read_back.specs.RawOf as raws
 use Rattle.text_read_back.proofs.Lists.{map_both, below_length, each_as, places}

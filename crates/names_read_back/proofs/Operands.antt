@@ -14,7 +14,7 @@ use Rattle.ir_text.specs.Numbering.{Numbering}
 use Rattle.ir_semantics.specs.Renaming.{Renaming, arg_under, target_under, tag_under, entry_under}
 use Rattle.clif_insts.specs.declared.raw.RawFlag.{RawFlag}
 use Rattle.clif_insts.specs.declared.raw.RawFlag.TheVariants as word
-use Rattle.clif_resolve.specs.Instructions as says
+use Rattle.clif_meaning.specs.Instructions as says
 use Rattle.text_read_back.specs.RawOf as raws
 use Rattle.names_read_back.specs.ReadNames.{read_under}
 

@@ -12,8 +12,8 @@ use Rattle.ir_semantics.specs.Renaming.{Renaming, simple_under, called_under, in
 use Rattle.ir_semantics.proofs.SafetyPlaces.{some_and}
 use Rattle.ir_text.specs.Numbering.{Numbering}
 use Rattle.ir_text.specs.Writable.{conversion, result_types, OpForm, ResultTypes, SimpleForm, InstructionForm}
-use Rattle.clif_resolve.specs.Instructions.{kept_type}
-use Rattle.clif_resolve.specs.Meaning.{operation_types, simple_types, sig_results, form_types, types_for}
+use Rattle.clif_meaning.specs.Instructions.{kept_type}
+use Rattle.clif_meaning.specs.Meaning.{operation_types, simple_types, sig_results, form_types, types_for}
 use Rattle.text_read_back.specs.RawOf as raws
 
 -- a type that is kept is the one that a reader takes

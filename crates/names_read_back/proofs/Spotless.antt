@@ -45,9 +45,9 @@ use Rattle.clif_read.specs.declared.raw.RawTag.TheVariants as tags
 use Rattle.clif_names.specs.Definitions.{Step, Param, Line as Written, block_steps, slot_names, sig_names, callee_names}
 use Rattle.clif_names.specs.Typing.{gives_type}
 use Rattle.clif_names.specs.Words.{place_among}
-use Rattle.clif_resolve.specs.Operations.{access_of, stored_bytes}
-use Rattle.clif_resolve.specs.Instructions as says
-use Rattle.clif_resolve.specs.Meaning as means
+use Rattle.clif_meaning.specs.Operations.{access_of, stored_bytes}
+use Rattle.clif_meaning.specs.Instructions as says
+use Rattle.clif_meaning.specs.Meaning as means
 use Rattle.text_read_back.specs.Bare as bare
 use Rattle.text_read_back.specs.Defining.{number_of}
 use Rattle.names_read_back.proofs.Declarations.{flat_append}

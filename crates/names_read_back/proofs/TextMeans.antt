@@ -19,8 +19,8 @@ use Rattle.clif_names.specs.declared.firsts.Def.{Def}
 use Rattle.clif_names.specs.Chains.{own_name, numbered, IsNumbering}
 use Rattle.clif_names.specs.Definitions.{Param, Line as Written, value_def, step_defs, block_steps, value_defs}
 use Rattle.clif_names.specs.Words.{place_among, place_in}
-use Rattle.clif_resolve.specs.Meaning.{FunctionMeans, FunctionsMean, Means, OneMeaning, function_with, value_types}
-use Rattle.clif_resolve.specs.Reads.{Reads}
+use Rattle.clif_meaning.specs.Meaning.{FunctionMeans, FunctionsMean, Means, OneMeaning, function_with, value_types}
+use Rattle.clif_meaning.specs.Reads.{Reads}
 use Rattle.text_read_back.specs.Bare as bare
 use Rattle.text_read_back.specs.Defining.{number_of}
 use Rattle.text_read_back.specs.RawOf as raws

@@ -38,7 +38,7 @@ use Rattle.clif_insts.specs.declared.raw.RawName.{RawName}
 use Rattle.clif_insts.specs.declared.raw.RawNumber.{RawNumber}
 use Rattle.clif_insts.specs.declared.raw.RawOperands.{RawOperands}
 use Rattle.clif_insts.specs.declared.raw.RawOperands.TheVariants as form
-use Rattle.clif_resolve.specs.Instructions as says
+use Rattle.clif_meaning.specs.Instructions as says
 use Rattle.clif_names.specs.Typing.{gives_type}
 use Rattle.text_read_back.specs.RawOf as raws
 use Rattle.names_read_back.specs.ReadNames.{read_under, AccessType, IsTypeFor}

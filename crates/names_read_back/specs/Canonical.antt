@@ -9,8 +9,8 @@ use Rattle.clif_read.specs.Stretches.{IsModuleText}
 use Rattle.clif_read.specs.declared.raw.RawModule.{RawModule}
 use Rattle.clif_lex.specs.declared.faults.TextKind.TheVariants.{Duplicate}
 use Rattle.clif_names.specs.Faults.{IsFault}
-use Rattle.clif_resolve.specs.Meaning.{Means}
-use Rattle.clif_resolve.specs.Reads.{Reads}
+use Rattle.clif_meaning.specs.Meaning.{Means}
+use Rattle.clif_meaning.specs.Reads.{Reads}
 use Rattle.text_read_back.specs.RawOf.{raw_of}
 
 abbrev pub RawMeansCanonical : Type 0

@@ -18,8 +18,8 @@ use Rattle.clif_insts.specs.declared.raw.RawInst.{RawInst}
 use Rattle.clif_names.specs.Chains.{numbered, IsNumbering}
 use Rattle.clif_names.specs.Definitions.{value_defs}
 use Rattle.clif_names.specs.Words.{place_in}
-use Rattle.clif_resolve.specs.Instructions.{instruction_of, type_for, known, line_of}
-use Rattle.clif_resolve.specs.Meaning.{numbers, name_of, sig_of, decl_slots, decl_sigs, callees_from}
+use Rattle.clif_meaning.specs.Instructions.{instruction_of, type_for, known, line_of}
+use Rattle.clif_meaning.specs.Meaning.{numbers, name_of, sig_of, decl_slots, decl_sigs, callees_from}
 use Rattle.text_read_back.specs.RawOf.{instruction, debug_tag, values, raw_function}
 
 -- the numbers that a text gives, and after them what the text's numbers mean

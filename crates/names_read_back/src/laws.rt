@@ -45,7 +45,7 @@ pub fn canonical_text_reads_as_nothing_else()
     ensures { ReadsAsNothingElse }
 {
     text_read_back::laws::writable_text_reads_back();
-    clif_resolve::laws::one_meaning();
+    clif_meaning::laws::one_meaning();
 }
 
 /// In the canonical text of a writable module nothing is defined twice.

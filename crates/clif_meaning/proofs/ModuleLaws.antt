@@ -20,30 +20,31 @@ use Rattle.clif_names.specs.declared.limits.Limited.{Limited}
 use Rattle.clif_names.specs.declared.limits.Limit.TheVariants.{Entity}
 use Rattle.clif_names.specs.Limits.{keeps, of_word, of_number, all_words, name_limits, decl_limits, line_limits, limits}
 use Rattle.clif_names.specs.Sizes.{raw_size}
-use Rattle.clif_resolve.specs.Instructions.{natural}
-use Rattle.clif_resolve.specs.Meaning.{name_of, FunctionMeans, FunctionsMean, MeantIsModule}
+use Rattle.clif_meaning.specs.Instructions.{natural}
+use Rattle.clif_meaning.specs.Meaning.{name_of, FunctionMeans, FunctionsMean, MeantIsModule}
 use Rattle.clif_names.specs.Faults.{FunctionFault, SameName}
 use Rattle.clif_names.specs.Listed as listed
 use Rattle.clif_names.proofs.ListedLaws.{defined, undefined, and_both}
-use Rattle.clif_resolve.proofs.WholeLaws.{meant_whole}
+use Rattle.clif_meaning.proofs.WholeLaws.{meant_whole}
 use Rattle.clif_names.proofs.Numberings.{in_place}
 use Rattle.clif_names.specs.FunctionNames.{NoFunctionFault}
 use Rattle.clif_read.specs.Marks.{name_spot}
 
 -- ---- one function
 
-whole : (r : RawFunction) (f : Function) → NoFunctionFault r → r.blocks ≢ [] → FunctionMeans r f → WellFormed f
-whole r f free begins mf = meant_whole r f mf used (λ spot h. free Duplicate spot (Values, h)) (λ spot h. free Untyped spot h) size begins
-  where
-    used : (k : Kind) (u : RawName) → In u (uses r k) → IsDefined (definitions r k) u.number
-    used k u i = by (listed.is_defined (definitions r k) u.number) refl (in_place (uses r k) u i)
-      where
-        by : (b : Bool) → listed.is_defined (definitions r k) u.number ≡ b → (j : ℕ) × (slice_get (uses r k) j ≡ Some u) → IsDefined (definitions r k) u.number
-        by true t p = defined (definitions r k) u.number t
-        by false t (j, at) = absurd (free Undefined u.spot (inl (k, (j, u, at, refl, undefined (definitions r k) u.number t))))
+module _ (r : RawFunction) (free : NoFunctionFault r) where
+  pub used : (k : Kind) (u : RawName) → In u (uses r k) → IsDefined (definitions r k) u.number
+  used k u i = by (listed.is_defined (definitions r k) u.number) refl (in_place (uses r k) u i)
+    where
+      by : (b : Bool) → listed.is_defined (definitions r k) u.number ≡ b → (j : ℕ) × (slice_get (uses r k) j ≡ Some u) → IsDefined (definitions r k) u.number
+      by true t p = defined (definitions r k) u.number t
+      by false t (j, at) = absurd (free Undefined u.spot (inl (k, (j, u, at, refl, undefined (definitions r k) u.number t))))
 
-    size : raw_size r ≤ 262144
-    size = elim (leb_tells (raw_size r) 262144) [ inl t ↦ t.1 | inr b ↦ absurd (free TooLarge (name_spot r.name) (refl, b.1)) ]
+  pub size : raw_size r ≤ 262144
+  size = elim (leb_tells (raw_size r) 262144) [ inl t ↦ t.1 | inr b ↦ absurd (free TooLarge (name_spot r.name) (refl, b.1)) ]
+
+whole : (r : RawFunction) (f : Function) → NoFunctionFault r → r.blocks ≢ [] → FunctionMeans r f → WellFormed f
+whole r f free begins mf = meant_whole r f mf (used r free) (λ spot h. free Duplicate spot (Values, h)) (λ spot h. free Untyped spot h) (size r free) begins
 
 -- ---- names
 

@@ -52,7 +52,7 @@ use Rattle.clif_names.specs.Words.{place_in}
 use Rattle.clif_names.specs.Sizes.{raw_size}
 use Rattle.clif_names.specs.Chains.{IsNumbering}
 use Rattle.clif_names.specs.Faults.{NoFault}
-use Rattle.clif_resolve.specs.Instructions.{natural, type_for, known, line_of}
+use Rattle.clif_meaning.specs.Instructions.{natural, type_for, known, line_of}
 
 -- ---- names and signatures
 

@@ -27,8 +27,8 @@ use Rattle.clif_read.specs.declared.raw.RawBlock.{RawBlock}
 use Rattle.clif_read.specs.declared.raw.RawFunction.{RawFunction}
 use Rattle.clif_names.specs.Sizes
 use Rattle.clif_names.specs.Sizes.{raw_size, operands_size, target_size, signature_size, decl_size}
-use Rattle.clif_resolve.specs.Instructions.{instruction_of, nullary, trap_if, call, value_at, values_at, target_of, entry_of, tag_of, arg_of}
-use Rattle.clif_resolve.specs.Meaning.{sig_of, param_of, decl_slots, decl_sigs, callees_from, numbers, inst_type, lines_with, block_with, SameSize}
+use Rattle.clif_meaning.specs.Instructions.{instruction_of, nullary, trap_if, call, value_at, values_at, target_of, entry_of, tag_of, arg_of}
+use Rattle.clif_meaning.specs.Meaning.{sig_of, param_of, decl_slots, decl_sigs, callees_from, numbers, inst_type, lines_with, block_with, SameSize}
 
 -- ---- instructions
 

@@ -29,16 +29,16 @@ use Rattle.clif_names.specs.Words.{IsDefined, place_in}
 use Rattle.clif_names.specs.Chains.{numbered}
 use Rattle.clif_names.specs.Sizes.{raw_size}
 use Rattle.clif_names.specs.Typing.{IsUntyped}
-use Rattle.clif_resolve.specs.Meaning.{numbers, inst_type, decl_sigs, block_with, lines_with, function_with, value_types, FunctionMeans}
-use Rattle.clif_resolve.proofs.OneMeaning.{counts}
-use Rattle.clif_resolve.proofs.SizeLaws.{same_size}
-use Rattle.clif_resolve.proofs.RangeLaws.{WordsInRange, line_in_range}
-use Rattle.clif_resolve.proofs.BoundLaws.{place_below, value_below, slots_long, callees_long, sig_below, callees_below, blocks_define, own_place}
+use Rattle.clif_meaning.specs.Meaning.{numbers, inst_type, decl_sigs, block_with, lines_with, function_with, value_types, FunctionMeans}
+use Rattle.clif_meaning.proofs.OneMeaning.{counts}
+use Rattle.clif_meaning.proofs.SizeLaws.{same_size}
+use Rattle.clif_meaning.proofs.RangeLaws.{WordsInRange, line_in_range}
+use Rattle.clif_meaning.proofs.BoundLaws.{place_below, value_below, slots_long, callees_long, sig_below, callees_below, blocks_define, own_place}
 use Rattle.clif_names.proofs.Numberings.{NoRepeats, no_repeats_behind, not_behind}
 
 -- ---- lists
 
-each_in : {A : Type 0} (P : A → Type 0) (xs : List A) → ((x : A) → In x xs → P x) → Each P xs
+pub each_in : {A : Type 0} (P : A → Type 0) (xs : List A) → ((x : A) → In x xs → P x) → Each P xs
 each_in P [] go = tt
 each_in P (x ∷ xs) go = (go x (inl refl), each_in P xs (λ y i. go y (inr i)))
 
@@ -210,7 +210,7 @@ module _ (raw : RawFunction) (f : Function) (mf : FunctionMeans raw f)
   unfolding words
   own_long = length-map own (λ (n : RawName). n.number) ∙ sym value_count
 
-  is_whole : IsWhole F
+  pub is_whole : IsWhole F
   is_whole = record {
     has_block = by raw.blocks begins;
     defined = λ v lt. subst (In v) (sym values_in_order) (from_in 0 (words own) v (omega arith) (omega (arith, lt, own_long)));
@@ -300,7 +300,7 @@ module _ (raw : RawFunction) (f : Function) (mf : FunctionMeans raw f)
   block_numbers_are k [] = refl
   block_numbers_are k (b ∷ bs) = ap (λ xs. k ∷ xs) (block_numbers_are (k + 1) bs)
 
-  sound : IsSound F
+  pub sound : IsSound F
   unfolding n
   sound = record {
     callees = callees_below (numbers raw mf.value).sig (length F.sigs) 0 raw.decls (omega (arith, length-map (flat_map decl_sigs raw.decls) (λ s. s.1)))

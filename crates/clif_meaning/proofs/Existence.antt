@@ -17,11 +17,11 @@ use Rattle.clif_names.specs.declared.firsts.Def.{Def}
 use Rattle.clif_names.specs.Definitions.{Values, Param, Line, value_def, step_defs, block_steps, steps, defs_of, value_defs, names_of, lines}
 use Rattle.clif_names.specs.Uses.{uses, line_uses, decl_uses}
 use Rattle.clif_names.specs.Chains.{Ending, Ends, Lost, look, chain, or_lost, onward, IsNumbering}
-use Rattle.clif_resolve.specs.Meaning.{function_with, FunctionMeans, FunctionsMean, HasMeaning}
+use Rattle.clif_meaning.specs.Meaning.{function_with, FunctionMeans, FunctionsMean, HasMeaning}
 use Rattle.clif_names.specs.Listed as listed
 use Rattle.clif_names.proofs.ListedLaws.{chains_number, found_at}
 use Rattle.clif_names.proofs.Endings.{never_ends}
-use Rattle.clif_resolve.proofs.OneMeaning.{types_from}
+use Rattle.clif_meaning.proofs.OneMeaning.{types_from}
 use Rattle.clif_names.proofs.Numberings.{numbering}
 use Rattle.clif_names.specs.FunctionNames.{NoFunctionFault}
 

@@ -24,9 +24,9 @@ use Rattle.clif_names.specs.Definitions.{Sigs, Step, Param, Line, value_def, ste
 use Rattle.clif_names.specs.Uses.{decl_uses}
 use Rattle.clif_names.specs.Words.{IsDefined, Repeats, place_in}
 use Rattle.clif_names.specs.Chains.{Ends, look, chain, HasNumber, IsNumbering, numbered, own_name}
-use Rattle.clif_resolve.specs.Meaning.{decl_slots, decl_sigs, sig_place, callees_from, block_with, lines_with}
+use Rattle.clif_meaning.specs.Meaning.{decl_slots, decl_sigs, sig_place, callees_from, block_with, lines_with}
 use Rattle.clif_names.proofs.ListedLaws.{one_end}
-use Rattle.clif_resolve.proofs.OneMeaning.{map_names}
+use Rattle.clif_meaning.proofs.OneMeaning.{map_names}
 use Rattle.clif_names.proofs.Numberings.{end_first, place_here, place_there, place_front, not_first, look_defined, NoRepeats, look_own}
 
 -- ---- places

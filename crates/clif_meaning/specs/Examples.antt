@@ -19,9 +19,9 @@ use Rattle.ir_core.specs.declared.instructions.BlockCall.{BlockCall}
 use Rattle.ir_core.specs.Module.{Const, Pure, PureImm, Load, Store, StackLoad, FuncAddr, Trapnz, Jump, Direct, Indirect}
 use Rattle.ir_core.specs.Module.{TryDirect, Instruction, Plain, Branches, Return, Call, ReturnCall, TryCall, Line}
 use Rattle.ir_core.specs.Module.{Function}
-use Rattle.clif_resolve.specs.Instructions.{no_flags}
-use Rattle.clif_resolve.specs.Meaning.{Means}
-use Rattle.clif_resolve.specs.Spots.{spots, spot_of}
+use Rattle.clif_meaning.specs.Instructions.{no_flags}
+use Rattle.clif_meaning.specs.Meaning.{Means}
+use Rattle.clif_meaning.specs.Spots.{spots, spot_of}
 use Rattle.clif_names.specs.Rows as text
 
 -- ---- meanings

@@ -1,5 +1,5 @@
-use Rattle.clif_resolve.proofs.Examples.{worked_meanings, worked_spots}
-use Rattle.clif_resolve.proofs.laws.worked_texts.Goals as goal
+use Rattle.clif_meaning.proofs.Examples.{worked_meanings, worked_spots}
+use Rattle.clif_meaning.proofs.laws.worked_texts.Goals as goal
 
 pub returns-clause-meanings : goal.returns-clause-meanings
 returns-clause-meanings c = worked_meanings

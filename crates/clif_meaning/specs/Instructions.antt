@@ -41,7 +41,7 @@ use Rattle.clif_insts.specs.declared.raw.RawOperands.TheVariants as form
 use Rattle.clif_insts.specs.declared.raw.RawInst.{RawInst}
 use Rattle.clif_read.specs.declared.raw.RawTag.{RawTag}
 use Rattle.clif_read.specs.declared.raw.RawTag.TheVariants as tag
-use Rattle.clif_resolve.specs.Operations.{operation, access_of, stored_bytes}
+use Rattle.clif_meaning.specs.Operations.{operation, access_of, stored_bytes}
 use Rattle.clif_names.specs.Typing.{gives_type}
 
 -- ---- numbers

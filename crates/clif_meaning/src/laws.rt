@@ -1,6 +1,6 @@
 //! Laws of the definitions: functions without a body, each of which has its law as its contract.
-ghost use Rattle.clif_resolve.specs.Examples.{WorkedMeanings, WorkedSpots};
-ghost use Rattle.clif_resolve.specs.Meaning.{HasMeaning, MeantIsModule, OneMeaning, SameSize};
+ghost use Rattle.clif_meaning.specs.Examples.{WorkedMeanings, WorkedSpots};
+ghost use Rattle.clif_meaning.specs.Meaning.{HasMeaning, MeantIsModule, OneMeaning, SameSize};
 
 /// The worked texts have these meanings and spots.
 pub fn worked_texts()

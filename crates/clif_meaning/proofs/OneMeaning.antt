@@ -23,9 +23,9 @@ use Rattle.clif_names.specs.Definitions.{Step, Param, Line, steps, step_defs, va
 use Rattle.clif_names.specs.Words.{place_in}
 use Rattle.clif_names.specs.Chains.{Ends, look, chain, or_lost, onward, HasNumber, IsNumbering, numbered, own_name}
 use Rattle.clif_names.specs.Typing.{asks, gives_type, step_inst, IsUntyped}
-use Rattle.clif_resolve.specs.Instructions.{operand_type, known, line_of, value_at}
-use Rattle.clif_resolve.specs.Meaning.{numbers, function_with, inst_type, step_types, value_types, types_for, form_types, FunctionMeans, FunctionsMean, Means}
-use Rattle.clif_resolve.specs.Meaning.{OneMeaning}
+use Rattle.clif_meaning.specs.Instructions.{operand_type, known, line_of, value_at}
+use Rattle.clif_meaning.specs.Meaning.{numbers, function_with, inst_type, step_types, value_types, types_for, form_types, FunctionMeans, FunctionsMean, Means}
+use Rattle.clif_meaning.specs.Meaning.{OneMeaning}
 use Rattle.clif_names.specs.Listed as listed
 use Rattle.clif_names.proofs.ListedLaws.{one_end, undefined}
 use Rattle.clif_names.proofs.Numberings.{end_first, place_front}
@@ -227,7 +227,7 @@ module _ (raw : RawFunction) (value : ℕ → ℕ) (numbering : IsNumbering (val
         ∙ ap (λ xs. types_at ts s ++ xs) (all_alike (before ++ s ∷ []) ss rest (append_assoc before (s ∷ []) (ss ++ rest) ∙ whole)
         (subst (λ xs. length (numbered (defs_of xs)) ≤ length ts) (sym (append_assoc before (s ∷ []) ss)) le))
 
-  pub types_from : (before rest : List Step) → before ++ rest ≡ steps raw → (ts : List Ty) → ts ≡ flat_map (types_at ts) before → (us : List Ty) × (us ≡ flat_map (types_at us) (steps raw))
+  unfoldable pub types_from : (before rest : List Step) → before ++ rest ≡ steps raw → (ts : List Ty) → ts ≡ flat_map (types_at ts) before → (us : List Ty) × (us ≡ flat_map (types_at us) (steps raw))
   types_from before [] whole ts is_t = (ts, is_t ∙ ap (flat_map (types_at ts)) (sym (append-nil before) ∙ whole))
   types_from before (s ∷ ss) whole ts is_t = types_from (before ++ s ∷ []) ss (append_assoc before (s ∷ []) ss ∙ whole) (ts ++ types_at ts s) next
     where

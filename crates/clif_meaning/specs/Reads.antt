@@ -5,7 +5,7 @@ use Rattle.clif_read.specs.Stretches.{IsModuleText}
 use Rattle.ir_core.specs.Module.{Module}
 use Rattle.ir_core.specs.WellFormed.{IsModule}
 use Rattle.clif_names.specs.Faults.{NoFault}
-use Rattle.clif_resolve.specs.Meaning.{Means}
+use Rattle.clif_meaning.specs.Meaning.{Means}
 
 -- some text is this raw module
 abbrev pub FromText : RawModule → Type 0

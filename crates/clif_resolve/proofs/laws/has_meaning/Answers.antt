@@ -1,5 +1,0 @@
-use Rattle.clif_resolve.proofs.Existence.{has_meaning}
-use Rattle.clif_resolve.proofs.laws.has_meaning.Goals as goal
-
-pub returns : goal.returns
-returns c = has_meaning

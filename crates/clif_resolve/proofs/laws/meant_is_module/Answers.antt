@@ -1,5 +1,0 @@
-use Rattle.clif_resolve.proofs.ModuleLaws.{meant_is_module}
-use Rattle.clif_resolve.proofs.laws.meant_is_module.Goals as goal
-
-pub returns : goal.returns
-returns c = meant_is_module

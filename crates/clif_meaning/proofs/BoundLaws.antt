@@ -1,5 +1,5 @@
 -- The numbers of defined words are below the numbers of entities.
-use Rattle.std.proofs.Common.{◌≡◌, ℕ, zero, suc, ◌+◌, ◌<◌, ◌≤◌, inl, inr, false, List, [], ◌∷◌, ◌++◌, length, slice_get, Option, None, Some, map, refl, sym, ap, subst, ◌∙◌, arith, append_assoc, eq-eqb}
+use Rattle.std.proofs.Common.{◌≡◌, ℕ, zero, suc, ◌+◌, ◌<◌, ◌≤◌, inl, inr, false, List, [], ◌∷◌, ◌++◌, length, slice_get, Option, None, Some, map, refl, sym, ap, subst, ◌∙◌, arith, append_assoc}
 use Rattle.std.specs.Prelude.{flat_map, nat_eq}
 use Rattle.std.specs.List.{enumerate_from}
 use Rattle.std.proofs.lemmas.Bool.Decides.{eqb_tells}
@@ -22,7 +22,7 @@ use Rattle.clif_read.specs.declared.raw.RawFunction.{RawFunction}
 use Rattle.clif_names.specs.declared.firsts.Def.{Def}
 use Rattle.clif_names.specs.Definitions.{Sigs, Step, Param, Line, value_def, step_defs, block_steps, defs_of, names_of, slot_names, sig_names, callee_names}
 use Rattle.clif_names.specs.Uses.{decl_uses}
-use Rattle.clif_names.specs.Words.{IsDefined, Repeats, place_in}
+use Rattle.clif_names.specs.Words.{IsDefined, place_in}
 use Rattle.clif_names.specs.Chains.{Ends, look, chain, HasNumber, IsNumbering, numbered, own_name}
 use Rattle.clif_meaning.specs.Meaning.{decl_slots, decl_sigs, sig_place, callees_from, block_with, lines_with}
 use Rattle.clif_names.proofs.ListedLaws.{one_end}

@@ -1,18 +1,15 @@
 -- The worked texts have these meanings and spots: each is computed.
-use Rattle.std.proofs.Common.{◌≡◌, ℕ, zero, suc, inl, inr, true, List, [], ◌∷◌, take, refl, None, Some, arith}
+use Rattle.std.proofs.Common.{◌≡◌, true, refl}
 use Rattle.clk_num.specs.Numbers.{signed, wrapped, fits}
-use Rattle.clif_names.specs.Definitions.{Values, definitions, steps, defs_of, value_defs, names_of}
+use Rattle.clif_names.specs.Definitions.{value_defs}
 use Rattle.clif_names.specs.Chains.{chain}
 use Rattle.clif_names.specs.Listed.{value_of, chains_end}
 use Rattle.clif_meaning.specs.Meaning.{FunctionMeans, function_with, value_types}
-use Rattle.clif_insts.specs.declared.raw.RawName.{RawName}
 use Rattle.clif_read.specs.declared.raw.RawFunction.{RawFunction}
-use Rattle.clif_read.specs.declared.raw.RawFuncName.TheVariants as func_name
 use Rattle.ir_core.specs.Module.{Function}
 use Rattle.std.specs.List.{enumerate_from}
-use Rattle.clif_names.specs.Rows as text
 use Rattle.clif_meaning.specs.Examples.{WorkedMeanings, WorkedSpots}
-use Rattle.clif_names.proofs.ListedLaws.{listed_first, listed_none, chains_number, undefined}
+use Rattle.clif_names.proofs.ListedLaws.{chains_number}
 
 -- ---- meanings
 

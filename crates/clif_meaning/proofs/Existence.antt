@@ -1,26 +1,12 @@
 -- A raw module without a fault means a module.
-use Rattle.std.proofs.Common.{◌≡◌, ℕ, zero, suc, inr, List, [], ◌∷◌, slice_get, Some, refl, ap}
-use Rattle.std.specs.Prelude.{flat_map}
-use Rattle.std.specs.List.{enumerate_from, list_all}
-use Rattle.std.proofs.lemmas.Grind.{flat_map-append}
-use Rattle.ir_core.specs.Lists.{In}
+use Rattle.std.proofs.Common.{◌≡◌, ℕ, suc, inr, List, [], ◌∷◌, slice_get, Some, refl, ap}
+use Rattle.std.specs.List.{enumerate_from}
 use Rattle.ir_core.specs.Module.{Function}
-use Rattle.ir_core.proofs.Members.{in_left, in_right, in_cases}
-use Rattle.clif_lex.specs.declared.faults.TextKind.TheVariants.{Duplicate, Undefined, Untyped}
-use Rattle.clif_insts.specs.declared.raw.RawName.{RawName}
-use Rattle.clif_read.specs.declared.raw.RawBlockParam.{RawBlockParam}
-use Rattle.clif_read.specs.declared.raw.RawLine.{RawLine}
-use Rattle.clif_read.specs.declared.raw.RawLine.TheVariants as line
-use Rattle.clif_read.specs.declared.raw.RawBlock.{RawBlock}
+use Rattle.clif_lex.specs.declared.faults.TextKind.TheVariants.{Untyped}
 use Rattle.clif_read.specs.declared.raw.RawFunction.{RawFunction}
-use Rattle.clif_names.specs.declared.firsts.Def.{Def}
-use Rattle.clif_names.specs.Definitions.{Values, Param, Line, value_def, step_defs, block_steps, steps, defs_of, value_defs, names_of, lines}
-use Rattle.clif_names.specs.Uses.{uses, line_uses, decl_uses}
-use Rattle.clif_names.specs.Chains.{Ending, Ends, Lost, look, chain, or_lost, onward, IsNumbering}
+use Rattle.clif_names.specs.Definitions.{steps, value_defs}
 use Rattle.clif_meaning.specs.Meaning.{function_with, FunctionMeans, FunctionsMean, HasMeaning}
 use Rattle.clif_names.specs.Listed as listed
-use Rattle.clif_names.proofs.ListedLaws.{chains_number, found_at}
-use Rattle.clif_names.proofs.Endings.{never_ends}
 use Rattle.clif_meaning.proofs.OneMeaning.{types_from}
 use Rattle.clif_names.proofs.Numberings.{numbering}
 use Rattle.clif_names.specs.FunctionNames.{NoFunctionFault}

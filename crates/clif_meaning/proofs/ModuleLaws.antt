@@ -7,7 +7,6 @@ use Rattle.ir_core.specs.Module.{Function}
 use Rattle.ir_core.specs.Lookup.{same_bytes, same_name, find_function}
 use Rattle.ir_core.specs.WellFormed.{WellFormed, DifferentNames}
 use Rattle.ir_core.proofs.Members.{in_left, in_right}
-use Rattle.clif_lex.specs.declared.faults.TextKind.{TextKind}
 use Rattle.clif_lex.specs.declared.faults.TextKind.TheVariants.{Duplicate, Undefined, NumberRange, Untyped, TooLarge}
 use Rattle.clif_insts.specs.declared.raw.RawName.{RawName}
 use Rattle.clif_read.specs.declared.raw.RawFuncName.{RawFuncName}
@@ -22,7 +21,7 @@ use Rattle.clif_names.specs.Limits.{keeps, of_word, of_number, all_words, name_l
 use Rattle.clif_names.specs.Sizes.{raw_size}
 use Rattle.clif_meaning.specs.Instructions.{natural}
 use Rattle.clif_meaning.specs.Meaning.{name_of, FunctionMeans, FunctionsMean, MeantIsModule}
-use Rattle.clif_names.specs.Faults.{FunctionFault, SameName}
+use Rattle.clif_names.specs.Faults.{SameName}
 use Rattle.clif_names.specs.Listed as listed
 use Rattle.clif_names.proofs.ListedLaws.{defined, undefined, and_both}
 use Rattle.clif_meaning.proofs.WholeLaws.{meant_whole}

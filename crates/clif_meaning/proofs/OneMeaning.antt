@@ -16,15 +16,14 @@ use Rattle.clif_insts.specs.declared.raw.RawName.{RawName}
 use Rattle.clif_insts.specs.declared.raw.RawInst.{RawInst}
 use Rattle.clif_read.specs.declared.raw.RawLine.TheVariants as line
 use Rattle.clif_read.specs.declared.raw.RawFunction.{RawFunction}
-use Rattle.clif_read.specs.declared.raw.RawModule.{RawModule}
 use Rattle.clif_lex.specs.declared.faults.TextKind.TheVariants.{Untyped}
 use Rattle.clif_names.specs.declared.firsts.Def.{Def}
 use Rattle.clif_names.specs.Definitions.{Step, Param, Line, steps, step_defs, value_def, defs_of, value_defs, names_of}
 use Rattle.clif_names.specs.Words.{place_in}
-use Rattle.clif_names.specs.Chains.{Ends, look, chain, or_lost, onward, HasNumber, IsNumbering, numbered, own_name}
+use Rattle.clif_names.specs.Chains.{Ends, look, HasNumber, IsNumbering, numbered, own_name}
 use Rattle.clif_names.specs.Typing.{asks, gives_type, step_inst, IsUntyped}
 use Rattle.clif_meaning.specs.Instructions.{operand_type, known, line_of, value_at}
-use Rattle.clif_meaning.specs.Meaning.{numbers, function_with, inst_type, step_types, value_types, types_for, form_types, FunctionMeans, FunctionsMean, Means}
+use Rattle.clif_meaning.specs.Meaning.{numbers, function_with, inst_type, step_types, value_types, types_for, form_types, FunctionMeans, FunctionsMean}
 use Rattle.clif_meaning.specs.Meaning.{OneMeaning}
 use Rattle.clif_names.specs.Listed as listed
 use Rattle.clif_names.proofs.ListedLaws.{one_end, undefined}
@@ -83,7 +82,7 @@ module _ (raw : RawFunction) (value : ℕ → ℕ) (numbering : IsNumbering (val
   abbrev types_at : List Ty → Step → List Ty
   types_at ts s = step_types raw value (enumerate_from 0 ts) s
 
-  count : (ts : List Ty) (s : Step) → length (types_at ts s) ≡ length (numbered (step_defs s))
+  pub count : (ts : List Ty) (s : Step) → length (types_at ts s) ≡ length (numbered (step_defs s))
   count ts (Param p) = refl
   count ts (Line (line.Alias location n m)) = refl
   count ts (Line (line.Inst location tags results inst)) =
@@ -97,7 +96,7 @@ module _ (raw : RawFunction) (value : ℕ → ℕ) (numbering : IsNumbering (val
       ∙ (let a = count ts s in let b = counts ts ss in omega (arith, a, b, length-append (numbered (step_defs s)) (numbered (defs_of ss))))
       ∙ ap length (sym (flat_map-append own_name (step_defs s) (defs_of ss)))
 
-  total : ℕ
+  pub total : ℕ
   total = length (numbered (value_defs raw))
 
   -- types of values that agree on what stands before a step give it one meaning
@@ -192,7 +191,7 @@ module _ (raw : RawFunction) (value : ℕ → ℕ) (numbering : IsNumbering (val
 
   -- ---- types there are
 
-  shorter : (before rest : List Step) → before ++ rest ≡ steps raw → length (numbered (defs_of before)) ≤ total
+  pub shorter : (before rest : List Step) → before ++ rest ≡ steps raw → length (numbered (defs_of before)) ≤ total
   unfolding total
   shorter before rest whole =
       let e = ap (λ ss. length (numbered (defs_of ss))) (sym whole) in
@@ -214,12 +213,12 @@ module _ (raw : RawFunction) (value : ℕ → ℕ) (numbering : IsNumbering (val
     agree_front : (p : ℕ) → p < length ts → type_in (enumerate_from 0 (ts ++ more)) p ≡ type_in (enumerate_from 0 ts) p
     agree_front p lt = type_found 0 p p (ts ++ more) (omega arith) ∙ get_left ts more p lt ∙ sym (type_found 0 p p ts (omega arith))
 
-    one_alike : (before : List Step) (s : Step) (ss : List Step) → before ++ s ∷ ss ≡ steps raw → length (numbered (defs_of before)) ≤ length ts → types_at (ts ++ more) s ≡ types_at ts s
+    pub one_alike : (before : List Step) (s : Step) (ss : List Step) → before ++ s ∷ ss ≡ steps raw → length (numbered (defs_of before)) ≤ length ts → types_at (ts ++ more) s ≡ types_at ts s
     unfolding type_t type_u
     one_alike before s ss whole le =
         step_alike (ts ++ more) ts before s ss whole (λ p lt. agree_front p (omega (arith, lt, le))) (past_all (ts ++ more) few ∙ sym (past_all ts few_first))
 
-    all_alike : (before mid rest : List Step) → before ++ (mid ++ rest) ≡ steps raw → length (numbered (defs_of (before ++ mid))) ≤ length ts
+    pub all_alike : (before mid rest : List Step) → before ++ (mid ++ rest) ≡ steps raw → length (numbered (defs_of (before ++ mid))) ≤ length ts
         → flat_map (types_at (ts ++ more)) mid ≡ flat_map (types_at ts) mid
     all_alike before [] rest whole le = refl
     all_alike before (s ∷ ss) rest whole le =

@@ -1,5 +1,5 @@
 -- What the worked texts of clif_names mean.
-use Rattle.std.specs.Prelude.{◌≡◌, map, ℕ, List, [], ◌∷◌, Option, None, Some, true, false, codes, pos, negsuc}
+use Rattle.std.specs.Prelude.{◌≡◌, ℕ, List, [], ◌∷◌, Option, None, Some, true, false, codes, pos, negsuc}
 use Rattle.clk_num.specs.declared.op.Cc.TheVariants.{Slt}
 use Rattle.clk_num.specs.declared.op.Op.TheVariants as op
 use Rattle.clk_num.specs.declared.op.TrapCode.TheVariants as code

@@ -1,0 +1,5 @@
+use Rattle.publish_table.proofs.Shown.{shown}
+use Rattle.publish_table.proofs.laws.table_facts.Goals as goal
+
+pub returns : goal.returns
+returns c = λ job s r. (r.events, shown job s r)

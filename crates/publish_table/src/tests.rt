@@ -1,0 +1,17 @@
+//! That a table is made with ample memory.
+
+use crate::{Board, Policy};
+use ir_core::Module;
+use std::alloc::AllocError;
+
+#[test]
+fn makes_seats(rt: HostRuntime) -> Result<(), AllocError> {
+    let alloc = rt.alloc();
+    let policy = Policy {
+        callee_size: 64,
+        caller_size: 4096,
+    };
+    let (_board, seats) = Board::new(alloc, &Module::new(alloc), policy, 3)?;
+    assert_eq!(rt; seats.len(), 3);
+    Ok(())
+}

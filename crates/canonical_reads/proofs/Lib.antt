@@ -1,0 +1,11 @@
+mod Lists
+mod Spotless
+mod Counted
+mod Shapes
+mod Used
+mod Undefined
+mod Typed
+mod Untyped
+mod Sizes
+mod Kept
+mod Whole

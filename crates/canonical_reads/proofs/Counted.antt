@@ -78,7 +78,7 @@ callee_words f =
     ∙ ap₂ both (none_of callee_names raws.slot_decl (λ k x. refl) 0 f.slots) (ap (λ (ws : List RawName). both ws (flat_map callee_names (callees_of f))) (none_of callee_names raws.sig_decl (λ k x. refl) 0 f.sigs)))
     ∙ each_one callee_names raws.callee_decl (λ k x. refl) 0 f.callees
 
--- ---- values and blocks
+-- ---- values and blocks (as names_read_back has them, privately)
 
 module _ (f : Function) (n : Numbering) where
   abbrev pub def_at : ℕ → Def

@@ -1,4 +1,4 @@
--- A function under canonical numbers has the same size.
+-- A function under canonical numbers has the same size. (inline_acceptance has the same lemmas, above the splice.)
 use Rattle.std.proofs.Common.{◌≡◌, ℕ, ◌+◌, List, [], ◌++◌, ◌∷◌, length, map, refl, ap, ap₂, ◌∙◌}
 use Rattle.std.proofs.lemmas.List.{length-map}
 use Rattle.exn_tables.specs.declared.table.Entry.{Entry}

@@ -23,7 +23,7 @@ use Rattle.canonical_reads.proofs.Spotless.{bare_def, uses_bare, definitions_bar
 use Rattle.canonical_reads.proofs.Counted.{count, counted, no_alias}
 use Rattle.canonical_reads.proofs.Used.{used_within}
 
--- ---- definitions without alias lines
+-- ---- definitions without alias lines (as names_read_back has them, privately)
 
 abbrev pub IsNoAlias : Def → Type 0
 IsNoAlias d = d.target ≡ None

@@ -6,6 +6,5 @@ mod Used
 mod Undefined
 mod Typed
 mod Untyped
-mod Sizes
 mod Kept
 mod Whole

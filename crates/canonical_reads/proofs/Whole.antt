@@ -4,6 +4,7 @@ use Rattle.std.specs.Prelude.{flat_map}
 use Rattle.std.proofs.lemmas.List.{map-append}
 use Rattle.ir_core.specs.Lists.{Each}
 use Rattle.ir_core.specs.Module.{Function, Module}
+use Rattle.ir_core.specs.Size.{size_of}
 use Rattle.ir_core.specs.WellFormed.{WellFormed, IsModule}
 use Rattle.ir_core.proofs.Members.{each_join}
 use Rattle.ir_semantics.specs.Canon.{canonical, canonical_module}
@@ -23,6 +24,8 @@ use Rattle.clif_names.specs.Sizes.{raw_size}
 use Rattle.clif_names.specs.Uses.{uses}
 use Rattle.clif_meaning.specs.Meaning.{FunctionsMean, Means, SameSize}
 use Rattle.clif_meaning.specs.Reads.{Reads}
+use Rattle.inline_numbering.specs.Renamed.{CanonicalIsSame, SameIsRenamed, RenamedKeepsSize, NumberingKeepsText}
+use Rattle.names_read_back.specs.Canonical.{ReadsAsNothingElse}
 use Rattle.text_read_back.specs.Bare as bare
 use Rattle.text_read_back.specs.RawOf as raws
 use Rattle.text_read_back.specs.ReadsBack.{ReadsBack}
@@ -31,9 +34,8 @@ use Rattle.canonical_reads.proofs.Spotless.{bare_limited, name_limits_bare, decl
 use Rattle.canonical_reads.proofs.Counted.{count, few}
 use Rattle.canonical_reads.proofs.Undefined.{defined_below, used_below, nothing_undefined}
 use Rattle.canonical_reads.proofs.Untyped.{nothing_untyped}
-use Rattle.canonical_reads.proofs.Sizes.{canonical_size}
 use Rattle.canonical_reads.proofs.Kept.{Kept, AllKept, entity, name_kept, decl_numbers, line_numbers}
-use Rattle.canonical_reads.specs.Laws.{HasNone}
+use Rattle.canonical_reads.specs.Laws.{HasNone, OneTextUpToNumbering}
 
 -- ---- numbers of a function
 
@@ -118,21 +120,26 @@ module _ (m : Module) (is : IsModule m) (w : Writable m) (back : ReadsBack m) (r
 
 -- ---- sizes
 
-sizes_kept : SameSize → (rs : List RawFunction) (m : Module) → FunctionsMean rs (canonical_module m) → Each FunctionWritable m → (i : ℕ) (r : RawFunction) → slice_get rs i ≡ Some r → (raw_size r ≤ 262144) × (i < length m)
-sizes_kept same [] m h w i r at = absurd cc
-sizes_kept same (x ∷ rs) [] h w i r at = absurd h
-sizes_kept same (x ∷ rs) (f ∷ fs) h w zero r at =
-    let this : x ≡ r = cc in
-    let own = same x (canonical f) h.0 in let kept = canonical_size f in let small = w.0.size in
-    (subst (λ (y : RawFunction). raw_size y ≤ 262144) this (omega (arith, own, kept, small)), omega arith)
-sizes_kept same (x ∷ rs) (f ∷ fs) h w (suc i) r at =
-    let rest = sizes_kept same rs fs h.1 w.1 i r at in let next = rest.1 in (rest.0, omega (arith, next))
+module _ (same : SameSize) (canonical_same : CanonicalIsSame) (renamed : SameIsRenamed) (keeps : RenamedKeepsSize) where
+  canonical_size : (f : Function) → WellFormed f → size_of (canonical f) ≡ size_of f
+  canonical_size f is = let under = renamed f (canonical f) (canonical_same f is) in keeps under.0 f (canonical f) under.1
 
-pub none_too_large : SameSize → (m : Module) → Writable m → (raw : RawModule) → Means raw (canonical_module m) → HasNone TooLarge raw
-none_too_large same m w raw means spot (inl (i, f, at, here, many)) =
-    let less = (sizes_kept same raw.functions m means w.functions i f at).1 in let most = w.count in absurd (omega (arith, many, less, most))
-none_too_large same m w raw means spot (inr (i, r, at, (here, large))) =
-    let small = (sizes_kept same raw.functions m means w.functions i r at).0 in absurd (omega (arith, large, small))
+  sizes_kept : (rs : List RawFunction) (m : Module) → FunctionsMean rs (canonical_module m) → Each WellFormed m → Each FunctionWritable m → (i : ℕ) (r : RawFunction) → slice_get rs i ≡ Some r
+      → (raw_size r ≤ 262144) × (i < length m)
+  sizes_kept [] m h is w i r at = absurd cc
+  sizes_kept (x ∷ rs) [] h is w i r at = absurd h
+  sizes_kept (x ∷ rs) (f ∷ fs) h is w zero r at =
+      let this : x ≡ r = cc in
+      let own = same x (canonical f) h.0 in let kept = canonical_size f is.0 in let small = w.0.size in
+      (subst (λ (y : RawFunction). raw_size y ≤ 262144) this (omega (arith, own, kept, small)), omega arith)
+  sizes_kept (x ∷ rs) (f ∷ fs) h is w (suc i) r at =
+      let rest = sizes_kept rs fs h.1 is.1 w.1 i r at in let next = rest.1 in (rest.0, omega (arith, next))
+
+  pub none_too_large : (m : Module) → IsModule m → Writable m → (raw : RawModule) → Means raw (canonical_module m) → HasNone TooLarge raw
+  none_too_large m is w raw means spot (inl (i, f, at, here, many)) =
+      let less = (sizes_kept raw.functions m means is.whole w.functions i f at).1 in let most = w.count in absurd (omega (arith, many, less, most))
+  none_too_large m is w raw means spot (inr (i, r, at, (here, large))) =
+      let small = (sizes_kept raw.functions m means is.whole w.functions i r at).0 in absurd (omega (arith, large, small))
 
 -- ---- no fault
 
@@ -150,3 +157,11 @@ pub reads : (m : Module) → IsModule m → Writable m → ReadsBack m
     → ((raw : RawModule) → IsModuleText (text_of m) raw → NoFault raw)
     → Reads (text_of m) (canonical_module m)
 reads m is w back means fine = (back.raw, back.is, fine back.raw back.is, means back.raw back.is)
+
+-- ---- one text
+
+pub one_text : ((m : Module) → IsModule m → Writable m → Reads (text_of m) (canonical_module m)) → ReadsAsNothingElse → NumberingKeepsText → OneTextUpToNumbering
+one_text read only keeps m r is w is' w' = (
+  (λ e. (is.whole, is'.whole, sym (only m is w (canonical_module r) (subst (λ (text : List ℕ). Reads text (canonical_module r)) (sym e) (read r is' w'))))),
+  keeps m r,
+)

@@ -1,8 +1,8 @@
 -- The canonical text of a writable module is read as the module under canonical numbers: it has no fault.
-use Rattle.std.specs.Prelude.{ℕ}
+use Rattle.std.specs.Prelude.{◌≡◌, ◌↔◌, ℕ}
 use Rattle.ir_core.specs.Module.{Module}
 use Rattle.ir_core.specs.WellFormed.{IsModule}
-use Rattle.ir_semantics.specs.Canon.{canonical_module}
+use Rattle.ir_semantics.specs.Canon.{canonical_module, SameUpToNumbering}
 use Rattle.ir_text.specs.Writable.{Writable}
 use Rattle.ir_text.specs.Text.{text_of}
 use Rattle.clif_lex.specs.declared.faults.TextKind.{TextKind}
@@ -43,3 +43,9 @@ NothingWrong = EachCanonicalText NoFault
 -- the canonical text of a writable module is read, and as the module under canonical numbers
 abbrev pub ReadsAsCanonical : Type 0
 ReadsAsCanonical = (m : Module) → IsModule m → Writable m → Reads (text_of m) (canonical_module m)
+
+-- two writable modules have one canonical text exactly where they are the same up to numbering
+abbrev pub OneTextUpToNumbering : Type 0
+OneTextUpToNumbering =
+    (m r : Module) → IsModule m → Writable m → IsModule r → Writable r
+    → (text_of m ≡ text_of r) ↔ SameUpToNumbering m r

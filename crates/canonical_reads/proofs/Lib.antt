@@ -1,0 +1,10 @@
+mod Lists
+mod Spotless
+mod Counted
+mod Shapes
+mod Used
+mod Undefined
+mod Typed
+mod Untyped
+mod Kept
+mod Whole

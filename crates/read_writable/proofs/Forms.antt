@@ -1,5 +1,5 @@
 -- An instruction that is read is of a form that can be written.
-use Rattle.std.proofs.Common.{◌≡◌, ℕ, ◌<◌, Bool, true, false, List, [], ◌∷◌, map, length, slice_get, Option, None, Some, refl, sym, subst, ◌∙◌, inl, inr}
+use Rattle.std.proofs.Common.{◌≡◌, ℕ, ◌<◌, true, false, List, map, length, Option, None, Some, refl, sym, ◌∙◌, inl, inr}
 use Rattle.std.specs.Prelude.{flat_map, is_some, IsSome, IsSomeAnd}
 use Rattle.clk_num.specs.declared.op.Op.{Op}
 use Rattle.clk_num.specs.declared.op.TrapCode.{TrapCode}
@@ -15,7 +15,7 @@ use Rattle.ir_core.specs.Module.{CallTarget, Direct, Indirect, Plain, Line, Func
 use Rattle.ir_core.specs.Uses.{called_callees, called_sigs, callees_used, sigs_used}
 use Rattle.ir_core.proofs.Members.{each_left, each_right}
 use Rattle.ir_semantics.specs.Renaming.{Renaming}
-use Rattle.ir_text.specs.Writable.{conversion, ResultTypes, result_types, OpForm, AccessForm, StoreForm, CodeWritable, InstructionForm}
+use Rattle.ir_text.specs.Writable.{conversion, ResultTypes, OpForm, AccessForm, StoreForm, CodeWritable, InstructionForm}
 use Rattle.clif_words.specs.declared.class.Class.TheVariants as classes
 use Rattle.clif_words.specs.declared.opcodes.Opcode.{Opcode}
 use Rattle.clif_words.specs.declared.opcodes.Opcode.TheVariants as opcode
@@ -23,7 +23,6 @@ use Rattle.clif_insts.specs.declared.raw.RawName.{RawName}
 use Rattle.clif_insts.specs.declared.raw.RawFlag.{RawFlag}
 use Rattle.clif_insts.specs.declared.raw.RawNumber.{RawNumber}
 use Rattle.clif_insts.specs.declared.raw.RawEntry.{RawEntry}
-use Rattle.clif_insts.specs.declared.raw.RawTarget.{RawTarget}
 use Rattle.clif_insts.specs.declared.raw.RawOperands.{RawOperands}
 use Rattle.clif_insts.specs.declared.raw.RawOperands.TheVariants as form
 use Rattle.clif_insts.specs.Marks.{MarkFormed, operand_marks}
@@ -33,8 +32,8 @@ use Rattle.clif_names.specs.declared.limits.Limited.{Limited}
 use Rattle.clif_names.specs.Limits.{keeps}
 use Rattle.clif_names.specs.Typing.{gives_type}
 use Rattle.clif_names.specs.Uses.{operand_targets}
-use Rattle.clif_meaning.specs.Instructions.{may_leave_out, kept_type, nullary, trap_if, call, code_of, target_of, instruction_of}
-use Rattle.clif_meaning.specs.Meaning.{operation_types, sig_results, form_types}
+use Rattle.clif_meaning.specs.Instructions.{may_leave_out, kept_type, nullary, trap_if, call, code_of, instruction_of}
+use Rattle.clif_meaning.specs.Meaning.{operation_types, form_types}
 use Rattle.clif_meaning.specs.Operations.{operation, access_of, stored_bytes}
 use Rattle.read_writable.proofs.Lists.{each_got, found}
 use Rattle.read_writable.proofs.Numbers.{constant_writable, immediate_writable}

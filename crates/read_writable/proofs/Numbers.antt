@@ -1,5 +1,5 @@
 -- Numbers that keep the limits of a text keep those of what is written.
-use Rattle.std.proofs.Common.{◌≡◌, ℕ, zero, suc, ◌-◌, ◌%◌, ◌^◌, ◌<◌, ◌≤◌, Bool, true, false, refl, sym, subst, arith, inl, inr, lit≤}
+use Rattle.std.proofs.Common.{◌≡◌, ℕ, ◌-◌, ◌^◌, ◌<◌, ◌≤◌, Bool, true, false, refl, sym, subst, arith, inl, inr}
 use Rattle.std.specs.Prelude.{ℤ, pos, negsuc, neg_ℤ, ◌≤ℤ◌, ◌<ℤ◌}
 use Rattle.std.proofs.Math.Nat.{mod-eq_of_lt}
 use Rattle.std.proofs.lemmas.Int.{ints}
@@ -14,9 +14,9 @@ use Rattle.clk_num.specs.declared.width.Width.TheVariants.{W8, W16, W32, W64, W1
 use Rattle.clk_num.proofs.Numbers.{signed_low, signed_high}
 use Rattle.ir_core.specs.declared.signatures.Ty.{Ty}
 use Rattle.ir_core.specs.Lookup.{width_of}
-use Rattle.ir_text.specs.Writable.{greatest_number, by_zeros, OffsetWritable, SignedWithin, ImmediateWithin, WhereWidest, ConstantWritable, ImmediateWritable}
+use Rattle.ir_text.specs.Writable.{by_zeros, OffsetWritable, SignedWithin, ImmediateWithin, WhereWidest, ConstantWritable, ImmediateWritable}
 use Rattle.clif_lex.specs.Numbers.{is_wide}
-use Rattle.clif_names.specs.declared.limits.Limit.TheVariants.{Entity, SlotSize, UserTrap, Offset}
+use Rattle.clif_names.specs.declared.limits.Limit.TheVariants.{Offset}
 use Rattle.clif_names.specs.Limits.{within, keeps}
 use Rattle.clif_meaning.specs.Instructions.{natural, constant, immediate, extended}
 

@@ -1,6 +1,6 @@
 -- The operation of an opcode has the operands of the opcode's form, and a suffix as the form has it.
 use Rattle.std.proofs.Common.{◌≡◌, ◌⊎◌, true, false, None, Some, refl, sym, subst, ◌∙◌, inl, inr}
-use Rattle.std.specs.Prelude.{Bool, IsTrue, is_some}
+use Rattle.std.specs.Prelude.{Bool, is_some}
 use Rattle.grammar.specs.Rules.{member}
 use Rattle.ir_core.specs.declared.signatures.Ty.{Ty}
 use Rattle.ir_core.specs.Forms.{has_immediate}

@@ -1,10 +1,8 @@
 -- Targets, exception tables, flags, tags, names and declarations that are read can be written.
-use Rattle.std.proofs.Common.{◌≡◌, ℕ, suc, Bool, true, false, List, [], ◌∷◌, ◌++◌, map, Option, None, Some, refl, sym, ap, ap₂, ◌∙◌}
+use Rattle.std.proofs.Common.{◌≡◌, ℕ, suc, Bool, true, false, List, [], ◌∷◌, map, Option, None, Some, refl, sym, ap₂, ◌∙◌}
 use Rattle.std.specs.Prelude.{flat_map, fold, not, ◌&&◌, ◌||◌, IsTrue, ℤ, pos, negsuc}
 use Rattle.std.specs.List.{list_any, list_all}
 use Rattle.std.proofs.lemmas.Bool.{and_parts}
-use Rattle.exn_tables.specs.declared.table.Entry.{Entry}
-use Rattle.ir_core.specs.declared.instructions.BlockCall.{BlockCall}
 use Rattle.ir_core.specs.declared.instructions.Flags.{Flags}
 use Rattle.ir_core.specs.declared.declarations.Callee.{Callee}
 use Rattle.ir_core.specs.Forms.{flags_form}

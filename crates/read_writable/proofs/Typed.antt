@@ -16,7 +16,7 @@ use Rattle.clif_read.specs.declared.raw.RawTag.{RawTag}
 use Rattle.clif_read.specs.declared.raw.RawLine.TheVariants as line
 use Rattle.clif_read.specs.declared.raw.RawFunction.{RawFunction}
 use Rattle.clif_names.specs.Chains.{IsNumbering, numbered, own_name}
-use Rattle.clif_names.specs.Definitions.{Step, Param, Line, value_def, step_defs, steps, defs_of, value_defs, names_of}
+use Rattle.clif_names.specs.Definitions.{Step, Param, Line, step_defs, steps, defs_of, value_defs, names_of}
 use Rattle.clif_names.specs.Words.{place_in}
 use Rattle.clif_names.proofs.Numberings.{NoRepeats, place_here, place_there}
 use Rattle.clif_meaning.specs.Instructions.{line_of}
@@ -76,8 +76,8 @@ module _ (raw : RawFunction) (value : ℕ → ℕ) (types : List (ℕ × Ty)) wh
   steps_typed [] h = tt
   steps_typed (s ∷ ss) h =
       let both =
-          typed_parts (numbered (step_defs s)) (numbered (defs_of ss)) (given s) (flat_map given ss) (sym (step_count s))
-          (subst (λ (ns : List RawName). Typed ns (given s ++ flat_map given ss)) (flat_map-append own_name (step_defs s) (defs_of ss)) h)
+      typed_parts (numbered (step_defs s)) (numbered (defs_of ss)) (given s) (flat_map given ss) (sym (step_count s))
+      (subst (λ (ns : List RawName). Typed ns (given s ++ flat_map given ss)) (flat_map-append own_name (step_defs s) (defs_of ss)) h)
       in (both.0, steps_typed ss both.1)
 
   -- ---- values are numbered as their types are

@@ -1,42 +1,38 @@
 -- A function that a text means is writable, and so is a module.
-use Rattle.std.proofs.Common.{◌≡◌, ◌≢◌, ℕ, zero, suc, ◌+◌, ◌<◌, ◌≤◌, Bool, true, false, List, [], ◌∷◌, ◌++◌, length, slice_get, Option, Some, map, refl, sym, ap, subst, ◌∙◌, arith, inl, inr}
+use Rattle.std.proofs.Common.{◌≡◌, ◌≢◌, ℕ, suc, ◌+◌, Bool, true, false, List, [], ◌∷◌, ◌++◌, length, slice_get, Option, Some, map, refl, sym, ap, subst, arith, inl, inr}
 use Rattle.std.specs.Prelude.{flat_map}
 use Rattle.std.specs.List.{enumerate_from}
 use Rattle.std.proofs.lemmas.Bool.Decides.{leb_tells}
-use Rattle.ir_core.specs.declared.signatures.Ty.{Ty}
 use Rattle.ir_core.specs.Lists.{In, Different, Each}
-use Rattle.ir_core.specs.Module.{Block, Function, Module}
-use Rattle.ir_core.specs.Module as core
+use Rattle.ir_core.specs.Module.{Block, Function}
 use Rattle.ir_core.specs.Size.{size_of}
-use Rattle.ir_core.specs.WellFormed.{LineWellFormed, BlockWellFormed, WellFormed, IsModule}
-use Rattle.ir_core.proofs.Members.{each_left, each_right, in_left, in_right}
+use Rattle.ir_core.specs.WellFormed.{LineWellFormed, BlockWellFormed, WellFormed}
+use Rattle.ir_core.proofs.Members.{each_left, each_right, in_right}
 use Rattle.ir_semantics.specs.Renaming.{Renaming}
-use Rattle.ir_text.specs.Writable.{LineWritable, FunctionWritable, Writable}
+use Rattle.ir_text.specs.Writable.{LineWritable, FunctionWritable}
 use Rattle.clif_lex.specs.declared.faults.TextKind.TheVariants.{Duplicate, NumberRange, TooLarge}
 use Rattle.clif_insts.specs.declared.raw.RawInst.{RawInst}
 use Rattle.clif_insts.specs.declared.raw.RawName.{RawName}
-use Rattle.clif_insts.specs.Marks.{Mark, Word, Opcode, Spot, MarkFormed, names_marks, inst_marks, operand_marks}
+use Rattle.clif_insts.specs.Marks.{Mark, Spot, MarkFormed, names_marks, inst_marks}
 use Rattle.clif_insts.specs.OfForm.{InstFormed}
 use Rattle.clif_read.specs.declared.raw.RawTag.{RawTag}
 use Rattle.clif_read.specs.declared.raw.RawLine.{RawLine}
 use Rattle.clif_read.specs.declared.raw.RawLine.TheVariants as line
 use Rattle.clif_read.specs.declared.raw.RawBlock.{RawBlock}
 use Rattle.clif_read.specs.declared.raw.RawFunction.{RawFunction}
-use Rattle.clif_read.specs.declared.raw.RawModule.{RawModule}
-use Rattle.clif_read.specs.Formed.{LineFormed, BlockFormed, FunctionFormed, IsFormed}
+use Rattle.clif_read.specs.Formed.{LineFormed, BlockFormed, FunctionFormed}
 use Rattle.clif_read.specs.Marks.{name_spot, func_name_marks, decl_marks, tag_marks, location_marks, line_marks, block_param_marks, block_marks, function_marks}
 use Rattle.clif_names.specs.declared.limits.Limit.TheVariants.{Entity}
 use Rattle.clif_names.specs.declared.limits.Limited.{Limited}
 use Rattle.clif_names.specs.Chains.{numbered}
-use Rattle.clif_names.specs.Definitions.{Values, Param, Line as Written, block_steps, steps, value_defs, lines}
-use Rattle.clif_names.specs.Faults.{NoFault}
+use Rattle.clif_names.specs.Definitions.{Values, Param, Line as Written, block_steps, value_defs, lines}
 use Rattle.clif_names.specs.FunctionNames.{NoFunctionFault}
 use Rattle.clif_names.specs.Limits.{keeps, of_word, all_words, name_limits, decl_limits, target_limits, operand_limits, tag_limits, line_limits, limits}
 use Rattle.clif_names.specs.Uses.{operand_targets}
 use Rattle.clif_names.proofs.Numberings.{in_place}
 use Rattle.clif_meaning.specs.Instructions.{line_of}
-use Rattle.clif_meaning.specs.Meaning.{numbers, inst_type, function_with, block_with, lines_with, FunctionMeans, FunctionsMean, Means, HasBlocks}
-use Rattle.clif_meaning.specs.Reads.{Reads, ReadIsModule}
+use Rattle.clif_meaning.specs.Meaning.{numbers, inst_type, function_with, block_with, lines_with, FunctionMeans, FunctionsMean}
+use Rattle.clif_meaning.specs.Reads.{ReadIsModule}
 use Rattle.clif_meaning.proofs.BoundLaws.{blocks_define}
 use Rattle.clif_meaning.proofs.ModuleLaws.{size, meant_is_module}
 use Rattle.clif_meaning.proofs.SizeLaws.{same_size}
@@ -45,7 +41,7 @@ use Rattle.clif_read.proofs.ModuleFormed.{text_formed}
 use Rattle.read_writable.specs.Laws.{MeantIsWritable, ReadIsWritable}
 use Rattle.read_writable.proofs.Lists.{each_member, each_given, in_map, found}
 use Rattle.read_writable.proofs.Parts.{AllKept, tags_writable, name_writable, slots_writable, callees_writable}
-use Rattle.read_writable.proofs.Forms.{Given, form_writable}
+use Rattle.read_writable.proofs.Forms.{form_writable}
 use Rattle.read_writable.proofs.Typed.{line_typed}
 
 abbrev Kept : Limited → Type 0
@@ -146,9 +142,9 @@ module _ (len : ℕ) (raw : RawFunction) (f : Function) (mf : FunctionMeans raw 
         let fine = line_kept l i in
         let front = each_left Kept (shown ++ own) targets fine in
         let marked =
-            each_right (MarkFormed len) (names_marks results) (inst_marks inst)
-            (each_right (MarkFormed len) (flat_map tag_marks tags) (names_marks results ++ inst_marks inst)
-            (each_right (MarkFormed len) (location_marks location) (flat_map tag_marks tags ++ (names_marks results ++ inst_marks inst)) (line_marked l i)))
+        each_right (MarkFormed len) (names_marks results) (inst_marks inst)
+        (each_right (MarkFormed len) (flat_map tag_marks tags) (names_marks results ++ inst_marks inst)
+        (each_right (MarkFormed len) (location_marks location) (flat_map tag_marks tags ++ (names_marks results ++ inst_marks inst)) (line_marked l i)))
         in
         let step = in_flat_in block_steps raw.blocks b (Written l) there (in_right (Written l) (map Param b.params) (map Written b.lines) (in_map Written b.lines l i)) in (
           form_writable len F whole.callees at (line_of at t tags results inst) inst.suffix inst.opcode.kind t inst.operands (record {

@@ -1,6 +1,7 @@
 //! Laws: functions that do nothing, so that a caller has the law by a call.
 
-ghost use Rattle.printed_reads.specs.Laws.{OneTextOfRead, PrintedReadsSame, PrintingIsRead, PrintingIsStable};
+ghost use Rattle.printed_reads.specs.Laws.{CanonicalKeepsText, OneTextOfRead, PrintedReadsSame, PrintingIsRead};
+ghost use Rattle.printed_reads.specs.Laws.{PrintingIsStable};
 
 /// The printed text of what is read is read as it again, under canonical numbers.
 pub fn printing_is_read()
@@ -9,6 +10,14 @@ pub fn printing_is_read()
     read_writable::laws::read_is_module();
     read_writable::laws::read_is_writable();
     canonical_reads::laws::canonical_text_reads_as_canonical();
+}
+
+/// A module under canonical numbers has the text of the module.
+pub fn canonical_keeps_text()
+    ensures { CanonicalKeepsText }
+{
+    inline_numbering::laws::canonical_module_is_same();
+    inline_numbering::laws::numbering_keeps_text();
 }
 
 /// Whatever that text is read as is the same up to numbering.

@@ -28,8 +28,6 @@ use Rattle.clif_insts.specs.declared.raw.RawOperands.TheVariants as form
 use Rattle.clif_insts.specs.Marks.{MarkFormed, operand_marks}
 use Rattle.clif_insts.specs.OfForm.{IsOfForm, ArgumentsFit}
 use Rattle.clif_names.specs.Limits.{target_limits, operand_limits}
-use Rattle.clif_names.specs.declared.limits.Limited.{Limited}
-use Rattle.clif_names.specs.Limits.{keeps}
 use Rattle.clif_names.specs.Typing.{gives_type}
 use Rattle.clif_names.specs.Uses.{operand_targets}
 use Rattle.clif_meaning.specs.Instructions.{may_leave_out, kept_type, nullary, trap_if, call, code_of, instruction_of}
@@ -38,7 +36,7 @@ use Rattle.clif_meaning.specs.Operations.{operation, access_of, stored_bytes}
 use Rattle.read_writable.proofs.Lists.{each_got, found}
 use Rattle.read_writable.proofs.Numbers.{constant_writable, immediate_writable}
 use Rattle.read_writable.proofs.Operations.{unary_count, binary_count, ternary_count, immediate_is, IsNot, is_of, other_form, no_conversion, its_conversion, leaves_out, keeps_suffix, unary_form}
-use Rattle.read_writable.proofs.Parts.{AllKept, maybe_offset, code_writable, flags_writable, branch_target, branch_targets, normal_target, table_writable}
+use Rattle.read_writable.proofs.Parts.{Kept, AllKept, maybe_offset, code_writable, flags_writable, branch_target, branch_targets, normal_target, table_writable}
 
 width_back : (t : Ty) → ty_of (width_of t) ≡ t
 width_back ty.I8 = refl
@@ -218,14 +216,14 @@ module _ (len : ℕ) (f : Function) (own : Each (λ (c : Callee). c.sig < length
   form_writable (form.TryCall callee args sig normal table) g =
       let rest = flat_map target_limits (map (λ (e : RawEntry). e.target) table) in (
         no_type (form.TryCall callee args sig normal table) refl refl refl g,
-        normal_target at normal g.arguments.0 (each_left (λ (z : Limited). keeps z.limit z.value ≡ true) (target_limits normal) rest g.targets),
-        table_writable at table g.arguments.1 g.limits (each_right (λ (z : Limited). keeps z.limit z.value ≡ true) (target_limits normal) rest g.targets),
+        normal_target at normal g.arguments.0 (each_left Kept (target_limits normal) rest g.targets),
+        table_writable at table g.arguments.1 g.limits (each_right Kept (target_limits normal) rest g.targets),
         g.results,
       )
   form_writable (form.TryCallIndirect x args sig normal table) g =
       let rest = flat_map target_limits (map (λ (e : RawEntry). e.target) table) in (
         no_type (form.TryCallIndirect x args sig normal table) refl refl refl g,
-        normal_target at normal g.arguments.0 (each_left (λ (z : Limited). keeps z.limit z.value ≡ true) (target_limits normal) rest g.targets),
-        table_writable at table g.arguments.1 g.limits (each_right (λ (z : Limited). keeps z.limit z.value ≡ true) (target_limits normal) rest g.targets),
+        normal_target at normal g.arguments.0 (each_left Kept (target_limits normal) rest g.targets),
+        table_writable at table g.arguments.1 g.limits (each_right Kept (target_limits normal) rest g.targets),
         g.results,
       )

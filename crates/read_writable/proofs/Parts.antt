@@ -38,8 +38,12 @@ use Rattle.clif_meaning.specs.Instructions.{natural, offset_of, code_of, no_flag
 use Rattle.clif_meaning.specs.Meaning.{name_of, alignment, decl_slots, callees_from}
 use Rattle.read_writable.proofs.Numbers.{at_most, offset_writable}
 
+-- it keeps its limit
+abbrev pub Kept : Limited → Type 0
+Kept z = keeps z.limit z.value ≡ true
+
 abbrev pub AllKept : List Limited → Type 0
-AllKept zs = Each (λ (z : Limited). keeps z.limit z.value ≡ true) zs
+AllKept zs = Each Kept zs
 
 -- ---- numbers
 
@@ -57,16 +61,16 @@ code_writable (trap.User n) h = at_most 65535 (pos n.number) h.0
 
 -- ---- flags
 
+or_false : (b : Bool) → (b || false) ≡ b
+or_false true = refl
+or_false false = refl
+
 or_true : (b : Bool) → (b || true) ≡ true
 or_true true = refl
 or_true false = refl
 
 big_is : (fs : List RawFlag) (a : Flags) → (fold with_flag a fs).big ≡ (a.big || list_any is_big fs)
 big_is [] a = sym (or_false a.big)
-  where
-    or_false : (b : Bool) → (b || false) ≡ b
-    or_false true = refl
-    or_false false = refl
 big_is (flag.Big ∷ fs) a = big_is fs (with_flag a flag.Big) ∙ sym (or_true a.big)
 big_is (flag.Notrap ∷ fs) a = big_is fs (with_flag a flag.Notrap)
 big_is (flag.Aligned ∷ fs) a = big_is fs (with_flag a flag.Aligned)
@@ -79,10 +83,6 @@ big_is (flag.Little ∷ fs) a = big_is fs (with_flag a flag.Little)
 
 little_is : (fs : List RawFlag) (a : Flags) → (fold with_flag a fs).little ≡ (a.little || list_any is_little fs)
 little_is [] a = sym (or_false a.little)
-  where
-    or_false : (b : Bool) → (b || false) ≡ b
-    or_false true = refl
-    or_false false = refl
 little_is (flag.Little ∷ fs) a = little_is fs (with_flag a flag.Little) ∙ sym (or_true a.little)
 little_is (flag.Notrap ∷ fs) a = little_is fs (with_flag a flag.Notrap)
 little_is (flag.Aligned ∷ fs) a = little_is fs (with_flag a flag.Aligned)
@@ -135,11 +135,11 @@ module _ (at : Renaming) where
   table_writable [] h k m = tt
   table_writable (e ∷ es) h k m = (
     (
-      entry_tag_writable e.tag (each_left (λ (z : Limited). keeps z.limit z.value ≡ true) (entry_limits e) (flat_map entry_limits es) k),
-      table_args e.target.args h.0 (each_left (λ (z : Limited). keeps z.limit z.value ≡ true) (target_limits e.target) (flat_map target_limits (map (λ (e : RawEntry). e.target) es)) m),
+      entry_tag_writable e.tag (each_left Kept (entry_limits e) (flat_map entry_limits es) k),
+      table_args e.target.args h.0 (each_left Kept (target_limits e.target) (flat_map target_limits (map (λ (e : RawEntry). e.target) es)) m),
     ),
-    table_writable es h.1 (each_right (λ (z : Limited). keeps z.limit z.value ≡ true) (entry_limits e) (flat_map entry_limits es) k)
-        (each_right (λ (z : Limited). keeps z.limit z.value ≡ true) (target_limits e.target) (flat_map target_limits (map (λ (e : RawEntry). e.target) es)) m),
+    table_writable es h.1 (each_right Kept (entry_limits e) (flat_map entry_limits es) k)
+        (each_right Kept (target_limits e.target) (flat_map target_limits (map (λ (e : RawEntry). e.target) es)) m),
   )
 
   -- ---- tags
@@ -175,29 +175,29 @@ DeclMarks len ds = Each (MarkFormed len) (flat_map decl_marks ds)
 pub slots_writable : (ds : List RawDecl) → AllKept (flat_map decl_limits ds) → Each SlotWritable (flat_map decl_slots ds)
 slots_writable [] h = tt
 slots_writable (decl.Slot n size align ∷ ds) h =
-    let own = each_left (λ (z : Limited). keeps z.limit z.value ≡ true) (decl_limits (decl.Slot n size align)) (flat_map decl_limits ds) h in
-    let rest = each_right (λ (z : Limited). keeps z.limit z.value ≡ true) (decl_limits (decl.Slot n size align)) (flat_map decl_limits ds) h in
+    let own = each_left Kept (decl_limits (decl.Slot n size align)) (flat_map decl_limits ds) h in
+    let rest = each_right Kept (decl_limits (decl.Slot n size align)) (flat_map decl_limits ds) h in
     ((at_most 65536 size.value own.0, power_kept align own.1), slots_writable ds rest)
 slots_writable (decl.Sig n signature ∷ ds) h = slots_writable ds h
-slots_writable (decl.Callee n colocated name sig ∷ ds) h = slots_writable ds (each_right (λ (z : Limited). keeps z.limit z.value ≡ true) (name_limits name) (flat_map decl_limits ds) h)
+slots_writable (decl.Callee n colocated name sig ∷ ds) h = slots_writable ds (each_right Kept (name_limits name) (flat_map decl_limits ds) h)
 
 pub callees_writable : (len : ℕ) (sig : ℕ → ℕ) (k : ℕ) (ds : List RawDecl) → DeclMarks len ds → AllKept (flat_map decl_limits ds) → Each (λ (c : Callee). NameWritable c.name) (callees_from sig k ds)
 callees_writable len sig k [] m h = tt
 callees_writable len sig k (decl.Slot n size align ∷ ds) m h =
     callees_writable len sig k ds (each_right (MarkFormed len) (decl_marks (decl.Slot n size align)) (flat_map decl_marks ds) m)
-    (each_right (λ (z : Limited). keeps z.limit z.value ≡ true) (decl_limits (decl.Slot n size align)) (flat_map decl_limits ds) h)
+    (each_right Kept (decl_limits (decl.Slot n size align)) (flat_map decl_limits ds) h)
 callees_writable len sig k (decl.Sig n signature ∷ ds) m h = callees_writable len sig (suc k) ds m.1 h
 callees_writable len sig k (decl.Callee n colocated name (callee_sig.Declared s) ∷ ds) m h =
     let own = each_left (MarkFormed len) (decl_marks (decl.Callee n colocated name (callee_sig.Declared s))) (flat_map decl_marks ds) m in (
       name_writable len name (each_left (MarkFormed len) (func_name_marks name) (callee_sig_marks (callee_sig.Declared s)) own.1)
-          (each_left (λ (z : Limited). keeps z.limit z.value ≡ true) (name_limits name) (flat_map decl_limits ds) h),
+          (each_left Kept (name_limits name) (flat_map decl_limits ds) h),
       callees_writable len sig k ds (each_right (MarkFormed len) (decl_marks (decl.Callee n colocated name (callee_sig.Declared s))) (flat_map decl_marks ds) m)
-          (each_right (λ (z : Limited). keeps z.limit z.value ≡ true) (name_limits name) (flat_map decl_limits ds) h),
+          (each_right Kept (name_limits name) (flat_map decl_limits ds) h),
     )
 callees_writable len sig k (decl.Callee n colocated name (callee_sig.Inline signature) ∷ ds) m h =
     let own = each_left (MarkFormed len) (decl_marks (decl.Callee n colocated name (callee_sig.Inline signature))) (flat_map decl_marks ds) m in (
       name_writable len name (each_left (MarkFormed len) (func_name_marks name) [] own.1)
-          (each_left (λ (z : Limited). keeps z.limit z.value ≡ true) (name_limits name) (flat_map decl_limits ds) h),
+          (each_left Kept (name_limits name) (flat_map decl_limits ds) h),
       callees_writable len sig (suc k) ds (each_right (MarkFormed len) (decl_marks (decl.Callee n colocated name (callee_sig.Inline signature))) (flat_map decl_marks ds) m)
-          (each_right (λ (z : Limited). keeps z.limit z.value ≡ true) (name_limits name) (flat_map decl_limits ds) h),
+          (each_right Kept (name_limits name) (flat_map decl_limits ds) h),
     )

@@ -40,12 +40,9 @@ use Rattle.clif_meaning.proofs.WholeLaws.{each_in, in_flat_in}
 use Rattle.clif_read.proofs.ModuleFormed.{text_formed}
 use Rattle.read_writable.specs.Laws.{MeantIsWritable, ReadIsWritable}
 use Rattle.read_writable.proofs.Lists.{each_member, each_given, in_map, found}
-use Rattle.read_writable.proofs.Parts.{AllKept, tags_writable, name_writable, slots_writable, callees_writable}
+use Rattle.read_writable.proofs.Parts.{Kept, AllKept, tags_writable, name_writable, slots_writable, callees_writable}
 use Rattle.read_writable.proofs.Forms.{form_writable}
 use Rattle.read_writable.proofs.Typed.{line_typed}
-
-abbrev Kept : Limited → Type 0
-Kept z = keeps z.limit z.value ≡ true
 
 -- ---- a function without a fault, which is formed and means f
 

@@ -1,0 +1,4 @@
+pub mod Comparing
+pub mod Groups
+pub mod Separated
+pub mod Spelled

@@ -29,7 +29,7 @@ answers act = record { act = act; writes = [] } ∷ []
 abbrev pub told : Module → List DataValue → List Reply → List ℕ → ℕ → List ℕ
 told m args replies memory steps =
     spelled (run_text
-        (outcome m (name.Text (codes "f")) args (record { memory = memory; replies = replies; events = [] }) steps))
+    (outcome m (name.Text (codes "f")) args (record { memory = memory; replies = replies; events = [] }) steps))
 
 -- ---- a throw through a plain call of the callee: `%f` calls `%g`, which calls `%h`
 
@@ -134,7 +134,8 @@ minus_one =
       callees = [];
       types = (0, I8) ∷ [];
       blocks = block 0 []
-          (bare (0 ∷ []) (Plain (Const (record { width = W8; value = 255 }))) ∷ bare [] (Return (0 ∷ 0 ∷ [])) ∷ []) ∷ [];
+          (bare (0 ∷ []) (Plain (Const (record { width = W8; value = 255 })))
+          ∷ bare [] (Return (0 ∷ 0 ∷ [])) ∷ []) ∷ [];
     } ∷ []
 
 pub record WorkedRuns : Type 0 where

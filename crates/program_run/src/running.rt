@@ -29,15 +29,7 @@ pub fn run<'m>(
     ensures outcome { IfOk result (IsRunOf checked.now entry.now args.now script.now memory steps) }
     ensures refused { IfErr result (IsRefusal checked.now entry.now args.now) }
 {
-    run_module(
-        alloc,
-        checked.module(),
-        entry,
-        args,
-        script,
-        memory,
-        steps,
-    )
+    run_module(alloc, checked.module(), entry, args, script, memory, steps)
 }
 
 /// Runs the function whose name is spelled so in the canonical text, as `%f` or `u0:1`, as `run` does. `NoEntry`

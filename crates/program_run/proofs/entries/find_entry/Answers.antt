@@ -9,10 +9,11 @@ use Rattle.program_run.proofs.entries.find_entry.Goals as goal
 
 pub returns-then-is_spelled : goal.returns-then-is_spelled
 returns-then-is_spelled c =
-    let m = c.args.module.now in
-    (c.is_spelled.ensures.0 c.if-is_spelled.true,
-    subst (λ (n : FuncName). (f : Function) × (find_function n m ≡ Some f)) (sym c.name-name.ensures.value)
-    (found_named m c.loop-i.i c.func.result.now.function c.func.ensures.at))
+    let m = c.args.module.now in (
+      c.is_spelled.ensures.0 c.if-is_spelled.true,
+      subst (λ (n : FuncName). (f : Function) × (find_function n m ≡ Some f)) (sym c.name-name.ensures.value)
+          (found_named m c.loop-i.i c.func.result.now.function c.func.ensures.at),
+    )
 
 pub returns : goal.returns
 returns c =

@@ -1,5 +1,5 @@
 -- Worked runs, each of a function `%f`, with their texts.
-use Rattle.std.specs.Prelude.{◌≡◌, ℕ, ℤ, pos, negsuc, true, List, [], ◌∷◌, ◌++◌, replicate, Some, None, codes}
+use Rattle.std.specs.Prelude.{◌≡◌, ℕ, pos, true, List, [], ◌∷◌, ◌++◌, replicate, Some, None, codes}
 use Rattle.clk_num.specs.Operations.{DataValue}
 use Rattle.clk_num.specs.declared.op.Op.TheVariants.{Sdiv}
 use Rattle.clk_num.specs.declared.width.Width.TheVariants.{W8, W16}

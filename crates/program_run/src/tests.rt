@@ -65,7 +65,7 @@ fn runs_to_its_end(rt: HostRuntime) -> Result<(), AllocError> {
         return Ok(());
     };
     let text = told(alloc, &checked, b"u0:1", -42);
-    assert!(rt; text.is_ok_and(|text| text.as_slice() == b"returned [-42]\n"));
+    assert!(rt; text.is_ok_and(|text| text.as_slice() == b"returned [-42]\n".as_slice()));
     let text = told(alloc, &checked, b"u0:12", -42);
     assert!(rt; text.is_err_and(|err| err == RunErr::NoEntry));
     Ok(())
@@ -87,10 +87,10 @@ fn host_event(alloc: Global) -> Result<Event, AllocError> {
 fn lines_read_so(rt: HostRuntime) -> Result<(), AllocError> {
     let alloc = rt.alloc();
     let line = event_line(alloc, &host_event(alloc)?)?;
-    assert!(rt; line.as_slice() == b"host u0:1(5, -1) <7, [01 ab]>");
+    assert!(rt; line.as_slice() == b"host u0:1(5, -1) <7, [01 ab]>".as_slice());
     let end = End::Trapped(TrapCode::IntDivz);
     let line = end_line(alloc, &end)?;
-    assert!(rt; line.as_slice() == b"trapped int_divz");
+    assert!(rt; line.as_slice() == b"trapped int_divz".as_slice());
     let mut bytes = vec![in alloc; 0u8; 20]?;
     bytes[17] = 2;
     let outcome = Outcome {
@@ -100,6 +100,6 @@ fn lines_read_so(rt: HostRuntime) -> Result<(), AllocError> {
     };
     let mut sink = MemSink::new(alloc, Vec::new(alloc), 100)?;
     assert!(rt; print_run(&outcome, &mut sink).is_ok());
-    assert!(rt; sink.bytes() == b"trapped int_divz\nmemory 00000010: 00 02 00 00\n");
+    assert!(rt; sink.bytes() == b"trapped int_divz\nmemory 00000010: 00 02 00 00\n".as_slice());
     Ok(())
 }

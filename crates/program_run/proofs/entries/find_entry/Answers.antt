@@ -1,9 +1,8 @@
-use Rattle.std.proofs.Common.{◌≡◌, ◌<◌, length, Some, subst, sym, ap, ◌∙◌, arith}
+use Rattle.std.proofs.Common.{◌≡◌, ◌<◌, length, Some, subst, sym, arith}
 use Rattle.std.proofs.lemmas.Option.{slice_get_within}
 use Rattle.ir_core.specs.declared.names.FuncName.{FuncName}
 use Rattle.ir_core.specs.Module.{Function}
 use Rattle.ir_core.specs.Lookup.{find_function}
-use Rattle.program_run.specs.EntryName.{spelling}
 use Rattle.program_run.proofs.Comparing.{found_named}
 use Rattle.program_run.proofs.entries.find_entry.Goals as goal
 

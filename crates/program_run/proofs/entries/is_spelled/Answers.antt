@@ -1,5 +1,4 @@
 use Rattle.std.proofs.Common.{[], Some, refl}
-use Rattle.clif_print.specs.Output.{Start}
 use Rattle.program_run.specs.EntryName.{spelling}
 use Rattle.program_run.proofs.Comparing.{differs, agrees}
 use Rattle.program_run.proofs.entries.is_spelled.Goals as goal

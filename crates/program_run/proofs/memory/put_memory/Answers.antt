@@ -1,4 +1,4 @@
-use Rattle.std.proofs.Common.{◌≡◌, ◌≤◌, ◌-◌, ◌*◌, suc, ℕ, List, length, take, drop, subst, sym, add-one, arith}
+use Rattle.std.proofs.Common.{◌≤◌, ◌*◌, ℕ, List, length, subst, sym, add-one, arith}
 use Rattle.ir_text.specs.TextTree.{spelled}
 use Rattle.clif_print.specs.Output.{Puts}
 use Rattle.clif_print.proofs.Puts.{◌▸◌}

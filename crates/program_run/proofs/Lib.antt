@@ -2,3 +2,4 @@ pub mod Comparing
 pub mod Groups
 pub mod Separated
 pub mod Spelled
+pub mod Spellings

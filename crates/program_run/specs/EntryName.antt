@@ -1,6 +1,7 @@
 -- The entry of a run, by the spelling of its name in the canonical text.
-use Rattle.std.specs.Prelude.{◌≡◌, ◌≢◌, ⊤, ℕ, ℤ, List, Some, slice_get}
+use Rattle.std.specs.Prelude.{◌≡◌, ◌≢◌, ◌<◌, ◌^◌, ⊤, ℕ, ℤ, List, Some, slice_get}
 use Rattle.ir_core.specs.declared.names.FuncName.{FuncName}
+use Rattle.ir_core.specs.declared.names.FuncName.TheVariants as name
 use Rattle.ir_core.specs.Module.{Function, Module}
 use Rattle.ir_core.specs.Lookup.{find_function}
 use Rattle.ir_semantics.specs.Values.{Memory}
@@ -15,6 +16,15 @@ use Rattle.interp_run.specs.declared.run.RunErr.TheVariants as err
 -- `%f` or `u0:1`
 abbrev pub spelling : FuncName → List ℕ
 spelling name = spelled (function_name name)
+
+-- the numbers of a name are below 2^32, as those of the code are
+abbrev pub HasShortNumbers : FuncName → Type 0
+HasShortNumbers (name.Text bytes) = ⊤
+HasShortNumbers (name.User space index) = (space < 2 ^ 32) × (index < 2 ^ 32)
+
+-- no two names have one spelling
+abbrev pub NamesDiffer : Type 0
+NamesDiffer = (a b : FuncName) → HasShortNumbers a → HasShortNumbers b → spelling a ≡ spelling b → a ≡ b
 
 -- the name is spelled so, and a function of the module has it
 abbrev pub IsSpelledEntry : Module → List ℕ → FuncName → Type 0

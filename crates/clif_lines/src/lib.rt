@@ -1,6 +1,9 @@
 //! Lines of the text under the numbers that their words mean: instructions, targets, tables, tags, signatures.
 #![tactic(auto)]
 
+mod accesses;
+mod branches;
+mod calls;
 mod instructions;
 mod lines;
 mod narrowing;

@@ -39,7 +39,7 @@ pub fn line(
 ) -> Result<InstData, AllocError>
     requires { AllKeep
         (flat_map tag_limits written.now ++ operand_limits inst.now.suffix inst.now.operands
-            ++ flat_map target_limits (operand_targets inst.now.operands)) }
+        ++ flat_map target_limits (operand_targets inst.now.operands)) }
     ensures { IfOk result
         (λ added. viewed.line_of added ≡ spec.line_of (renaming words.now) ty written.now results.now inst.now) }
 {

@@ -1,5 +1,5 @@
 //! Numbers of the text as numbers of a module, where they keep their limits.
-ghost use Rattle.std.specs.Prelude.{◌≡◌, IsTrue, ℤ, pos};
+ghost use Rattle.std.specs.Prelude.{◌≡◌, IsTrue};
 ghost use Rattle.clif_names.specs.declared.limits.Limit.TheVariants.{Entity, SlotSize, Alignment};
 ghost use Rattle.clif_names.specs.Limits.{keeps, maybe_number, of_word, trap_limits};
 ghost use Rattle.clif_names.specs.declared.limits.Limit.TheVariants.{Offset};

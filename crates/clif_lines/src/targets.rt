@@ -1,5 +1,5 @@
 //! Values, targets, tables, flags and tags under the numbers of their words.
-ghost use Rattle.std.specs.Prelude.{◌≡◌, ℕ, flat_map, fold, map, IfOk};
+ghost use Rattle.std.specs.Prelude.{◌≡◌, flat_map, map, IfOk};
 ghost use Rattle.ir_core.specs.Lists.{Each};
 ghost use Rattle.clif_names.specs.Limits.{arg_limits, entry_limits, tag_limits, target_limits};
 ghost use Rattle.clif_lines.specs.WordRenaming.{renaming};
@@ -15,8 +15,7 @@ use exn_tables::{Entry, Table};
 use ir_core::{Arg, BlockCall, Flags, List, Values};
 use std::alloc::{AllocError, Global};
 
-/// The values of words.
-#[tactic(auto, using(clif_names::proofs::Folds::map_more))]
+/// The values of words. Up to two take no memory but the list's own.
 pub fn values(
     alloc: Global,
     words: &WordNumbers<'_>,
@@ -25,13 +24,21 @@ pub fn values(
     ensures { IfOk result (λ list. list ≡ spec.values_at (renaming words.now) names.now) }
 {
     match names {
-        [] => return Ok(Values::none()),
-        [name] => return Ok(Values::one(words.value(*name))),
-        [first, second] => {
-            return Ok(Values::two(words.value(*first), words.value(*second)));
-        }
-        _ => {}
+        [] => Ok(Values::none()),
+        [name] => Ok(Values::one(words.value(*name))),
+        [first, second] => Ok(Values::two(words.value(*first), words.value(*second))),
+        _ => many_values(alloc, words, names),
     }
+}
+
+#[tactic(auto, using(clif_names::proofs::Folds::map_more))]
+fn many_values(
+    alloc: Global,
+    words: &WordNumbers<'_>,
+    names: &[RawName],
+) -> Result<Values, AllocError>
+    ensures { IfOk result (λ list. list ≡ spec.values_at (renaming words.now) names.now) }
+{
     let mut list = Vec::with_capacity(alloc, names.len())?;
     for name in names {
         list.push(words.value(*name))?;
@@ -53,11 +60,7 @@ fn arg(words: &WordNumbers<'_>, written: RawArg) -> Arg
 
 /// The arguments of a target.
 #[tactic(auto, using(clif_names::proofs::Folds::map_more))]
-fn args(
-    alloc: Global,
-    words: &WordNumbers<'_>,
-    written: &[RawArg],
-) -> Result<List<Arg>, AllocError>
+fn args(alloc: Global, words: &WordNumbers<'_>, written: &[RawArg]) -> Result<List<Arg>, AllocError>
     requires { AllKeep (flat_map arg_limits written.now) }
     ensures { IfOk result (λ list. list ≡ map (spec.arg_of (renaming words.now)) written.now) }
 {
@@ -214,11 +217,7 @@ fn tag(words: &WordNumbers<'_>, written: RawTag) -> Tag
 
 /// The debug tags of an instruction.
 #[tactic(auto, using(clif_names::proofs::Folds::map_more))]
-pub fn tags(
-    alloc: Global,
-    words: &WordNumbers<'_>,
-    written: &[RawTag],
-) -> Result<Tags, AllocError>
+pub fn tags(alloc: Global, words: &WordNumbers<'_>, written: &[RawTag]) -> Result<Tags, AllocError>
     requires { AllKeep (flat_map tag_limits written.now) }
     ensures { IfOk result (λ list. list ≡ map (spec.tag_of (renaming words.now)) written.now) }
 {

@@ -1,10 +1,9 @@
-use Rattle.std.proofs.Common.{◌≡◌, ℕ, ◌<◌, ◌%◌, ◌^◌, ℤ, pos, Bool, true, false, sym, ap, ◌∙◌, FitsSigned, to_z-of_z, arith}
+use Rattle.std.proofs.Common.{◌≡◌, ◌<◌, ◌^◌, pos, Bool, sym, ap, ◌∙◌, FitsSigned, to_z-of_z, arith}
 use Rattle.std.specs.Int.{w128}
 use Rattle.std.proofs.lemmas.Int.{to_z_pos}
 use Rattle.clk_num.specs.declared.width.Width.{Width}
 use Rattle.clk_num.specs.declared.width.Width.TheVariants.{W64}
 use Rattle.clk_num.specs.Numbers.{signed, wrapped}
-use Rattle.clk_num.specs.Operations.{DataValue}
 use Rattle.clk_num.specs.Width.{bits_of}
 use Rattle.clk_num.proofs.Numbers.{cut_from_code}
 use Rattle.clif_meaning.specs.Instructions.{constant, extended}

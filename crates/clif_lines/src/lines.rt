@@ -28,7 +28,8 @@ fn may_leave_out(opcode: Opcode, operands: &RawOperands) -> bool
     }
 }
 
-/// The line of an instruction, `ty` being the instruction's type.
+/// The line of an instruction, `ty` being the instruction's type. Takes time linear in the line; only `AllocError`
+/// refuses.
 pub fn line(
     alloc: Global,
     words: &WordNumbers<'_>,

@@ -9,7 +9,7 @@ use clif_read::{RawAttribute, RawFuncName, RawParam, RawSignature};
 use ir_core::{Conv, Ext, FuncName, List, Param, Purpose, Sig};
 use std::alloc::{AllocError, Global};
 
-/// The name of a function.
+/// The name of a function. Only `AllocError` refuses.
 pub fn func_name(name: &RawFuncName) -> Result<FuncName, AllocError>
     requires { AllKeep (name_limits name.now) }
     ensures { IfOk result (λ named. named ≡ spec.name_of name.now) }
@@ -47,6 +47,7 @@ fn with_attribute(param: Param, attribute: RawAttribute) -> Param
     }
 }
 
+/// A parameter or a result.
 #[tactic(auto, using(clif_names::proofs::Folds::fold_one))]
 fn param(written: &RawParam) -> Param
     ensures { result ≡ spec.param_of written.now }
@@ -63,6 +64,7 @@ fn param(written: &RawParam) -> Param
     param
 }
 
+/// The parameters or the results.
 #[tactic(auto, using(clif_names::proofs::Folds::map_more))]
 fn params(alloc: Global, written: &[RawParam]) -> Result<List<Param>, AllocError>
     ensures { IfOk result (λ list. list ≡ map spec.param_of written.now) }
@@ -74,7 +76,7 @@ fn params(alloc: Global, written: &[RawParam]) -> Result<List<Param>, AllocError
     Ok(List::from_vec(list))
 }
 
-/// A signature. Its convention is `fast` where none is written.
+/// A signature. Its convention is `fast` where none is written. Takes time linear in it; only `AllocError` refuses.
 pub fn signature(alloc: Global, written: &RawSignature) -> Result<Sig, AllocError>
     ensures { IfOk result (λ sig. sig ≡ spec.sig_of written.now) }
 {

@@ -31,6 +31,7 @@ pub fn values(
     }
 }
 
+/// The values of words, of however many.
 #[tactic(auto, using(clif_names::proofs::Folds::map_more))]
 fn many_values(
     alloc: Global,

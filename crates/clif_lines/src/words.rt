@@ -9,6 +9,7 @@ use ir_core::{Block, FuncRef, SigRef, Slot, Value};
 /// The number of each word of a function. A word without a definition has the number behind all.
 #[derive(Drop)]
 pub struct WordNumbers<'a> {
+    /// The function's names.
     pub names: &'a FunctionNames,
     /// The number of each declared signature in the list of all, and at last how many these are.
     pub sigs: Vec<usize>,
@@ -18,6 +19,7 @@ pub struct WordNumbers<'a> {
 impl<'a> WordNumbers<'a> {
     ghost use Rattle.clif_lines.specs.WordRenaming.{renaming};
 
+    /// The value that a word stands for, after alias lines.
     #[inline]
     pub fn value(&self, name: RawName) -> Value
         ensures { result ≡ (renaming self.now).value name.number }
@@ -25,6 +27,7 @@ impl<'a> WordNumbers<'a> {
         Value::new(self.names.value(name.number) as u32)
     }
 
+    /// The block of a word.
     #[inline]
     pub fn block(&self, name: RawName) -> Block
         ensures { result ≡ (renaming self.now).block name.number }
@@ -32,6 +35,7 @@ impl<'a> WordNumbers<'a> {
         Block::new(self.names.block(name.number) as u32)
     }
 
+    /// The slot of a word.
     #[inline]
     pub fn slot(&self, name: RawName) -> Slot
         ensures { result ≡ (renaming self.now).slot name.number }
@@ -39,6 +43,7 @@ impl<'a> WordNumbers<'a> {
         Slot::new(self.names.slot(name.number) as u32)
     }
 
+    /// The signature of a word, among all of the function.
     #[inline]
     pub fn sig(&self, name: RawName) -> SigRef
         ensures { result ≡ (renaming self.now).sig name.number }
@@ -49,6 +54,7 @@ impl<'a> WordNumbers<'a> {
         }
     }
 
+    /// The callee of a word.
     #[inline]
     pub fn callee(&self, name: RawName) -> FuncRef
         ensures { result ≡ (renaming self.now).callee name.number }

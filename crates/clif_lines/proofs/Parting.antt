@@ -1,5 +1,5 @@
 -- A list parted at one of its places.
-use Rattle.std.proofs.Common.{◌≡◌, ℕ, zero, suc, ◌+◌, ◌<◌, ◌≤◌, List, [], ◌∷◌, ◌++◌, length, map, take, drop, get_or, slice_get, Some, refl, sym, ap, arith}
+use Rattle.std.proofs.Common.{◌≡◌, ℕ, zero, suc, ◌+◌, ◌<◌, ◌≤◌, List, [], ◌∷◌, ◌++◌, length, map, take, drop, get_or, slice_get, Some, refl, sym, ap, arith, add-one}
 use Rattle.std.specs.Prelude.{flat_map}
 use Rattle.std.proofs.lemmas.Grind.{flat_map-append}
 use Rattle.std.proofs.lemmas.List.{append-nil, take_more}
@@ -65,6 +65,11 @@ module _ {A B : Type 0} where
   -- one more part
   pub flat_more : (g : A → List B) (xs : List A) (i : ℕ) (x : A) → i < length xs → x ≡ get_or xs i x → flat_map g (take (i + 1) xs) ≡ flat_map g (take i xs) ++ g x
   flat_more g xs i x h e = rw (take_more xs i x h, flat_map-append g (take i xs) (get_or xs i x ∷ []), append-nil (g (get_or xs i x)), ← e) refl
+
+  pub map_next : (f : A → B) (xs : List A) (i : ℕ) (x : A) → slice_get xs i ≡ Some x → map f (take (i + 1) xs) ≡ map f (take i xs) ++ f x ∷ []
+  map_next f [] i x h = absurd cc
+  map_next f (y ∷ ys) zero x h = (let e : y ≡ x = cc in ap (λ z. f z ∷ []) e)
+  map_next f (y ∷ ys) (suc i) x h = rw (add-one (suc i)) (ap (λ zs. f y ∷ zs) (rw (add-one i) at (map_next f ys i x h)))
 
   pub map_one : (f : A → B) (xs : List A) (d : A) → 1 ≤ length xs → length xs < 2 → map f xs ≡ f (get_or xs 0 d) ∷ []
   map_one f [] d h k = absurd (omega (arith, h))

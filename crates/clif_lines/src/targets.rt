@@ -32,7 +32,6 @@ pub fn values(
 }
 
 /// The values of words, of however many.
-#[tactic(auto, using(clif_names::proofs::Folds::map_more))]
 fn many_values(
     alloc: Global,
     words: &WordNumbers<'_>,

@@ -1,0 +1,3 @@
+pub mod Keeping
+pub mod WordNumbers
+pub mod WordRenaming

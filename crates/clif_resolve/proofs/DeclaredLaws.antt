@@ -1,0 +1,97 @@
+-- A function with its declarations, and then its values and empty blocks.
+use Rattle.std.proofs.Common.{◌≡◌, ℕ, suc, ◌+◌, ◌-◌, ◌<◌, ◌^◌, List, [], ◌∷◌, ◌++◌, length, map, slice_get, Some, take, refl, sym, ap, subst, ◌∙◌, arith}
+use Rattle.std.specs.Prelude.{flat_map}
+use Rattle.std.specs.List.{enumerate_from}
+use Rattle.ir_core.specs.declared.declarations.Callee.{Callee}
+use Rattle.ir_core.specs.declared.declarations.SlotDecl.{SlotDecl}
+use Rattle.ir_core.specs.declared.names.FuncName.{FuncName}
+use Rattle.ir_core.specs.declared.signatures.Sig.{Sig}
+use Rattle.ir_core.specs.declared.signatures.Ty.{Ty}
+use Rattle.ir_core.specs.Module.{Function}
+use Rattle.ir_core.proofs.Keeping.{length_numbered}
+use Rattle.ir_core.proofs.Ranges.{map_append}
+use Rattle.ir_semantics.specs.Renaming.{Renaming}
+use Rattle.clif_read.specs.declared.raw.RawBlock.{RawBlock}
+use Rattle.clif_read.specs.declared.raw.RawFunction.{RawFunction}
+use Rattle.clif_names.specs.FunctionNames.{NoFunctionFault}
+use Rattle.clif_meaning.specs.Meaning.{block_with, callees_from, decl_slots, function_with, name_of, numbers, sig_of}
+use Rattle.clif_resolve.specs.Declaring.{AreFew, declared, sigs_of}
+use Rattle.clif_resolve.specs.Filling.{empty_block, filled, IsReady}
+use Rattle.clif_resolve.proofs.DeclaringLaws.{sigs_whole}
+use Rattle.clif_lines.proofs.Parting.{parted_long, parted_next}
+use Rattle.clif_resolve.proofs.Opening.{enumerate_begun}
+use Rattle.clif_resolve.proofs.ReadyLaws.{few}
+
+-- ---- declarations
+
+abbrev made : FuncName → Sig → List SlotDecl → List Sig → List Callee → Function
+made n s ss gs cs = record { name = n; sig = s; slots = ss; sigs = gs; callees = cs; types = []; blocks = [] }
+
+module _ (raw : RawFunction) (at : Renaming) (words : at ≡ numbers raw at.value) (ss : List SlotDecl) (gs : List Sig) (cs : List Callee)
+    (slots_are : ss ≡ flat_map decl_slots raw.decls) (sigs_are : gs ≡ sigs_of raw) (callees_are : cs ≡ callees_from at.sig 0 raw.decls) where
+  callees_right : cs ≡ callees_from (numbers raw at.value).sig 0 raw.decls
+  callees_right = callees_are ∙ ap (λ (r : Renaming). callees_from r.sig 0 raw.decls) words
+
+  pub few_by : NoFunctionFault raw → AreFew ss gs cs
+  few_by free =
+      subst (λ xs. AreFew xs gs cs) (sym slots_are)
+      (subst (λ xs. AreFew (flat_map decl_slots raw.decls) xs cs) (sym sigs_are) (subst (λ xs. AreFew (flat_map decl_slots raw.decls) (sigs_of raw) xs) (sym callees_right) (few raw free at.value)))
+
+  pub declared_by : (n : FuncName) (s : Sig) (f g : Function) → n ≡ name_of raw.name → s ≡ sig_of raw.signature
+      → f ≡ made n s [] [] [] → g ≡ record f { slots = ss; sigs = gs; callees = cs } → g ≡ declared raw at.value
+  declared_by n s f g named signed is next =
+      next ∙ ap (λ (x : Function). record x { slots = ss; sigs = gs; callees = cs }) is
+      ∙ ap (λ x. made x s ss gs cs) named
+      ∙ ap (λ x. made (name_of raw.name) x ss gs cs) signed
+      ∙ ap (λ x. made (name_of raw.name) (sig_of raw.signature) x gs cs) slots_are
+      ∙ ap (λ x. made (name_of raw.name) (sig_of raw.signature) (flat_map decl_slots raw.decls) x cs) (sigs_are ∙ sigs_whole raw.decls)
+      ∙ ap (λ x. made (name_of raw.name) (sig_of raw.signature) (flat_map decl_slots raw.decls) (function_with raw at.value []).sigs x) callees_right
+
+-- ---- empty blocks
+
+pub empties_long : (k : ℕ) (bs : List RawBlock) → length (map empty_block (enumerate_from k bs)) ≡ length bs
+empties_long k [] = refl
+empties_long k (b ∷ bs) = ap suc (empties_long (k + 1) bs)
+
+pub block_added : (start f g : Function) (bs : List RawBlock) (i : ℕ) (b : RawBlock) → slice_get bs i ≡ Some b → (n : ℕ)
+    → f ≡ record start { blocks = map empty_block (enumerate_from 0 (take i bs)) } → n ≡ length f.blocks
+    → g ≡ record f { blocks = f.blocks ++ record { number = n; params = []; lines = [] } ∷ [] }
+    → g ≡ record start { blocks = map empty_block (enumerate_from 0 (take (i + 1) bs)) }
+block_added start f g bs i b at n is numbered next =
+    next
+    ∙ ap (λ m. record f { blocks = f.blocks ++ record { number = m; params = []; lines = [] } ∷ [] })
+    (numbered ∙ ap (λ (x : Function). length x.blocks) is ∙ empties_long 0 (take i bs) ∙ parted_long bs i b at)
+    ∙ ap (λ (x : Function). record x { blocks = x.blocks ++ record { number = i; params = []; lines = [] } ∷ [] }) is
+    ∙ ap (λ xs. record start { blocks = xs }) (sym more)
+  where
+    one : (n : ℕ) → n + 1 ≡ suc n
+    one n = omega arith
+
+    more : map empty_block (enumerate_from 0 (take (i + 1) bs)) ≡ map empty_block (enumerate_from 0 (take i bs)) ++ record { number = i; params = []; lines = [] } ∷ []
+    more =
+        ap (λ n. map empty_block (enumerate_from 0 (take n bs))) (one i)
+        ∙ ap (λ xs. map empty_block (enumerate_from 0 xs)) (parted_next bs i b at)
+        ∙ ap (map empty_block) (enumerate_begun (take i bs) (b ∷ []))
+        ∙ map_append empty_block (enumerate_from 0 (take i bs)) (enumerate_from (length (take i bs)) (b ∷ []))
+        ∙ ap (λ n. map empty_block (enumerate_from 0 (take i bs)) ++ record { number = n; params = []; lines = [] } ∷ []) (parted_long bs i b at)
+
+-- ---- values and empty blocks
+
+module _ (raw : RawFunction) (at : Renaming) (types : List Ty) where
+  pub begun_by : (bs : List RawBlock) (f g h : Function) → bs ≡ raw.blocks → f ≡ declared raw at.value → g ≡ record f { types = enumerate_from 0 types }
+      → h ≡ record g { blocks = map empty_block (enumerate_from 0 bs) } → h ≡ filled raw at types 0
+  begun_by bs f g h same is next last =
+      last ∙ ap (λ xs. record g { blocks = map empty_block (enumerate_from 0 xs) }) same
+      ∙ ap (λ (x : Function). record x { blocks = map empty_block (enumerate_from 0 raw.blocks) })
+      (next ∙ ap (λ (x : Function). record x { types = enumerate_from 0 types }) is)
+
+  module _ (ready : IsReady raw at types) where
+    blocks_long : (k : ℕ) (bs : List RawBlock) → length (map (block_with raw at.value (enumerate_from 0 types)) (enumerate_from k bs)) ≡ length bs
+    blocks_long k [] = refl
+    blocks_long k (b ∷ bs) = ap suc (blocks_long (k + 1) bs)
+
+    pub few_blocks : length raw.blocks < 2 ^ 32 - 1
+    few_blocks = let s = ready.sound.small.blocks in let e = blocks_long 0 raw.blocks in omega (arith, s, e)
+
+    pub few_values : length types < 2 ^ 32 - 1
+    few_values = let s = ready.sound.small.values in let e = length_numbered 0 types in omega (arith, s, e)

@@ -1,0 +1,10 @@
+pub mod Opening
+pub mod TypesAlong
+pub mod DeclaringLaws
+pub mod FillingLaws
+pub mod WordLaws
+pub mod ReadyLaws
+pub mod NameLaws
+pub mod DeclaredLaws
+pub mod BuildingLaws
+pub mod BlockWords

@@ -1,0 +1,35 @@
+use Rattle.std.proofs.Common.{◌<◌, ◌^◌, List, length, sym, ap, subst, ◌∙◌}
+use Rattle.std.specs.Prelude.{flat_map}
+use Rattle.clif_read.specs.declared.raw.RawDecl.{RawDecl}
+use Rattle.clif_names.specs.Limits.{decl_limits}
+use Rattle.clif_lines.specs.Keeping.{AllKeep}
+use Rattle.clif_lines.specs.WordRenaming.{renaming}
+use Rattle.clif_meaning.specs.Meaning.{callees_from, decl_sigs, decl_slots}
+use Rattle.clif_resolve.proofs.DeclaredLaws.{declared_by, few_by}
+use Rattle.clif_resolve.proofs.ReadyLaws.{decls_keep, few_sigs, name_keeps}
+use Rattle.clif_resolve.proofs.functions.declared.Goals as goal
+
+pub slots-requires : goal.slots-requires
+slots-requires c = subst (λ (ds : List RawDecl). AllKeep (flat_map decl_limits ds)) (sym c.as_slice-decls.ensures) (decls_keep c.args.raw.now c.requires.free)
+
+pub callees-requires-clause-limits : goal.callees-requires-clause-limits
+callees-requires-clause-limits c = subst (λ (ds : List RawDecl). AllKeep (flat_map decl_limits ds)) (sym c.as_slice-decls.ensures) (decls_keep c.args.raw.now c.requires.free)
+
+pub callees-requires-clause-few : goal.callees-requires-clause-few
+callees-requires-clause-few c = subst (λ (ds : List RawDecl). length (flat_map decl_sigs ds) < 2 ^ 32) (sym c.as_slice-decls.ensures) (few_sigs c.args.raw.now c.requires.free)
+
+pub func_name-requires : goal.func_name-requires
+func_name-requires c = name_keeps c.args.raw.now c.requires.free
+
+pub declare-requires-clause-few : goal.declare-requires-clause-few
+declare-requires-clause-few c =
+    few_by c.args.raw.now (renaming c.args.words.now) c.requires.words _ _ _
+    (c.in_ok-slots.ensures ∙ ap (λ (ds : List RawDecl). flat_map decl_slots ds) c.as_slice-decls.ensures) c.requires.sigs
+    (c.in_ok-callees.ensures ∙ ap (λ (ds : List RawDecl). callees_from (renaming c.args.words.now).sig 0 ds) c.as_slice-decls.ensures) c.requires.free
+
+pub returns : goal.returns
+returns c =
+    declared_by c.args.raw.now (renaming c.args.words.now) c.requires.words _ _ _
+    (c.in_ok-slots.ensures ∙ ap (λ (ds : List RawDecl). flat_map decl_slots ds) c.as_slice-decls.ensures) c.requires.sigs
+    (c.in_ok-callees.ensures ∙ ap (λ (ds : List RawDecl). callees_from (renaming c.args.words.now).sig 0 ds) c.as_slice-decls.ensures)
+    _ _ _ _ c.in_ok-name.ensures c.in_ok-sig.ensures c.in_ok-func.ensures c.in_ok-declare.ensures

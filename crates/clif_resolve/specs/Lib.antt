@@ -1,0 +1,5 @@
+pub mod Parts
+pub mod FormTypes
+pub mod Declaring
+pub mod Filling
+pub mod Places

@@ -1,0 +1,196 @@
+//! Building a function that has no fault.
+ghost use Rattle.std.specs.Prelude.{◌≡◌, ◌≢◌, [], ◌-◌, ◌<◌, ◌^◌, length, map, IfOk, OnOk};
+ghost use Rattle.std.specs.List.{enumerate_from};
+ghost use Rattle.ir_core.specs.Sound.{IsWhole};
+ghost use Rattle.clif_names.specs.Chains.{IsNumbering};
+ghost use Rattle.clif_names.specs.Definitions.{value_defs};
+ghost use Rattle.clif_names.specs.FunctionNames.{AreNamesOf, NoFunctionFault};
+ghost use Rattle.clif_lines.specs.WordRenaming.{renaming};
+ghost use Rattle.clif_resolve.specs.Declaring as declaring;
+ghost use Rattle.clif_resolve.specs.Filling.{empty_block, IsReady, meant};
+ghost use Rattle.clif_meaning.specs.Meaning.{FunctionMeans, numbers};
+
+use crate::declarations::{Sigs, callees, slots};
+use crate::filling::Filling;
+use crate::types::value_types;
+use clif_lines::{WordNumbers, func_name, signature};
+use clif_names::FunctionNames;
+use clif_read::{RawBlock, RawFunction};
+use ir_core::{Callee, Func, List, Room, Sig, SlotDecl, Ty};
+use std::alloc::{AllocError, Global};
+
+/// The function that is meant. Takes time linear in its text. Only `AllocError` refuses.
+pub(crate) fn function(alloc: Global, raw: &RawFunction) -> Result<Func, AllocError>
+    requires free { NoFunctionFault raw.now }
+    requires begins { raw.now.blocks ≢ [] }
+    ensures meant { IfOk result (λ func. FunctionMeans raw.now func.function) }
+    ensures whole { IfOk result (λ func. IsWhole func.function) }
+{
+    let names = FunctionNames::of(alloc, raw)?;
+    function_by_names(alloc, raw, &names)
+}
+
+/// The function that is meant, by the names of its text.
+fn function_by_names(
+    alloc: Global,
+    raw: &RawFunction,
+    names: &FunctionNames,
+) -> Result<Func, AllocError>
+    requires free { NoFunctionFault raw.now }
+    requires begins { raw.now.blocks ≢ [] }
+    requires names { AreNamesOf raw.now names.now }
+    ensures meant { IfOk result (λ func. FunctionMeans raw.now func.function) }
+    ensures whole { IfOk result (λ func. IsWhole func.function) }
+{
+    let Sigs { list, numbers } = Sigs::of(alloc, raw.decls.as_slice())?;
+    let words = WordNumbers {
+        names,
+        sigs: numbers,
+    };
+    function_by_words(alloc, raw, &words, List::from_vec(list))
+}
+
+/// The function that is meant, by the numbers of its words and the list of its signatures.
+fn function_by_words(
+    alloc: Global,
+    raw: &RawFunction,
+    words: &WordNumbers<'_>,
+    sigs: List<Sig>,
+) -> Result<Func, AllocError>
+    requires free { NoFunctionFault raw.now }
+    requires begins { raw.now.blocks ≢ [] }
+    requires words { renaming words.now ≡ numbers raw.now (renaming words.now).value }
+    requires numbering { IsNumbering (value_defs raw.now) (renaming words.now).value }
+    requires sigs { sigs ≡ declaring.sigs_of raw.now }
+    ensures meant { IfOk result (λ func. FunctionMeans raw.now func.function) }
+    ensures whole { IfOk result (λ func. IsWhole func.function) }
+{
+    let mut func = declared(alloc, raw, words, sigs)?;
+    let types = value_types(alloc, &func, words, raw.blocks.as_slice())?;
+    let filling = Filling {
+        raw,
+        words,
+        types: types.as_slice(),
+    };
+    complete(alloc, &mut func, &filling)?;
+    Ok(func)
+}
+
+/// The function with its declarations, without values and blocks.
+fn declared(
+    alloc: Global,
+    raw: &RawFunction,
+    words: &WordNumbers<'_>,
+    sigs: List<Sig>,
+) -> Result<Func, AllocError>
+    requires free { NoFunctionFault raw.now }
+    requires words { renaming words.now ≡ numbers raw.now (renaming words.now).value }
+    requires sigs { sigs ≡ declaring.sigs_of raw.now }
+    ensures { IfOk result (λ func. func.function ≡ declaring.declared raw.now (renaming words.now).value) }
+{
+    let decls = raw.decls.as_slice();
+    let slots = slots(alloc, decls)?;
+    let callees = callees(alloc, words, decls)?;
+    let name = func_name(&raw.name)?;
+    let sig = signature(alloc, &raw.signature)?;
+    let mut func = Func::new(alloc, name, sig)?;
+    declare(alloc, &mut func, slots, sigs, callees)?;
+    Ok(func)
+}
+
+/// Gives a function that has no declarations these.
+fn declare(
+    alloc: Global,
+    func: &mut Func,
+    slots: List<SlotDecl>,
+    sigs: List<Sig>,
+    callees: List<Callee>,
+) -> Result<(), AllocError>
+    requires none { declaring.IsBare func.old.function }
+    requires few { declaring.AreFew slots sigs callees }
+    ensures { OnOk result
+        (func.new.function ≡ record func.old.function { slots = slots; sigs = sigs; callees = callees }) }
+{
+    func.reserve(Room {
+        slots: slots.as_slice().len(),
+        sigs: sigs.as_slice().len(),
+        callees: callees.as_slice().len(),
+        values: 0,
+        blocks: 0,
+        insts: 0,
+    })?;
+    func.append(slots, sigs, callees, List::from_vec(Vec::new(alloc)));
+    Ok(())
+}
+
+/// Gives a function that has its declarations its values and its blocks.
+fn complete(alloc: Global, func: &mut Func, filling: &Filling<'_>) -> Result<(), AllocError>
+    requires ready { IsReady filling.now.raw.now (renaming filling.now.words.now) filling.now.types.now }
+    requires declared { func.old.function
+        ≡ declaring.declared filling.now.raw.now (renaming filling.now.words.now).value }
+    ensures { OnOk result
+        (func.new.function ≡ meant filling.now.raw.now (renaming filling.now.words.now) filling.now.types.now) }
+{
+    declare_values(alloc, func, filling.types)?;
+    add_blocks(func, filling.raw.blocks.as_slice())?;
+    filling.fill(alloc, func)
+}
+
+/// Declares values of these types.
+fn declare_values(alloc: Global, func: &mut Func, types: &[Ty]) -> Result<(), AllocError>
+    requires none { func.old.function.types ≡ [] }
+    requires few_slots { length func.old.function.slots < 2 ^ 32 - 1 }
+    requires few_sigs { length func.old.function.sigs < 2 ^ 32 - 1 }
+    requires few_callees { length func.old.function.callees < 2 ^ 32 - 1 }
+    requires few_values { length types.now < 2 ^ 32 - 1 }
+    ensures { OnOk result
+        (func.new.function ≡ record func.old.function { types = enumerate_from 0 types.now }) }
+{
+    let list = Vec::from_slice(alloc, types)?;
+    func.reserve(Room {
+        slots: 0,
+        sigs: 0,
+        callees: 0,
+        values: types.len(),
+        blocks: 0,
+        insts: 0,
+    })?;
+    func.append(
+        List::from_vec(Vec::new(alloc)),
+        List::from_vec(Vec::new(alloc)),
+        List::from_vec(Vec::new(alloc)),
+        List::from_vec(list),
+    );
+    Ok(())
+}
+
+/// Adds an empty block for each that is written.
+fn add_blocks(func: &mut Func, blocks: &[RawBlock]) -> Result<(), AllocError>
+    requires none { func.old.function.blocks ≡ [] }
+    requires few { length blocks.now < 2 ^ 32 - 1 }
+    ensures { OnOk result
+        (func.new.function ≡ record func.old.function { blocks = map empty_block (enumerate_from 0 blocks.now) }) }
+{
+    func.reserve(Room {
+        slots: 0,
+        sigs: 0,
+        callees: 0,
+        values: 0,
+        blocks: blocks.len(),
+        insts: 0,
+    })?;
+    add_each_block(func, blocks)
+}
+
+/// Adds an empty block for each that is written, one after the other.
+fn add_each_block(func: &mut Func, blocks: &[RawBlock]) -> Result<(), AllocError>
+    requires none { func.old.function.blocks ≡ [] }
+    requires few { length blocks.now < 2 ^ 32 - 1 }
+    ensures { OnOk result
+        (func.new.function ≡ record func.old.function { blocks = map empty_block (enumerate_from 0 blocks.now) }) }
+{
+    for _block in blocks {
+        func.add_block()?;
+    }
+    Ok(())
+}

@@ -1,0 +1,5 @@
+pub mod Comparing
+pub mod Groups
+pub mod Separated
+pub mod Spelled
+pub mod Spellings

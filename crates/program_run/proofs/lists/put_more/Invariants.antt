@@ -1,0 +1,10 @@
+use Rattle.std.proofs.Common.{length}
+use Rattle.ir_text.specs.TextTree.{spelled, more}
+use Rattle.clif_print.proofs.Puts.{Going}
+use Rattle.program_run.proofs.lists.put_more.Given as goal
+
+abbrev pub invariant-items : goal.invariant-items
+invariant-items g l = Going g.O.Output.holds l.initial.out l.out (spelled (more g.T.Item.text l.rest)) (spelled (more g.T.Item.text l.items))
+
+abbrev pub decreases-items : goal.decreases-items
+decreases-items g l = length l.rest

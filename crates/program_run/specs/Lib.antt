@@ -1,0 +1,3 @@
+pub mod EntryName
+pub mod Examples
+pub mod RunText

@@ -1,0 +1,23 @@
+//! A run of an accepted module, and the text that tells of it.
+//!
+//! Contracts see the run as the definition does (`ir_semantics`, `specs/Runs.antt`), and its text as a text in pieces
+//! (`specs/RunText.antt`).
+#![tactic(auto)]
+
+mod bytes;
+mod entries;
+mod events;
+pub mod laws;
+mod lists;
+mod memory;
+mod running;
+#[cfg(test)]
+mod tests;
+mod text;
+mod values;
+
+pub use entries::find_entry;
+pub use interp::{End, Event, Outcome, Shown};
+pub use interp_run::RunErr;
+pub use running::{run, run_spelled};
+pub use text::{end_line, event_line, print_run, run_text};

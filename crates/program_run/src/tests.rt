@@ -1,0 +1,105 @@
+//! A small module is run, and lines as they read.
+ghost use Rattle.std.specs.Prelude.{◌≡◌, IfOk};
+ghost use Rattle.ir_core.specs.Sound.{IsWhole};
+
+use super::*;
+use byte_store::Memory;
+use clk_flow::MemSink;
+use clk_num::{Bits, TrapCode, Width};
+use debug_tags::Tags;
+use host_script::Script;
+use ir_check::{Checked, check};
+use ir_core::{
+    Conv, Ext, Func, FuncName, Inst, InstData, List, Module, Param, Purpose, Sig, Ty, Values,
+};
+use std::alloc::{AllocError, Global};
+
+/// A parameter of 64 bits.
+const WORD: Param = Param {
+    ty: Ty::I64,
+    ext: Ext::No,
+    purpose: Purpose::Normal,
+};
+
+/// `block0(v0: i64): return v0`
+fn identity(alloc: Global, name: FuncName) -> Result<Func, AllocError>
+    ensures named { IfOk result (λ func. func.function.name ≡ name) }
+    ensures whole { IfOk result (λ func. IsWhole func.function) }
+{
+    let sig = Sig {
+        params: List::from_vec(vec![in alloc; WORD]?),
+        results: List::from_vec(vec![in alloc; WORD]?),
+        conv: Conv::Fast,
+    };
+    let mut func = Func::new(alloc, name, sig)?;
+    let value = func.declare(Ty::I64)?;
+    let block = func.add_block()?;
+    func.add_param(block, value)?;
+    let returned = InstData {
+        inst: Inst::Return(Values::one(value)),
+        ty: None,
+        results: Values::none(),
+        tags: Tags::new(Vec::new(alloc)),
+    };
+    func.add_inst(block, returned)?;
+    Ok(func)
+}
+
+/// The text of two steps of the run of the function whose name is spelled so, with one number.
+fn told(alloc: Global, checked: &Checked, entry: &[u8], number: i128) -> Result<Vec<u8>, RunErr> {
+    let script = Script {
+        replies: List::from_vec(Vec::new(alloc)),
+    };
+    let memory = Memory::new(Vec::new(alloc));
+    let outcome = run_spelled(alloc, checked, entry, &[number], &script, memory, 2)?;
+    Ok(run_text(alloc, &outcome)?)
+}
+
+#[test]
+fn runs_to_its_end(rt: HostRuntime) -> Result<(), AllocError> {
+    let alloc = rt.alloc();
+    let mut module = Module::new(alloc);
+    module.push(identity(alloc, FuncName::User(0, 1))?)?;
+    let Ok(checked) = check(alloc, module) else {
+        assert!(rt; false);
+        return Ok(());
+    };
+    let text = told(alloc, &checked, b"u0:1", -42);
+    assert!(rt; text.is_ok_and(|text| text.as_slice() == b"returned [-42]\n".as_slice()));
+    let text = told(alloc, &checked, b"u0:12", -42);
+    assert!(rt; text.is_err_and(|err| err == RunErr::NoEntry));
+    Ok(())
+}
+
+/// `host u0:1(5, -1) <7, [01 ab]>`, as an event.
+fn host_event(alloc: Global) -> Result<Event, AllocError> {
+    let args = vec![in alloc; Bits::new(Width::W8, 5), Bits::new(Width::W8, 255)]?;
+    let bytes = vec![in alloc; 1u8, 171]?;
+    let shown = vec![in alloc; Shown::User(7), Shown::Bytes(List::from_vec(bytes))]?;
+    Ok(Event::Host {
+        name: FuncName::User(0, 1),
+        args: List::from_vec(args),
+        shown: List::from_vec(shown),
+    })
+}
+
+#[test]
+fn lines_read_so(rt: HostRuntime) -> Result<(), AllocError> {
+    let alloc = rt.alloc();
+    let line = event_line(alloc, &host_event(alloc)?)?;
+    assert!(rt; line.as_slice() == b"host u0:1(5, -1) <7, [01 ab]>".as_slice());
+    let end = End::Trapped(TrapCode::IntDivz);
+    let line = end_line(alloc, &end)?;
+    assert!(rt; line.as_slice() == b"trapped int_divz".as_slice());
+    let mut bytes = vec![in alloc; 0u8; 20]?;
+    bytes[17] = 2;
+    let outcome = Outcome {
+        events: List::from_vec(Vec::new(alloc)),
+        memory: Memory::new(bytes),
+        end,
+    };
+    let mut sink = MemSink::new(alloc, Vec::new(alloc), 100)?;
+    assert!(rt; print_run(&outcome, &mut sink).is_ok());
+    assert!(rt; sink.bytes() == b"trapped int_divz\nmemory 00000010: 00 02 00 00\n".as_slice());
+    Ok(())
+}

@@ -1,0 +1,4 @@
+pub mod Copied
+pub mod Ending
+pub mod LastBody
+pub mod TailCall

@@ -1,0 +1,16 @@
+//! A call that ends its block replaced by its callee's body.
+#![tactic(auto)]
+
+mod copying;
+mod numbers;
+mod piece;
+mod placing;
+mod prepare;
+mod splice;
+
+pub use copying::copy_blocks;
+pub use numbers::{number_blocks, renumber_values};
+pub use piece::put_last_piece;
+pub use placing::put_last_body;
+pub use prepare::prepare_tail;
+pub use splice::splice_tail;

@@ -106,16 +106,16 @@ module _ (f g : Function) (at : Point) (sf : IsSound f) (sg : IsSound g) (can : 
           let m = many in
           let some : 0 < length B = let h = can.has_block in omega (arith, h, m) in
           let is_ready = ready f g at l i imp n q B made can.there can.last
-            (record {
-              few_slots = can.few_slots;
-              few_sigs = can.few_sigs;
-              few_callees = can.few_callees;
-              few_values = can.few_values;
-              few_blocks = let h = can.few_blocks in omega (arith, h, m);
-              few_lines = let h = can.few_lines in let c = blocks_counted n l.tags g.blocks in omega (arith, h, c);
-            })
-            (blocks_numbers n l.tags g.blocks ∙ (numbers ∙ other_list (length f.blocks) (block_numbers g.blocks) B (length-map g.blocks (λ (b : Block). b.number) ∙ sym m)))
-            body_in_range body_differs body_undefined some (tail_args l.inst tail (length f.types) site_line.values) in
+          (record {
+            few_slots = can.few_slots;
+            few_sigs = can.few_sigs;
+            few_callees = can.few_callees;
+            few_values = can.few_values;
+            few_blocks = let h = can.few_blocks in omega (arith, h, m);
+            few_lines = let h = can.few_lines in let c = blocks_counted n l.tags g.blocks in omega (arith, h, c);
+          })
+          (blocks_numbers n l.tags g.blocks ∙ (numbers ∙ other_list (length f.blocks) (block_numbers g.blocks) B (length-map g.blocks (λ (b : Block). b.number) ∙ sym m)))
+          body_in_range body_differs body_undefined some (tail_args l.inst tail (length f.types) site_line.values) in
           let p = own_splicing f g at l i imp n q B made (λ c j. 0) in
           let kind : kind_of l.inst ≡ Last = is_last l.inst tail in
           prepared f g at l i imp n q B made (λ c j. 0) sg is_ready found

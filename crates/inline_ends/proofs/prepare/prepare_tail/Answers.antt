@@ -1,4 +1,5 @@
 use Rattle.std.proofs.Common.{◌≡◌, ℕ, ◌+◌, ◌<◌, ◌∷◌, ◌++◌, map, length, ap, ap₂, sym, ◌∙◌, refl, arith, append-nil}
+use Rattle.ir_core.specs.Lookup.{block_numbers}
 use Rattle.ir_core.specs.Viewed.{line_of}
 use Rattle.inline_body.specs.declared.names.Names.{Names}
 use Rattle.inline_body.specs.Inlined.{jump_line, blocks_from}
@@ -27,7 +28,7 @@ returns c =
     tail_prepared f g c.args.site c.values.ensures.sound c.values-2.ensures.sound c.requires.can l c.inst-call.ensures
     c.in_ok-sigs.field-0 c.in_ok-sigs.ensures n
     c.values-3.ensures.count (ap length c.slots.ensures) c.in_ok-number_blocks.ensures.as_many refl refl
-    (c.in_ok-number_blocks.ensures.numbers ∙ ap (λ (z : ℕ). numbered z _) c.requires.counted)
+    (c.in_ok-number_blocks.ensures.numbers ∙ ap (λ (z : ℕ). numbered z (block_numbers g.blocks)) c.requires.counted)
     _
     (record {
       values = c.values-3.ensures.count;

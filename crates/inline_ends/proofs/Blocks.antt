@@ -1,7 +1,7 @@
 -- Blocks between others. These stand in inline_body's BodyBlocks too, where they are private.
 use Rattle.std.proofs.Common.{◌≡◌, ℕ, suc, ◌+◌, inl, inr, List, [], ◌∷◌, ◌++◌, map, length, refl, sym, ap, ap₂, ◌∙◌, subst, arith, eq-eqb, ne_eqb, append_assoc}
 use Rattle.std.specs.Prelude.{if◌then◌else◌}
-use Rattle.ir_core.specs.Module.{Block, Line}
+use Rattle.ir_core.specs.Module.{Block}
 use Rattle.ir_core.specs.Lookup.{block_numbers}
 use Rattle.ir_core.specs.Lists.{In, Different}
 use Rattle.ir_core.specs.Viewed.{line_of}

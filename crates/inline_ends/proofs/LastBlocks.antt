@@ -1,9 +1,9 @@
 -- The functions that a caller becomes as a body is put in the place of a call that ends its block.
-use Rattle.std.proofs.Common.{◌≡◌, ℕ, suc, ◌+◌, ◌≤◌, ◌⊎◌, inl, inr, List, [], ◌∷◌, ◌++◌, length, take, Some, refl, sym, ap, ap₂, ◌∙◌, subst, arith, append_assoc, length-append, eq-eqb, ne_eqb}
+use Rattle.std.proofs.Common.{◌≡◌, ℕ, suc, ◌+◌, ◌⊎◌, inl, inr, List, [], ◌∷◌, ◌++◌, length, take, Some, refl, sym, ap, ap₂, ◌∙◌, subst, arith, append_assoc, length-append, eq-eqb, ne_eqb}
 use Rattle.std.specs.Prelude.{slice_get, if◌then◌else◌}
 use Rattle.ir_core.specs.Module.{Block, Line, Function}
 use Rattle.ir_core.specs.Lookup.{block_numbers, definitions, line_definitions}
-use Rattle.ir_core.specs.Lists.{In, Different, Each, Below}
+use Rattle.ir_core.specs.Lists.{In, Different, Each}
 use Rattle.ir_core.specs.Sound.{IsSound, counts_of, instruction_count}
 use Rattle.ir_core.specs.Edits.{at_block, put_line, lines_of, insert_after}
 use Rattle.ir_core.proofs.Members.{in_left, in_right, in_cases, below_in}

@@ -1,5 +1,5 @@
 -- A body for a call that ends its block is ready, and that of the splice, where its blocks are the splice's.
-use Rattle.std.proofs.Common.{◌≡◌, ℕ, zero, suc, ◌+◌, ◌-◌, ◌<◌, ◌≤◌, ◌^◌, List, [], ◌∷◌, ◌++◌, map, length, get_or, Some, inl, inr, refl, sym, ap, ap₂, ◌∙◌, subst, arith, append-nil, length-append}
+use Rattle.std.proofs.Common.{◌≡◌, ℕ, zero, suc, ◌+◌, ◌-◌, ◌<◌, ◌^◌, List, [], ◌∷◌, ◌++◌, map, length, get_or, Some, inl, inr, refl, sym, ap, ap₂, ◌∙◌, subst, arith, append-nil, length-append}
 use Rattle.std.specs.Prelude.{if◌then◌else◌, slice_get, nat_eq, Bool, true, false}
 use Rattle.std.specs.List.{enumerate_from}
 use Rattle.std.proofs.lemmas.List.{length-map}
@@ -12,25 +12,24 @@ use Rattle.ir_core.specs.Lookup.{block_numbers, definitions}
 use Rattle.ir_core.specs.Sound.{Counts, counts_of, IsSound, LineInRange, BlockInRange, instruction_count}
 use Rattle.ir_core.specs.Edits.{IsPoint, lines_of}
 use Rattle.ir_core.specs.Viewed.{line_of}
-use Rattle.ir_core.proofs.Members.{below_in, below_more}
-use Rattle.ir_core.proofs.Counting.{all_in}
+use Rattle.ir_core.proofs.Members.{below_more}
 use Rattle.ir_semantics.specs.Renaming.{typed_under}
-use Rattle.ir_semantics.specs.Splice.{Naming, Splicing, kind_of, args_of, first_number, callee_names, body, jump_in, after_blocks, new_types_by, line_types, new_types, spliced}
+use Rattle.ir_semantics.specs.Splice.{Naming, Splicing, kind_of, args_of, first_number, callee_names, body, after_blocks, new_types_by, line_types, new_types, spliced}
 use Rattle.body_import.specs.declared.declarations.Import.{Import}
 use Rattle.body_import.specs.Imports.{IsImportOf}
 use Rattle.inline_body.specs.declared.names.Names.{Names}
 use Rattle.inline_body.specs.declared.piece.PreparedBody.{PreparedBody}
 use Rattle.inline_body.specs.Inlined.{jump_line, blocks_from}
-use Rattle.inline_body.specs.WithBody.{empty_from, all_of, lines_in, numbers_of, counts_with}
+use Rattle.inline_body.specs.WithBody.{counts_with}
 use Rattle.inline_body.specs.Prepared.{appended}
-use Rattle.inline_body.specs.PlainCall.{Keeps, splicing_at, IsSplice}
+use Rattle.inline_body.specs.PlainCall.{splicing_at, IsSplice}
 use Rattle.inline_body.proofs.ResultTypes.{types_moved}
 use Rattle.inline_body.proofs.BodyRanges.{NamesInRange, jump_in_range}
 use Rattle.inline_body.proofs.BodyDefinitions.{params_there, lines_there, params_differ, own_lines_differ, lines_apart, lines_ranged, params_ranged, lines_counted, numbers_listed, blocks_listed}
 use Rattle.inline_body.proofs.Ready.{spliced_at}
 use Rattle.inline_ends.specs.Ending.{numbered}
 use Rattle.inline_ends.specs.LastBody.{IsLastBodyOf, IsLastReady, IsLastPrepared}
-use Rattle.inline_ends.proofs.Numbered.{below_end, as_put}
+use Rattle.inline_ends.proofs.Numbered.{as_put}
 
 -- ---- lists
 

@@ -1,26 +1,21 @@
 -- From the clauses of the calls of `prepare_tail` to what it ensures.
-use Rattle.std.proofs.Common.{◌≡◌, ℕ, ◌+◌, ◌<◌, List, [], ◌∷◌, ◌++◌, map, length, get_or, Some, refl, sym, ap, ap₂, ◌∙◌, subst, arith, append-nil, length-append}
+use Rattle.std.proofs.Common.{◌≡◌, ℕ, ◌+◌, ◌<◌, List, [], ◌∷◌, ◌++◌, map, length, get_or, Some, refl, sym, ap, ap₂, ◌∙◌, subst, arith, length-append}
 use Rattle.std.specs.Prelude.{slice_get}
 use Rattle.std.proofs.lemmas.List.{length-map}
 use Rattle.ir_core.specs.declared.places.Point.{Point}
-use Rattle.ir_core.specs.declared.signatures.Ty.{Ty}
 use Rattle.ir_core.specs.Module.{Instruction, Plain, Branches, SequencePoint, Return, Call, ReturnCall, TryCall, Line, Block, Function}
 use Rattle.ir_core.specs.Lists.{In, Different, Each, Below}
 use Rattle.ir_core.specs.Lookup.{block_numbers, definitions}
 use Rattle.ir_core.specs.Uses.{values_used, slots_shown, called_used}
-use Rattle.ir_core.specs.Sound.{counts_of, IsSound, LineInRange, BlockInRange, instruction_count}
+use Rattle.ir_core.specs.Sound.{counts_of, IsSound, LineInRange, BlockInRange}
 use Rattle.ir_core.specs.Edits.{lines_of}
-use Rattle.ir_core.specs.Viewed.{line_of}
 use Rattle.ir_core.proofs.Members.{below_in, below_more, below_right, below_left}
 use Rattle.ir_core.proofs.Counting.{definitions_below, all_in}
-use Rattle.ir_semantics.specs.Splice.{Last, kind_of, args_of, first_number, body, after_blocks, new_types_by}
+use Rattle.ir_semantics.specs.Splice.{Last, kind_of, args_of, first_number, after_blocks, new_types_by}
 use Rattle.body_import.specs.declared.declarations.Import.{Import}
 use Rattle.body_import.specs.Imports.{IsImportOf}
 use Rattle.inline_body.specs.declared.names.Names.{Names}
 use Rattle.inline_body.specs.declared.piece.PreparedBody.{PreparedBody}
-use Rattle.inline_body.specs.Inlined.{jump_line, blocks_from}
-use Rattle.inline_body.specs.Results.{repeated}
-use Rattle.inline_body.specs.Within.{LastNumbers}
 use Rattle.inline_body.proofs.BodyRanges.{NamesReach}
 use Rattle.inline_body.proofs.LastBody.{body_is}
 use Rattle.inline_ends.specs.Copied.{copied_block, CanCopy}

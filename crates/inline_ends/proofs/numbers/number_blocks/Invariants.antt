@@ -1,4 +1,4 @@
-use Rattle.std.proofs.Common.{◌≡◌, ◌+◌, ◌≤◌, length}
+use Rattle.std.proofs.Common.{◌≡◌, ◌+◌, length}
 use Rattle.ir_core.specs.Lists.{Below}
 use Rattle.ir_core.specs.Lookup.{block_numbers}
 use Rattle.inline_ends.specs.Ending.{with_numbers}

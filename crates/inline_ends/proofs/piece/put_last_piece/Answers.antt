@@ -1,4 +1,4 @@
-use Rattle.std.proofs.Common.{length, ap, sym, subst, ◌∙◌}
+use Rattle.std.proofs.Common.{ap, sym, subst, ◌∙◌}
 use Rattle.ir_core.specs.Module.{Function}
 use Rattle.ir_core.specs.Lookup.{definitions}
 use Rattle.ir_core.specs.Lists.{In}

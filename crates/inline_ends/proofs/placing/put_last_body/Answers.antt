@@ -1,10 +1,10 @@
 use Rattle.std.proofs.Common.{ℕ, length, inl, inr, ap, sym, subst, arith}
-use Rattle.ir_core.specs.Lists.{In, Below, Each}
+use Rattle.ir_core.specs.Lists.{Below, Each}
 use Rattle.ir_core.specs.Sound.{LineInRange, Counts}
 use Rattle.ir_core.specs.Viewed.{line_of}
 use Rattle.ir_core.proofs.Members.{below_left, below_right, different_left, different_right, different_apart, in_left, in_right}
 use Rattle.inline_body.specs.WithBody.{all_of, lines_in}
-use Rattle.inline_ends.proofs.LastBlocks.{there1, long1, types1, count1, defined1, call_was, there2, long2, types2, defined2, there3, counts3, few3, there4, counts4, few4, defined4, all4}
+use Rattle.inline_ends.proofs.LastBlocks.{there1, long1, types1, defined1, call_was, there2, long2, types2, defined2, there3, counts3, few3, there4, counts4, few4, defined4, all4}
 use Rattle.inline_ends.proofs.placing.put_last_body.Goals as goal
 
 pub take_last-call-requires-clause-some : goal.take_last-call-requires-clause-some

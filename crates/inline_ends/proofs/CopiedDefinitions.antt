@@ -10,7 +10,7 @@ use Rattle.inline_body.specs.declared.names.Names.{Names}
 use Rattle.inline_body.specs.Inlined.{copied_line}
 use Rattle.inline_ends.specs.Copied.{copied_block}
 
-map_join : (h : ℕ → ℕ) (xs ys : List ℕ) → map h (xs ++ ys) ≡ map h xs ++ map h ys
+pub map_join : (h : ℕ → ℕ) (xs ys : List ℕ) → map h (xs ++ ys) ≡ map h xs ++ map h ys
 map_join h [] ys = refl
 map_join h (x ∷ xs) ys = ap (λ z. h x ∷ z) (map_join h xs ys)
 

@@ -7,3 +7,5 @@ pub mod CopiedDefinitions
 pub mod CopiedRanges
 pub mod LastReady
 pub mod TailPrepared
+pub mod TriedBody
+pub mod TriedShape

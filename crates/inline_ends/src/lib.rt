@@ -7,6 +7,9 @@ mod piece;
 mod placing;
 mod prepare;
 mod splice;
+mod try_body;
+mod try_numbers;
+mod trying;
 
 pub use copying::copy_blocks;
 pub use numbers::{number_blocks, renumber_values};
@@ -14,3 +17,6 @@ pub use piece::put_last_piece;
 pub use placing::put_last_body;
 pub use prepare::prepare_tail;
 pub use splice::splice_tail;
+pub use try_body::{MadeBlocks, OpenBlock, try_blocks};
+pub use try_numbers::number_try_blocks;
+pub use trying::{TrySite, is_plain_call, tried_line};

@@ -9,3 +9,6 @@ pub mod LastReady
 pub mod TailPrepared
 pub mod TriedBody
 pub mod TriedShape
+pub mod TriedSteps
+pub mod TriedRanges
+pub mod TryPrepared

@@ -4,3 +4,4 @@ pub mod LastBody
 pub mod TailCall
 pub mod Tried
 pub mod TriedParts
+pub mod TryCallSite

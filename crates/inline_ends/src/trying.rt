@@ -6,11 +6,12 @@ ghost use Rattle.ir_core.specs.Uses.{slots_shown, targets_used, table_targets};
 ghost use Rattle.ir_core.specs.Lists.{Below};
 ghost use Rattle.ir_core.specs.Module.{Direct, Indirect};
 ghost use Rattle.ir_core.specs.Viewed.{instruction_of, line_of};
-ghost use Rattle.ir_semantics.specs.Renaming.{entry_under, tag_under};
+ghost use Rattle.ir_semantics.specs.Renaming.{instruction_under, entry_under, tag_under};
 ghost use Rattle.ir_semantics.specs.Splice.{from};
 ghost use Rattle.inline_body.specs.Named.{names_of, Moves, Reached, blocks_of};
 ghost use Rattle.inline_ends.specs.Tried.{is_plain_call as spec_is_plain_call, returned_arg, return_line, sig_called};
-ghost use Rattle.inline_ends.specs.Tried.{to_next, try_of, tried_line as spec_tried_line};
+ghost use Rattle.inline_ends.specs.Tried.{to_next, try_of, try_line, tried_line as spec_tried_line};
+ghost use Rattle.inline_ends.specs.TryCallSite.{IsTryCall};
 ghost use Rattle.inline_ends.specs.TriedParts.{Called};
 
 use debug_tags::Tags;
@@ -169,52 +170,158 @@ fn line_with(
     })
 }
 
-/// A `try_call` of the site's table in place of a direct call.
+/// A `try_call` with the site's table in place of a direct call.
 fn try_direct(
     alloc: Global,
     names: &Names,
     site: &TrySite,
+    line: &InstData,
     callee: FuncRef,
     args: &Values,
     normal: BlockCall,
-) -> Result<Inst, AllocError>
+) -> Result<InstData, AllocError>
+    requires shown { Each (Moves names.now.slots) (slots_shown line.now.tags) }
     requires callee { callee < length names.now.callees }
     requires called { Called names.now site.now }
     requires args { Each (Moves names.now.values) args.now }
-    ensures { IfOk result (λ i. instruction_of i ≡ try_of names.now site.now (Direct callee) args.now normal) }
+    ensures { IfOk result (λ l. line_of l
+        ≡ try_line names.now site.now (line_of line.now) (try_of names.now site.now (Direct callee) args.now normal)) }
 {
     let callee = names.callee(callee);
-    Ok(Inst::TryCall {
+    let inst = Inst::TryCall {
         callee,
         sig: site.sig_of(callee),
         args: names.of_values(alloc, args)?,
         normal: Boxed::new(alloc, normal)?,
         table: Boxed::new(alloc, site.table.clone()?)?,
-    })
+    };
+    line_with(alloc, names, site.tags, line, inst, Values::none())
 }
 
-/// A `try_call` of the site's table in place of an indirect call.
+/// A `try_call` with the site's table in place of an indirect call.
 fn try_indirect(
     alloc: Global,
     names: &Names,
     site: &TrySite,
+    line: &InstData,
     sig: SigRef,
     address: Value,
     args: &Values,
     normal: BlockCall,
-) -> Result<Inst, AllocError>
+) -> Result<InstData, AllocError>
+    requires shown { Each (Moves names.now.slots) (slots_shown line.now.tags) }
     requires sig { sig < length names.now.sigs }
     requires address { Moves names.now.values address }
     requires args { Each (Moves names.now.values) args.now }
-    ensures { IfOk result (λ i. instruction_of i ≡ try_of names.now site.now (Indirect sig address) args.now normal) }
+    ensures { IfOk result (λ l. line_of l
+        ≡ try_line names.now site.now (line_of line.now)
+        (try_of names.now site.now (Indirect sig address) args.now normal)) }
 {
-    Ok(Inst::TryCallIndirect {
+    let inst = Inst::TryCallIndirect {
         sig: names.sig(sig),
         address: names.value(address),
         args: names.of_values(alloc, args)?,
         normal: Boxed::new(alloc, normal)?,
         table: Boxed::new(alloc, site.table.clone()?)?,
-    })
+    };
+    line_with(alloc, names, site.tags, line, inst, Values::none())
+}
+
+/// A `try_call` of the callee, with the site's table behind its own.
+fn join_table(
+    alloc: Global,
+    names: &Names,
+    site: &TrySite,
+    line: &InstData,
+) -> Result<InstData, AllocError>
+    requires reached { Reached names.now (line_of line.now) }
+    requires tries { IsTryCall (instruction_of line.now.inst) }
+    ensures { IfOk result (λ l. line_of l
+        ≡ spec_tried_line names.now site.now 0 (line_of line.now) (instruction_of line.now.inst)) }
+{
+    let inst = match &line.inst {
+        Inst::TryCall {
+            callee,
+            sig,
+            args,
+            normal,
+            table,
+        } => Inst::TryCall {
+            callee: names.callee(*callee),
+            sig: names.sig(*sig),
+            args: names.of_values(alloc, args)?,
+            normal: names.boxed(alloc, normal)?,
+            table: joined_table(alloc, names, table.get(), site.table)?,
+        },
+        Inst::TryCallIndirect {
+            sig,
+            address,
+            args,
+            normal,
+            table,
+        } => Inst::TryCallIndirect {
+            sig: names.sig(*sig),
+            address: names.value(*address),
+            args: names.of_values(alloc, args)?,
+            normal: names.boxed(alloc, normal)?,
+            table: joined_table(alloc, names, table.get(), site.table)?,
+        },
+        _ => unreachable!(),
+    };
+    line_with(alloc, names, site.tags, line, inst, Values::none())
+}
+
+/// A line that stays under its numbers, with these tags in front of its own.
+fn copy_with(
+    alloc: Global,
+    names: &Names,
+    outer: &Tags,
+    line: &InstData,
+) -> Result<InstData, AllocError>
+    requires { Reached names.now (line_of line.now) }
+    ensures { IfOk result
+        (λ l. line_of l
+        ≡ record {
+          inst = instruction_under (names_of names.now) (instruction_of line.now.inst);
+          ty = line.now.ty;
+          results = map (names_of names.now).value line.now.results;
+          tags = outer.now
+              ++ map (tag_under (names_of names.now)) line.now.tags;
+        }) }
+{
+    let inst = copy_inst(alloc, names, line)?;
+    let results = names.of_values(alloc, &line.results)?;
+    line_with(alloc, names, outer, line, inst, results)
+}
+
+/// The same, with no tags in front.
+fn copy_alone(alloc: Global, names: &Names, line: &InstData) -> Result<InstData, AllocError>
+    requires { Reached names.now (line_of line.now) }
+    ensures { IfOk result
+        (λ l. line_of l
+        ≡ record {
+          inst = instruction_under (names_of names.now) (instruction_of line.now.inst);
+          ty = line.now.ty;
+          results = map (names_of names.now).value line.now.results;
+          tags = map (tag_under (names_of names.now)) line.now.tags;
+        }) }
+{
+    let none = Tags::new(Vec::new(alloc));
+    copy_with(alloc, names, &none, line)
+}
+
+/// The jump to the normal target in place of a return.
+fn tried_return(
+    alloc: Global,
+    names: &Names,
+    normal: &BlockCall,
+    values: &Values,
+) -> Result<InstData, AllocError>
+    requires { Each (Moves names.now.values) values.now }
+    ensures { IfOk result (λ l. line_of l ≡ return_line normal.now (map (names_of names.now).value values.now)) }
+{
+    let values = names.of_values(alloc, values)?;
+    jump_to_normal(alloc, normal, values.as_slice())
 }
 
 /// A line in its block; a plain call goes on in the block `next`.
@@ -231,73 +338,27 @@ pub fn tried_line(
     ensures { IfOk result (λ l. line_of l
         ≡ spec_tried_line names.now site.now next (line_of line.now) (instruction_of line.now.inst)) }
 {
-    let none = Values::none();
     match &line.inst {
-        Inst::Return(values) => {
-            let values = names.of_values(alloc, values)?;
-            jump_to_normal(alloc, site.normal, values.as_slice())
-        }
+        Inst::Return(values) => tried_return(alloc, names, site.normal, values),
         Inst::Call { callee, args } => {
             let normal = next_target(alloc, next, line)?;
-            let inst = try_direct(alloc, names, site, *callee, args, normal)?;
-            line_with(alloc, names, site.tags, line, inst, none)
+            try_direct(alloc, names, site, line, *callee, args, normal)
         }
         Inst::CallIndirect { sig, address, args } => {
             let normal = next_target(alloc, next, line)?;
-            let inst = try_indirect(alloc, names, site, *sig, *address, args, normal)?;
-            line_with(alloc, names, site.tags, line, inst, none)
+            try_indirect(alloc, names, site, line, *sig, *address, args, normal)
         }
         Inst::ReturnCall { callee, args } => {
             let normal = site.normal.clone()?;
-            let inst = try_direct(alloc, names, site, *callee, args, normal)?;
-            line_with(alloc, names, site.tags, line, inst, none)
+            try_direct(alloc, names, site, line, *callee, args, normal)
         }
         Inst::ReturnCallIndirect { sig, address, args } => {
             let normal = site.normal.clone()?;
-            let inst = try_indirect(alloc, names, site, *sig, *address, args, normal)?;
-            line_with(alloc, names, site.tags, line, inst, none)
+            try_indirect(alloc, names, site, line, *sig, *address, args, normal)
         }
-        Inst::TryCall {
-            callee,
-            sig,
-            args,
-            normal,
-            table,
-        } => {
-            let inst = Inst::TryCall {
-                callee: names.callee(*callee),
-                sig: names.sig(*sig),
-                args: names.of_values(alloc, args)?,
-                normal: names.boxed(alloc, normal)?,
-                table: joined_table(alloc, names, table.get(), site.table)?,
-            };
-            line_with(alloc, names, site.tags, line, inst, none)
-        }
-        Inst::TryCallIndirect {
-            sig,
-            address,
-            args,
-            normal,
-            table,
-        } => {
-            let inst = Inst::TryCallIndirect {
-                sig: names.sig(*sig),
-                address: names.value(*address),
-                args: names.of_values(alloc, args)?,
-                normal: names.boxed(alloc, normal)?,
-                table: joined_table(alloc, names, table.get(), site.table)?,
-            };
-            line_with(alloc, names, site.tags, line, inst, none)
-        }
-        Inst::SequencePoint => {
-            let results = names.of_values(alloc, &line.results)?;
-            line_with(alloc, names, site.tags, line, Inst::SequencePoint, results)
-        }
-        _ => {
-            let inst = copy_inst(alloc, names, line)?;
-            let results = names.of_values(alloc, &line.results)?;
-            let no_tags = Tags::new(Vec::new(alloc));
-            line_with(alloc, names, &no_tags, line, inst, results)
-        }
+        Inst::TryCall { .. } => join_table(alloc, names, site, line),
+        Inst::TryCallIndirect { .. } => join_table(alloc, names, site, line),
+        Inst::SequencePoint => copy_with(alloc, names, site.tags, line),
+        _ => copy_alone(alloc, names, line),
     }
 }

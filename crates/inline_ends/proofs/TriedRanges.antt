@@ -67,6 +67,12 @@ pub record SiteInRange (s : OuterTry) (N : Counts) : Type 0 where
   pub callees : length s.callees ≡ N.callees
 
 module _ (n : Names) (s : OuterTry) (G N : Counts) (fit : NamesInRange n G N) (site : SiteInRange s N) where
+  abbrev rest_of : ℕ → List Line → Bool → Fragment
+  rest_of next ls c = tried_lines n s (if c then next + 1 else next) ls
+
+  abbrev made_of : ℕ → Line → List Line → Bool → Fragment
+  made_of next l ls c = with_line n next l (tried_line n s next l l.inst) c (rest_of next ls c)
+
   sig_below : (t : CallTarget) → Below N.callees (called_callees t) → Below N.sigs (called_sigs t) → sig_called s.callees t < N.sigs
   sig_below (Direct k) c g =
       let long = site.callees in
@@ -151,12 +157,6 @@ module _ (n : Names) (s : OuterTry) (G N : Counts) (fit : NamesInRange n G N) (s
   lines_in_range next [] hn hz h = (tt, tt)
   lines_in_range next (l ∷ ls) hn hz h = go (is_plain_call l.inst) refl (λ k. lines_in_range (next + 1) ls k hz h.1) (λ k. lines_in_range next ls k hz h.1)
     where
-      abbrev rest : Bool → Fragment
-      rest c = tried_lines n s (if c then next + 1 else next) ls
-
-      abbrev made : Bool → Fragment
-      made c = with_line n next l (tried_line n s next l l.inst) c (rest c)
-
       -- a line that is no plain call does not name the next block
       other : is_plain_call l.inst ≡ false → LineInRange N (tried_line n s next l l.inst)
       other e = by_kind l.inst refl e
@@ -170,7 +170,7 @@ module _ (n : Names) (s : OuterTry) (G N : Counts) (fit : NamesInRange n G N) (s
           by_kind (ReturnCall t args) q e = tried_in_range 0 hz l (ReturnCall t args) q h.0
           by_kind (TryCall t sig args own inner) q e = tried_in_range 0 hz l (TryCall t sig args own inner) q h.0
 
-      go : (c : Bool) → is_plain_call l.inst ≡ c → (next + 1 + plain_calls ls ≤ N.blocks → Each (LineInRange N) (rest true).lines × Each (BlockInRange N) (rest true).more) → (next + plain_calls ls ≤ N.blocks → Each (LineInRange N) (rest false).lines × Each (BlockInRange N) (rest false).more) → Each (LineInRange N) (made c).lines × Each (BlockInRange N) (made c).more
+      go : (c : Bool) → is_plain_call l.inst ≡ c → (next + 1 + plain_calls ls ≤ N.blocks → Each (LineInRange N) (rest_of next ls true).lines × Each (BlockInRange N) (rest_of next ls true).more) → (next + plain_calls ls ≤ N.blocks → Each (LineInRange N) (rest_of next ls false).lines × Each (BlockInRange N) (rest_of next ls false).more) → Each (LineInRange N) (made_of next l ls c).lines × Each (BlockInRange N) (made_of next l ls c).more
       go true e a b =
           let one : (if is_plain_call l.inst then 1 else 0) ≡ 1 = ap (λ (z : Bool). if z then 1 else 0) e in
           let r = a (omega (arith, hn, one)) in

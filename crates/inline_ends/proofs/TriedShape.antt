@@ -33,18 +33,18 @@ next_written t ks k j n h m rest bs all e g q w i =
     ∙ (sym (ap (λ (z : List ℕ). with_values t z (numbered_with_calls n (map (block_at bs) z))) e) ∙ i)
 
 module _ (n : Names) (s : OuterTry) where
+  abbrev rest_of : ℕ → List Line → Bool → Fragment
+  rest_of next ls c = tried_lines n s (if c then next + 1 else next) ls
+
+  abbrev made_of : ℕ → Line → List Line → Bool → Fragment
+  made_of next l ls c = with_line n next l (tried_line n s next l l.inst) c (rest_of next ls c)
+
   -- the blocks behind a block's calls
   more_are : (next : ℕ) (ls : List Line) → (block_numbers (tried_lines n s next ls).more ≡ numbered next (tried_lines n s next ls).more) × (length (tried_lines n s next ls).more ≡ plain_calls ls)
   more_are next [] = (refl, refl)
   more_are next (l ∷ ls) = go (is_plain_call l.inst) (more_are (next + 1) ls) (more_are next ls)
     where
-      abbrev rest : Bool → Fragment
-      rest c = tried_lines n s (if c then next + 1 else next) ls
-
-      abbrev made : Bool → Fragment
-      made c = with_line n next l (tried_line n s next l l.inst) c (rest c)
-
-      go : (c : Bool) → (block_numbers (rest true).more ≡ numbered (next + 1) (rest true).more) × (length (rest true).more ≡ plain_calls ls) → (block_numbers (rest false).more ≡ numbered next (rest false).more) × (length (rest false).more ≡ plain_calls ls) → (block_numbers (made c).more ≡ numbered next (made c).more) × (length (made c).more ≡ (if c then 1 else 0) + plain_calls ls)
+      go : (c : Bool) → (block_numbers (rest_of next ls true).more ≡ numbered (next + 1) (rest_of next ls true).more) × (length (rest_of next ls true).more ≡ plain_calls ls) → (block_numbers (rest_of next ls false).more ≡ numbered next (rest_of next ls false).more) × (length (rest_of next ls false).more ≡ plain_calls ls) → (block_numbers (made_of next l ls c).more ≡ numbered next (made_of next l ls c).more) × (length (made_of next l ls c).more ≡ (if c then 1 else 0) + plain_calls ls)
       go true h k = (ap (λ (z : List ℕ). next ∷ z) h.0, let e = h.1 in omega (arith, e))
       go false h k = (k.0, let e = k.1 in omega (arith, e))
 
@@ -74,13 +74,7 @@ module _ (n : Names) (s : OuterTry) where
   line_count next [] = refl
   line_count next (l ∷ ls) = go (is_plain_call l.inst) (line_count (next + 1) ls) (line_count next ls)
     where
-      abbrev rest : Bool → Fragment
-      rest c = tried_lines n s (if c then next + 1 else next) ls
-
-      abbrev made : Bool → Fragment
-      made c = with_line n next l (tried_line n s next l l.inst) c (rest c)
-
-      go : (c : Bool) → length (rest true).lines + instruction_count (rest true).more ≡ length ls → length (rest false).lines + instruction_count (rest false).more ≡ length ls → length (made c).lines + instruction_count (made c).more ≡ suc (length ls)
+      go : (c : Bool) → length (rest_of next ls true).lines + instruction_count (rest_of next ls true).more ≡ length ls → length (rest_of next ls false).lines + instruction_count (rest_of next ls false).more ≡ length ls → length (made_of next l ls c).lines + instruction_count (made_of next l ls c).more ≡ suc (length ls)
       go true h k = omega (arith, h)
       go false h k = omega (arith, k)
 
@@ -113,6 +107,12 @@ some_join xs ys xs' ys' a b =
     }
 
 module _ (n : Names) (s : OuterTry) where
+  abbrev rest_of : ℕ → List Line → Bool → Fragment
+  rest_of next ls c = tried_lines n s (if c then next + 1 else next) ls
+
+  abbrev made_of : ℕ → Line → List Line → Bool → Fragment
+  made_of next l ls c = with_line n next l (tried_line n s next l l.inst) c (rest_of next ls c)
+
   abbrev up : List ℕ → List ℕ
   up vs = map (λ v. n.values + v) vs
 
@@ -142,20 +142,14 @@ module _ (n : Names) (s : OuterTry) where
   lines_define next [] = all_of_them []
   lines_define next (l ∷ ls) = subst (Some_of (defined (tried_lines n s next (l ∷ ls)))) (sym (map_join (λ v. n.values + v) l.results (line_definitions ls))) (go (is_plain_call l.inst) refl (lines_define (next + 1) ls) (lines_define next ls))
     where
-      abbrev rest : Bool → Fragment
-      rest c = tried_lines n s (if c then next + 1 else next) ls
-
-      abbrev made : Bool → Fragment
-      made c = with_line n next l (tried_line n s next l l.inst) c (rest c)
-
-      go : (c : Bool) → is_plain_call l.inst ≡ c → Some_of (defined (rest true)) (up (line_definitions ls)) → Some_of (defined (rest false)) (up (line_definitions ls)) → Some_of (defined (made c)) (up l.results ++ up (line_definitions ls))
+      go : (c : Bool) → is_plain_call l.inst ≡ c → Some_of (defined (rest_of next ls true)) (up (line_definitions ls)) → Some_of (defined (rest_of next ls false)) (up (line_definitions ls)) → Some_of (defined (made_of next l ls c)) (up l.results ++ up (line_definitions ls))
       go true e h k =
           let none = call_defines next l l.inst e in
-          let shape : defined (made true) ≡ up l.results ++ defined (rest true) = ap (λ (z : List ℕ). (z ++ []) ++ (up l.results ++ defined (rest true))) none in
-          subst (λ (z : List ℕ). Some_of z (up l.results ++ up (line_definitions ls))) (sym shape) (some_join (up l.results) (up l.results) (defined (rest true)) (up (line_definitions ls)) (all_of_them (up l.results)) h)
+          let shape : defined (made_of next l ls true) ≡ up l.results ++ defined (rest_of next ls true) = ap (λ (z : List ℕ). (z ++ []) ++ (up l.results ++ defined (rest_of next ls true))) none in
+          subst (λ (z : List ℕ). Some_of z (up l.results ++ up (line_definitions ls))) (sym shape) (some_join (up l.results) (up l.results) (defined (rest_of next ls true)) (up (line_definitions ls)) (all_of_them (up l.results)) h)
       go false e h k =
-          let shape : defined (made false) ≡ (tried_line n s next l l.inst).results ++ defined (rest false) = append_assoc (tried_line n s next l l.inst).results (line_definitions (rest false).lines) (definitions (rest false).more) in
-          subst (λ (z : List ℕ). Some_of z (up l.results ++ up (line_definitions ls))) (sym shape) (some_join (tried_line n s next l l.inst).results (up l.results) (defined (rest false)) (up (line_definitions ls)) (line_defines next l l.inst e) k)
+          let shape : defined (made_of next l ls false) ≡ (tried_line n s next l l.inst).results ++ defined (rest_of next ls false) = append_assoc (tried_line n s next l l.inst).results (line_definitions (rest_of next ls false).lines) (definitions (rest_of next ls false).more) in
+          subst (λ (z : List ℕ). Some_of z (up l.results ++ up (line_definitions ls))) (sym shape) (some_join (tried_line n s next l l.inst).results (up l.results) (defined (rest_of next ls false)) (up (line_definitions ls)) (line_defines next l l.inst e) k)
 
   pub tried_define : (bs : List Block) → Some_of (definitions (tried_blocks n s bs)) (map (λ v. n.values + v) (definitions bs))
   tried_define [] = all_of_them []

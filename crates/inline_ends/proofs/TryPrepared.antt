@@ -48,6 +48,9 @@ try_args (Call t args) h n b = absurd h
 pub same_line : (a b : Line) → Some a ≡ Some b → a ≡ b
 same_line a b e = cc
 
+pub is_tries : (f g : Function) (at : Point) (can : CanSpliceTry f g at) (l : Line) → slice_get (lines_of at.block f.blocks) at.index ≡ Some l → IsTryCall l.inst
+is_tries f g at can l found = subst (λ (z : Line). IsTryCall z.inst) (same_line can.line l (sym can.found ∙ found)) can.tries
+
 -- a number of the table is in range, with the calls of its block
 with_calls_below : (h : ℕ → ℕ) (n m : ℕ) (bs : List Block) → map h (block_numbers bs) ≡ numbered_with_calls n bs → n + length bs + plain_calls_in bs ≤ m → Each (λ (b : Block). h b.number + plain_calls b.lines < m) bs
 with_calls_below h n m [] e l = tt
@@ -112,7 +115,7 @@ each_more_sigs m k (c ∷ cs) h e = (let q = e.0 in omega (arith, q, h), each_mo
 
 module _ (f g : Function) (at : Point) (sf : IsSound f) (sg : IsSound g) (can : CanSpliceTry f g at) (l : Line) (found : slice_get (lines_of at.block f.blocks) at.index ≡ Some l) (i : Import) (imp : IsImportOf f g i) (n : Names) (values : n.values ≡ length f.types) (slots : n.slots ≡ length f.slots) (blocks : length n.blocks ≡ length g.blocks) (sigs : n.sigs ≡ i.sigs.table) (callees : n.callees ≡ i.callees.table) (numbers : map (λ b. get_or n.blocks b 0) (block_numbers g.blocks) ≡ numbered_with_calls (length f.blocks) g.blocks) where
   pub tries : IsTryCall l.inst
-  tries = subst (λ (z : Line). IsTryCall z.inst) (same_line can.line l (sym can.found ∙ found)) can.tries
+  tries = is_tries f g at can l found
 
   site_line : LineInRange (counts_of f) l
   site_line = line_at (counts_of f) at.block at.index l f.blocks sf.blocks found

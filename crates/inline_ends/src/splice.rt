@@ -11,7 +11,7 @@ use ir_core::{Func, Point};
 use std::alloc::{AllocError, Global};
 
 /// The number of blocks.
-fn count_blocks(func: &Func) -> usize
+pub(crate) fn count_blocks(func: &Func) -> usize
     ensures { result ≡ length func.now.function.blocks }
 {
     func.blocks().count()

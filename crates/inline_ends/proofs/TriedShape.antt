@@ -27,10 +27,11 @@ pub calls_length : (n : ℕ) (bs : List Block) → length (numbered_with_calls n
 calls_length n [] = refl
 calls_length n (b ∷ bs) = ap suc (calls_length (n + plain_calls b.lines + 1) bs)
 
-pub next_written : (t ks : List ℕ) (k j n h m : ℕ) (rest : List ℕ) (bs : List Block) (all : List ℕ) → ks ≡ k ∷ rest → j ≡ k → h ≡ plain_calls (lines_of k bs) → m ≡ n + h + 1 → with_values t ks (numbered_with_calls n (map (block_at bs) ks)) ≡ all → with_values (slice_set t j n) rest (numbered_with_calls m (map (block_at bs) rest)) ≡ all
-next_written t ks k j n h m rest bs all e g q w i =
-    ap₂ (λ (x y : ℕ). with_values (slice_set t x n) rest (numbered_with_calls y (map (block_at bs) rest))) g (w ∙ ap (λ (z : ℕ). n + z + 1) q)
-    ∙ (sym (ap (λ (z : List ℕ). with_values t z (numbered_with_calls n (map (block_at bs) z))) e) ∙ i)
+pub next_written : (t ks : List ℕ) (k j n v h m : ℕ) (rest : List ℕ) (bs : List Block) (all : List ℕ) → ks ≡ k ∷ rest → j ≡ k → v ≡ n → h ≡ plain_calls (lines_of k bs) → m ≡ n + h + 1 → with_values t ks (numbered_with_calls n (map (block_at bs) ks)) ≡ all → with_values (slice_set t j v) rest (numbered_with_calls m (map (block_at bs) rest)) ≡ all
+next_written t ks k j n v h m rest bs all e g u q w i =
+    ap (λ (x : ℕ). with_values (slice_set t j x) rest (numbered_with_calls m (map (block_at bs) rest))) u
+    ∙ (ap₂ (λ (x y : ℕ). with_values (slice_set t x n) rest (numbered_with_calls y (map (block_at bs) rest))) g (w ∙ ap (λ (z : ℕ). n + z + 1) q)
+    ∙ (sym (ap (λ (z : List ℕ). with_values t z (numbered_with_calls n (map (block_at bs) z))) e) ∙ i))
 
 module _ (n : Names) (s : OuterTry) where
   abbrev rest_of : ℕ → List Line → Bool → Fragment
@@ -107,12 +108,6 @@ some_join xs ys xs' ys' a b =
     }
 
 module _ (n : Names) (s : OuterTry) where
-  abbrev rest_of : ℕ → List Line → Bool → Fragment
-  rest_of next ls c = tried_lines n s (if c then next + 1 else next) ls
-
-  abbrev made_of : ℕ → Line → List Line → Bool → Fragment
-  made_of next l ls c = with_line n next l (tried_line n s next l l.inst) c (rest_of next ls c)
-
   abbrev up : List ℕ → List ℕ
   up vs = map (λ v. n.values + v) vs
 
@@ -142,14 +137,14 @@ module _ (n : Names) (s : OuterTry) where
   lines_define next [] = all_of_them []
   lines_define next (l ∷ ls) = subst (Some_of (defined (tried_lines n s next (l ∷ ls)))) (sym (map_join (λ v. n.values + v) l.results (line_definitions ls))) (go (is_plain_call l.inst) refl (lines_define (next + 1) ls) (lines_define next ls))
     where
-      go : (c : Bool) → is_plain_call l.inst ≡ c → Some_of (defined (rest_of next ls true)) (up (line_definitions ls)) → Some_of (defined (rest_of next ls false)) (up (line_definitions ls)) → Some_of (defined (made_of next l ls c)) (up l.results ++ up (line_definitions ls))
+      go : (c : Bool) → is_plain_call l.inst ≡ c → Some_of (defined (rest_of n s next ls true)) (up (line_definitions ls)) → Some_of (defined (rest_of n s next ls false)) (up (line_definitions ls)) → Some_of (defined (made_of n s next l ls c)) (up l.results ++ up (line_definitions ls))
       go true e h k =
           let none = call_defines next l l.inst e in
-          let shape : defined (made_of next l ls true) ≡ up l.results ++ defined (rest_of next ls true) = ap (λ (z : List ℕ). (z ++ []) ++ (up l.results ++ defined (rest_of next ls true))) none in
-          subst (λ (z : List ℕ). Some_of z (up l.results ++ up (line_definitions ls))) (sym shape) (some_join (up l.results) (up l.results) (defined (rest_of next ls true)) (up (line_definitions ls)) (all_of_them (up l.results)) h)
+          let shape : defined (made_of n s next l ls true) ≡ up l.results ++ defined (rest_of n s next ls true) = ap (λ (z : List ℕ). (z ++ []) ++ (up l.results ++ defined (rest_of n s next ls true))) none in
+          subst (λ (z : List ℕ). Some_of z (up l.results ++ up (line_definitions ls))) (sym shape) (some_join (up l.results) (up l.results) (defined (rest_of n s next ls true)) (up (line_definitions ls)) (all_of_them (up l.results)) h)
       go false e h k =
-          let shape : defined (made_of next l ls false) ≡ (tried_line n s next l l.inst).results ++ defined (rest_of next ls false) = append_assoc (tried_line n s next l l.inst).results (line_definitions (rest_of next ls false).lines) (definitions (rest_of next ls false).more) in
-          subst (λ (z : List ℕ). Some_of z (up l.results ++ up (line_definitions ls))) (sym shape) (some_join (tried_line n s next l l.inst).results (up l.results) (defined (rest_of next ls false)) (up (line_definitions ls)) (line_defines next l l.inst e) k)
+          let shape : defined (made_of n s next l ls false) ≡ (tried_line n s next l l.inst).results ++ defined (rest_of n s next ls false) = append_assoc (tried_line n s next l l.inst).results (line_definitions (rest_of n s next ls false).lines) (definitions (rest_of n s next ls false).more) in
+          subst (λ (z : List ℕ). Some_of z (up l.results ++ up (line_definitions ls))) (sym shape) (some_join (tried_line n s next l l.inst).results (up l.results) (defined (rest_of n s next ls false)) (up (line_definitions ls)) (line_defines next l l.inst e) k)
 
   pub tried_define : (bs : List Block) → Some_of (definitions (tried_blocks n s bs)) (map (λ v. n.values + v) (definitions bs))
   tried_define [] = all_of_them []

@@ -37,13 +37,13 @@ written-preserved c =
     let rest = c.next-in-written.new.self in
     let steps = c.in-Some-block.ensures.steps in
     let tails = c.count_plain_calls.ensures ∙ ap plain_calls c.inst_slice.ensures in
-    let long = length-set c.written.table.items c.number.result c.written.number in
+    let long = length-set c.written.table.items c.number.result c.new-in-written.result in
     let was = c.written.invariant.long in
     let small = c.written.invariant.small in
     let fewer = ap length steps in
     let parts = ap (λ (z : List ℕ). plain_calls_in (map (block_at bs) z)) steps in
     record {
-      left = next_written c.written.table.items c.written.block-iterator k c.number.result c.written.number c.count_plain_calls.result _ rest bs (with_values c.loop-block.table.items (block_numbers bs) (numbered_with_calls c.args.first bs)) steps c.number.ensures tails (omega arith) c.written.invariant.left;
+      left = next_written c.written.table.items c.written.block-iterator k c.number.result c.written.number c.new-in-written.result c.count_plain_calls.result (c.written.number + (c.count_plain_calls.result + 1)) rest bs (with_values c.loop-block.table.items (block_numbers bs) (numbered_with_calls c.args.first bs)) steps c.number.ensures c.new-in-written.ensures tails (omega arith) c.written.invariant.left;
       long = omega (arith, long, was);
       below = (subst (Below (length bs)) steps c.written.invariant.below).1;
       there = (subst (Each (λ n. In n (block_numbers bs))) steps c.written.invariant.there).1;

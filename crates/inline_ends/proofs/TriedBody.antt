@@ -1,5 +1,5 @@
 -- The body at a `try_call`, line by line.
-use Rattle.std.proofs.Common.{◌≡◌, ℕ, suc, ◌+◌, List, [], ◌∷◌, ◌++◌, map, length, take, get_or, Bool, true, false, refl, sym, ap, ap₂, ◌∙◌, subst, arith, append_assoc, length-append}
+use Rattle.std.proofs.Common.{◌≡◌, ℕ, suc, ◌+◌, List, [], ◌∷◌, ◌++◌, map, length, take, get_or, Bool, true, false, None, refl, sym, ap, ap₂, ◌∙◌, subst, arith, append_assoc, length-append}
 use Rattle.std.specs.Prelude.{if◌then◌else◌, slice_get}
 use Rattle.exn_tables.specs.declared.table.Entry.{Entry}
 use Rattle.debug_tags.specs.declared.tags.Tag.{Tag}
@@ -35,21 +35,24 @@ pub record TryNumbers (p : Splicing) (n : Names) (s : OuterTry) : Type 0 where
   pub callee : (k : ℕ) → callee_after p.caller p.callee k ≡ get_or n.callees k n.callee_count
   pub new_block : (c j : ℕ) → p.naming.new_block c j ≡ get_or n.blocks c 0 + plain_calls (take j (lines_of c p.callee.blocks)) + 1
 
-table_of : Instruction → List (Entry BlockCall)
+abbrev table_of : Instruction → List (Entry BlockCall)
 table_of (TryCall t sig args normal table) = table
 table_of i = []
 
-normal_of : BlockCall → Instruction → BlockCall
+abbrev normal_of : BlockCall → Instruction → BlockCall
 normal_of d (TryCall t sig args normal table) = normal
 normal_of d i = d
 
-table_behind : List (Entry BlockCall) → Instruction → Instruction
+abbrev table_behind : List (Entry BlockCall) → Instruction → Instruction
 table_behind es (TryCall t sig args normal table) = TryCall t sig args normal (table ++ es)
 table_behind es i = i
 
 calls_join : (xs ys : List Line) → plain_calls (xs ++ ys) ≡ plain_calls xs + plain_calls ys
-calls_join [] ys = refl
+calls_join [] ys = omega arith
 calls_join (x ∷ xs) ys = let h = calls_join xs ys in omega (arith, h)
+
+abbrev counted : Bool → ℕ
+counted c = if c then 1 else 0
 
 take_front : (xs ys : List Line) → take (length xs) (xs ++ ys) ≡ xs
 take_front [] ys = refl
@@ -97,7 +100,7 @@ module _ (p : Splicing) (n : Names) (s : OuterTry) (is : TryNumbers p n s) where
   args_are vs (arg.Exn i ∷ as') = ap (λ (z : List Arg). arg.Exn i ∷ z) (args_are vs as')
 
   return_is : (vs : List ℕ) → to_normal p s.normal vs ≡ return_line s.normal (map (names_of n).value vs)
-  return_is vs = ap₂ (λ (b : ℕ) (z : List Arg). record { inst = Branches (Jump (record { block = b; args = z })); ty = _; results = []; tags = [] }) (is.caller_block s.normal.block) (args_are vs s.normal.args)
+  return_is vs = ap₂ (λ (b : ℕ) (z : List Arg). record { inst = Branches (Jump (record { block = b; args = z })); ty = None; results = []; tags = [] }) (is.caller_block s.normal.block) (args_are vs s.normal.args)
 
   sig_is : (t : CallTarget) → named_sig p t ≡ sig_called s.callees t
   sig_is (Direct k) = ap (λ cs. sig_called cs (Direct k)) is.callees
@@ -148,11 +151,11 @@ module _ (p : Splicing) (n : Names) (s : OuterTry) (is : TryNumbers p n s) where
     where
       behind : (b : Bool) → is_plain_call l.inst ≡ b → (if is_plain_call l.inst then next + 1 else next) ≡ get_or n.blocks c 0 + plain_calls (pre ++ (l ∷ [])) + 1
       behind true q =
-          let one : (if is_plain_call l.inst then 1 else 0) ≡ 1 = ap (λ (z : Bool). if z then 1 else 0) q in
+          let one : counted (is_plain_call l.inst) ≡ counted true = ap counted q in
           let k = calls_join pre (l ∷ []) in
           ap (λ (z : Bool). if z then next + 1 else next) q ∙ omega (arith, h, k, one)
       behind false q =
-          let none : (if is_plain_call l.inst then 1 else 0) ≡ 0 = ap (λ (z : Bool). if z then 1 else 0) q in
+          let none : counted (is_plain_call l.inst) ≡ counted false = ap counted q in
           let k = calls_join pre (l ∷ []) in
           ap (λ (z : Bool). if z then next + 1 else next) q ∙ omega (arith, h, k, none)
 

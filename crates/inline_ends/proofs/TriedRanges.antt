@@ -56,6 +56,9 @@ each_get P [] k d h e = absurd (omega (arith, e))
 each_get P (c ∷ cs) zero d h e = (c, refl, h.0)
 each_get P (c ∷ cs) (suc k) d h e = each_get P cs k d h.1 (omega (arith, e))
 
+abbrev counted : Bool → ℕ
+counted c = if c then 1 else 0
+
 -- the site's own numbers are in range
 pub record SiteInRange (s : OuterTry) (N : Counts) : Type 0 where
   pub tags : Below N.slots (slots_shown s.tags)
@@ -172,7 +175,7 @@ module _ (n : Names) (s : OuterTry) (G N : Counts) (fit : NamesInRange n G N) (s
 
       go : (c : Bool) → is_plain_call l.inst ≡ c → (next + 1 + plain_calls ls ≤ N.blocks → Each (LineInRange N) (rest_of next ls true).lines × Each (BlockInRange N) (rest_of next ls true).more) → (next + plain_calls ls ≤ N.blocks → Each (LineInRange N) (rest_of next ls false).lines × Each (BlockInRange N) (rest_of next ls false).more) → Each (LineInRange N) (made_of next l ls c).lines × Each (BlockInRange N) (made_of next l ls c).more
       go true e a b =
-          let one : (if is_plain_call l.inst then 1 else 0) ≡ 1 = ap (λ (z : Bool). if z then 1 else 0) e in
+          let one : counted (is_plain_call l.inst) ≡ counted true = ap counted e in
           let r = a (omega (arith, hn, one)) in
           ((tried_in_range next (omega (arith, hn, one)) l l.inst refl h.0, tt), (record { params = below_mapped (names_of n).value G.values N.values fit.values l.results (h.0).results; lines = r.0 }, r.1))
       go false e a b =

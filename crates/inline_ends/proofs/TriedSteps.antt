@@ -1,5 +1,5 @@
 -- Blocks in the making at a `try_call`, step by step.
-use Rattle.std.proofs.Common.{◌≡◌, ℕ, suc, ◌+◌, List, [], ◌∷◌, ◌++◌, map, length, Bool, true, false, refl, sym, ap, ap₂, ◌∙◌, arith, append_assoc, append-nil, length-append}
+use Rattle.std.proofs.Common.{◌≡◌, ℕ, suc, ◌+◌, ◌<◌, ◌^◌, List, [], ◌∷◌, ◌++◌, map, length, Bool, true, false, refl, sym, ap, ap₂, ◌∙◌, subst, arith, append_assoc, append-nil, length-append}
 use Rattle.std.specs.Prelude.{if◌then◌else◌}
 use Rattle.std.proofs.lemmas.List.{map_push}
 use Rattle.ir_core.specs.declared.instructions.InstData.{InstData}
@@ -12,7 +12,7 @@ use Rattle.inline_body.specs.Inlined.{blocks_from}
 use Rattle.inline_body.proofs.Found.{from_push}
 use Rattle.inline_ends.specs.declared.try_body.MadeBlocks.{MadeBlocks}
 use Rattle.inline_ends.specs.declared.try_body.OpenBlock.{OpenBlock}
-use Rattle.inline_ends.specs.Tried.{OuterTry, is_plain_call, tried_line, with_line, tried_lines, block_with}
+use Rattle.inline_ends.specs.Tried.{OuterTry, is_plain_call, plain_calls, tried_line, with_line, tried_lines, block_with}
 use Rattle.inline_ends.specs.TriedParts.{made_blocks, AsMany, with_rest}
 
 abbrev pub no_rest : Fragment
@@ -56,3 +56,10 @@ next_tried n s o o' l ls all target step number is was =
     behind : (c : Bool) → o'.block ≡ (if c then o.block + 1 else o.block) → o'.block + 1 ≡ (if c then o.block + 1 + 1 else o.block + 1)
     behind true e = ap (λ (z : ℕ). z + 1) e
     behind false e = ap (λ (z : ℕ). z + 1) e
+
+pub next_fits : (l : Line) (ls all : List Line) (k k' : ℕ) → k' ≡ (if is_plain_call l.inst then k + 1 else k) → all ≡ l ∷ ls → k + plain_calls all + 1 < 2 ^ 32 → k' + plain_calls ls + 1 < 2 ^ 32
+next_fits l ls all k k' e g h = go (is_plain_call l.inst) e (subst (λ (z : List Line). k + plain_calls z + 1 < 2 ^ 32) g h)
+  where
+    go : (c : Bool) → k' ≡ (if c then k + 1 else k) → k + ((if c then 1 else 0) + plain_calls ls) + 1 < 2 ^ 32 → k' + plain_calls ls + 1 < 2 ^ 32
+    go true e h = omega (arith, e, h)
+    go false e h = omega (arith, e, h)

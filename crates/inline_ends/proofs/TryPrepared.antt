@@ -8,7 +8,7 @@ use Rattle.ir_core.specs.Module.{Instruction, Plain, Branches, SequencePoint, Re
 use Rattle.ir_core.specs.Lists.{In, Different, Each, Below}
 use Rattle.ir_core.specs.Lookup.{block_numbers, definitions, line_definitions}
 use Rattle.ir_core.specs.Uses.{values_used, blocks_used, operands, called_used, targets, targets_used, table_targets, arg_values_used, slots_shown}
-use Rattle.ir_core.specs.Sound.{counts_of, IsSound, LineInRange, BlockInRange, instruction_count}
+use Rattle.ir_core.specs.Sound.{Counts, counts_of, IsSound, LineInRange, BlockInRange, instruction_count}
 use Rattle.ir_core.specs.Edits.{lines_of}
 use Rattle.ir_core.specs.Viewed.{line_of}
 use Rattle.ir_core.proofs.Members.{below_in, below_more, below_right, below_left, each_join, in_left, in_right}
@@ -140,7 +140,8 @@ module _ (f g : Function) (at : Point) (sf : IsSound f) (sg : IsSound g) (can : 
     many = tried_length n s g.blocks
 
     module _ (made : IsLastMade f g l i n q B) where
-      abbrev N = after_counts f g at l i imp n q B made
+      abbrev N : Counts
+      N = after_counts f g at l i imp n q B made
 
       block_below : (b : ℕ) → b < length g.blocks → get_or n.blocks b 0 < length f.blocks + length B
       block_below b h =

@@ -29,6 +29,17 @@ try_blocks-requires-clause-called c =
     (c.in_ok-number_try_blocks.ensures.numbers ∙ ap (λ (z : ℕ). numbered_with_calls z c.args.callee.now.function.blocks) c.requires.counted)
     c.site_of-outer.result (c.site_of-outer.ensures.callees ∙ ap₂ (λ x y. x ++ y) c.callees-2.ensures c.as_slice-3.ensures)
 
+pub remove-first-requires : goal.remove-first-requires
+remove-first-requires c =
+    let g = c.args.callee.now.function in
+    let n : Names = record { values = c.values-3.result; slots = length c.slots.result.now; blocks = c.in_ok-number_try_blocks.field-0; sigs = c.in_ok-sigs.field-0.sigs.table; callees = c.in_ok-sigs.field-0.callees.table; sig_count = length c.sigs.result.now + length c.as_slice.result.now; callee_count = length c.callees.result.now + length c.as_slice-2.result.now } in
+    let body = c.in_ok-body.body in
+    let many : length body.block_params ≡ length (tried_blocks n c.site_of-outer.result g.blocks) = sym (blocks_listed body.block_params body.block_lines c.in_ok-body.ensures.as_many) ∙ ap length c.in_ok-body.ensures.blocks in
+    let long = tried_length n c.site_of-outer.result g.blocks in
+    let e = ap length c.into_vec-block_params.ensures in
+    let h = c.requires.can.has_block in
+    omega (arith, e, many, long, h)
+
 pub returns : goal.returns
 returns c =
     let f = c.args.caller.now.function in

@@ -1,6 +1,6 @@
 -- The body at a `try_call`, line by line.
-use Rattle.std.proofs.Common.{◌≡◌, ℕ, suc, ◌+◌, List, [], ◌∷◌, ◌++◌, map, length, take, get_or, Bool, true, false, None, refl, sym, ap, ap₂, ◌∙◌, subst, arith, append_assoc, length-append}
-use Rattle.std.specs.Prelude.{if◌then◌else◌, slice_get}
+use Rattle.std.proofs.Common.{◌≡◌, ℕ, suc, ◌+◌, List, [], ◌∷◌, ◌++◌, map, length, take, get_or, Bool, true, false, None, refl, sym, ap, ap₂, ◌∙◌, arith, append_assoc, length-append}
+use Rattle.std.specs.Prelude.{if◌then◌else◌}
 use Rattle.exn_tables.specs.declared.table.Entry.{Entry}
 use Rattle.debug_tags.specs.declared.tags.Tag.{Tag}
 use Rattle.ir_core.specs.declared.instructions.Arg.{Arg}
@@ -10,8 +10,8 @@ use Rattle.ir_core.specs.Module.{Jump, CallTarget, Direct, Indirect, TryIndirect
 use Rattle.ir_core.specs.Lists.{Each}
 use Rattle.ir_core.specs.Edits.{lines_of}
 use Rattle.ir_semantics.specs.Import.{callees_after, sig_after, callee_after}
-use Rattle.ir_semantics.specs.Renaming.{tag_under, target_under, entry_under, called_under, instruction_under}
-use Rattle.ir_semantics.specs.Splice.{Splicing, Kind, Tries, kind_of, try_target, caller_names, callee_names, tags_before, joined_tags, line_with, callee_line, returned_arg, to_normal, named_sig, outer_table, call_as_try, joined_try, to_rest, rest_block, tries_fragment, Fragment, fragment_by, fragment, body}
+use Rattle.ir_semantics.specs.Renaming.{tag_under, target_under, called_under, instruction_under}
+use Rattle.ir_semantics.specs.Splice.{Splicing, Kind, Tries, kind_of, try_target, caller_names, callee_names, tags_before, joined_tags, callee_line, returned_arg, to_normal, named_sig, outer_table, call_as_try, to_rest, tries_fragment, Fragment, fragment_by, fragment, body}
 use Rattle.inline_body.specs.declared.names.Names.{Names}
 use Rattle.inline_body.specs.Named.{names_of}
 use Rattle.inline_body.specs.Inlined.{copied_tags, copied_line}

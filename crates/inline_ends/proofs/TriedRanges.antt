@@ -2,7 +2,6 @@
 use Rattle.std.proofs.Common.{◌≡◌, ℕ, zero, suc, ◌+◌, ◌<◌, ◌≤◌, List, [], ◌∷◌, ◌++◌, map, length, get_or, Bool, true, false, Option, Some, None, refl, sym, ap, ◌∙◌, subst, arith, append_assoc}
 use Rattle.std.specs.Prelude.{if◌then◌else◌, slice_get}
 use Rattle.exn_tables.specs.declared.table.Entry.{Entry}
-use Rattle.debug_tags.specs.declared.tags.Tag.{Tag}
 use Rattle.ir_core.specs.declared.declarations.Callee.{Callee}
 use Rattle.ir_core.specs.declared.instructions.Arg.{Arg}
 use Rattle.ir_core.specs.declared.instructions.Arg.TheVariants as arg
@@ -18,8 +17,8 @@ use Rattle.ir_semantics.specs.Splice.{from, or_ret, Fragment}
 use Rattle.inline_body.specs.declared.names.Names.{Names}
 use Rattle.inline_body.specs.Named.{names_of}
 use Rattle.inline_body.proofs.BodyRanges.{NamesInRange}
-use Rattle.inline_body.proofs.UsesUnder.{values_under, blocks_under, callees_under, sigs_under}
-use Rattle.inline_ends.specs.Tried.{OuterTry, is_plain_call, plain_calls, plain_calls_in, numbered_with_calls, returned_arg, return_line, sig_called, try_of, try_line, to_next, tried_line, with_line, tried_lines, tried_block, tried_blocks}
+use Rattle.inline_body.proofs.UsesUnder.{values_under, blocks_under, callees_under}
+use Rattle.inline_ends.specs.Tried.{OuterTry, is_plain_call, plain_calls, plain_calls_in, numbered_with_calls, returned_arg, sig_called, try_of, try_line, to_next, tried_line, with_line, tried_lines, tried_block, tried_blocks}
 use Rattle.inline_ends.proofs.CopiedRanges.{below_mapped, both_shown, copied_in_range}
 
 -- ---- lists

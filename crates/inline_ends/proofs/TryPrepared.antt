@@ -1,30 +1,24 @@
 -- From the clauses of the calls of `prepare_try` to what it ensures.
-use Rattle.std.proofs.Common.{◌≡◌, ℕ, zero, suc, ◌+◌, ◌-◌, ◌<◌, ◌^◌, ◌≤◌, List, [], ◌∷◌, ◌++◌, map, length, take, append_assoc, get_or, Some, inl, inr, refl, sym, ap, ap₂, ◌∙◌, subst, arith, append-nil, length-append, eq-eqb, ne_eqb}
+use Rattle.std.proofs.Common.{◌≡◌, ℕ, ◌+◌, ◌-◌, ◌<◌, ◌^◌, ◌≤◌, List, [], ◌∷◌, ◌++◌, map, length, take, append_assoc, get_or, Some, inl, inr, refl, sym, ap, ap₂, ◌∙◌, subst, arith, length-append, eq-eqb, ne_eqb}
 use Rattle.std.specs.Prelude.{slice_get, if◌then◌else◌}
 use Rattle.std.proofs.lemmas.List.{length-map}
 use Rattle.ir_core.specs.declared.places.Point.{Point}
 use Rattle.ir_core.specs.declared.declarations.Callee.{Callee}
-use Rattle.ir_core.specs.Module.{Instruction, Plain, Branches, SequencePoint, Return, Call, ReturnCall, TryCall, TryTarget, call_target, Line, Block, Function}
+use Rattle.ir_core.specs.Module.{Instruction, Plain, Branches, SequencePoint, Return, Call, ReturnCall, TryCall, call_target, Line, Block, Function}
 use Rattle.ir_core.specs.Lists.{In, Different, Each, Below}
 use Rattle.ir_core.specs.Lookup.{block_numbers, definitions, line_definitions}
-use Rattle.ir_core.specs.Uses.{values_used, blocks_used, operands, called_used, targets, targets_used, table_targets, arg_values_used, slots_shown}
-use Rattle.ir_core.specs.Sound.{Counts, counts_of, IsSound, LineInRange, BlockInRange, instruction_count}
+use Rattle.ir_core.specs.Uses.{values_used, blocks_used, called_used, targets_used, table_targets, arg_values_used, slots_shown}
+use Rattle.ir_core.specs.Sound.{Counts, counts_of, IsSound, LineInRange, BlockInRange}
 use Rattle.ir_core.specs.Edits.{lines_of}
-use Rattle.ir_core.specs.Viewed.{line_of}
-use Rattle.ir_core.proofs.Members.{below_in, below_more, below_right, below_left, each_join, in_left, in_right}
+use Rattle.ir_core.proofs.Members.{below_in, below_more, below_right, below_left, each_join}
 use Rattle.ir_core.proofs.Counting.{definitions_below, all_in, defined_bound}
-use Rattle.ir_semantics.specs.Import.{callees_after}
-use Rattle.ir_semantics.specs.Splice.{Tries, kind_of, args_of, first_number, body, after_blocks, new_types_by}
+use Rattle.ir_semantics.specs.Splice.{Tries, kind_of, args_of, first_number, after_blocks, new_types_by}
 use Rattle.body_import.specs.declared.declarations.Import.{Import}
 use Rattle.body_import.specs.Imports.{IsImportOf}
 use Rattle.inline_body.specs.declared.names.Names.{Names}
 use Rattle.inline_body.specs.declared.piece.PreparedBody.{PreparedBody}
-use Rattle.inline_body.specs.Named.{names_of}
-use Rattle.inline_body.specs.Inlined.{block_at}
 use Rattle.inline_body.proofs.BodyRanges.{NamesReach}
-use Rattle.inline_body.proofs.Found.{all_at}
 use Rattle.inline_ends.specs.Copied.{CanCopy}
-use Rattle.inline_ends.specs.Ending.{numbered}
 use Rattle.inline_ends.specs.Tried.{OuterTry, plain_calls, plain_calls_in, numbered_with_calls, tried_blocks}
 use Rattle.inline_ends.specs.TriedParts.{CanTry}
 use Rattle.inline_ends.specs.TryCallSite.{IsTryCall, CanSpliceTry}

@@ -1,6 +1,6 @@
 -- What a callee's blocks become at a `try_call`: a return jumps to the site's normal target, each call gets the site's
 -- table, and a plain call ends its block, where a new one goes on with its results.
-use Rattle.std.specs.Prelude.{ℕ, ◌+◌, List, [], ◌∷◌, ◌++◌, map, length, get_or, Bool, true, false, if◌then◌else◌, None}
+use Rattle.std.specs.Prelude.{ℕ, ◌+◌, List, [], ◌∷◌, ◌++◌, map, length, Bool, true, false, if◌then◌else◌, None}
 use Rattle.std.specs.Prelude.{Some, slice_get}
 use Rattle.exn_tables.specs.declared.table.Entry.{Entry}
 use Rattle.debug_tags.specs.declared.tags.Tag.{Tag}

@@ -1,5 +1,5 @@
 -- Blocks in the making at a `try_call`.
-use Rattle.std.specs.Prelude.{◌≡◌, ℕ, ◌+◌, ◌<◌, ◌^◌, List, ◌++◌, length, map}
+use Rattle.std.specs.Prelude.{◌≡◌, ◌+◌, ◌<◌, ◌^◌, List, ◌++◌, length, map}
 use Rattle.ir_core.specs.Module.{Line, Block}
 use Rattle.ir_core.specs.Lists.{Each, Below}
 use Rattle.ir_core.specs.Viewed.{line_of}

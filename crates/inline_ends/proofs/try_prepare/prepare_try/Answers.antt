@@ -1,7 +1,5 @@
-use Rattle.std.proofs.Common.{◌≡◌, ℕ, ◌+◌, ◌<◌, List, ◌∷◌, ◌++◌, map, length, get_or, ap, ap₂, sym, ◌∙◌, refl, arith, append-nil}
-use Rattle.ir_core.specs.Lookup.{block_numbers}
+use Rattle.std.proofs.Common.{◌≡◌, ℕ, ◌+◌, ◌<◌, ◌∷◌, ◌++◌, map, length, ap, ap₂, sym, ◌∙◌, refl, arith, append-nil}
 use Rattle.ir_core.specs.Viewed.{line_of}
-use Rattle.ir_core.specs.Module.{Function}
 use Rattle.inline_body.specs.declared.names.Names.{Names}
 use Rattle.inline_body.specs.Inlined.{jump_line, blocks_from}
 use Rattle.inline_body.proofs.BodyDefinitions.{blocks_listed}

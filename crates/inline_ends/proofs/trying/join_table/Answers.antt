@@ -1,4 +1,4 @@
-use Rattle.std.proofs.Common.{◌∷◌, [], ◌≡◌, subst, sym}
+use Rattle.std.proofs.Common.{◌∷◌, subst}
 use Rattle.ir_core.specs.Uses.{arg_values_used, targets_used, table_targets, values_used}
 use Rattle.ir_core.specs.Lists.{Each}
 use Rattle.ir_core.specs.Viewed.{instruction_of}

@@ -1,0 +1,14 @@
+pub mod Blocks
+pub mod LastBlocks
+pub mod Numbered
+pub mod SplicedBlocks
+pub mod LastSpliced
+pub mod CopiedDefinitions
+pub mod CopiedRanges
+pub mod LastReady
+pub mod TailPrepared
+pub mod TriedBody
+pub mod TriedShape
+pub mod TriedSteps
+pub mod TriedRanges
+pub mod TryPrepared

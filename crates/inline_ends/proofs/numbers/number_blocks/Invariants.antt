@@ -1,0 +1,17 @@
+use Rattle.std.proofs.Common.{◌≡◌, ◌+◌, length}
+use Rattle.ir_core.specs.Lists.{Below}
+use Rattle.ir_core.specs.Lookup.{block_numbers}
+use Rattle.inline_ends.specs.Ending.{with_numbers}
+use Rattle.inline_ends.proofs.numbers.number_blocks.Given as goal
+
+abbrev pub invariant-loop-block : goal.invariant-loop-block
+invariant-loop-block l = length l.table.items + length l._block-iterator ≡ length l.fn.callee.function.blocks
+
+abbrev pub invariant-written : goal.invariant-written
+invariant-written l =
+    record {
+      left : with_numbers l.table.items l.block-iterator l.number ≡ with_numbers l.initial.table.items (block_numbers l.fn.callee.function.blocks) l.first;
+      long : length l.table.items ≡ length l.fn.callee.function.blocks;
+      below : Below (length l.fn.callee.function.blocks) l.block-iterator;
+      small : l.number + length l.block-iterator ≡ l.first + length l.fn.callee.function.blocks;
+    }

@@ -1,0 +1,26 @@
+//! A call that ends its block replaced by its callee's body.
+#![tactic(auto)]
+
+mod copying;
+mod numbers;
+mod piece;
+mod placing;
+mod prepare;
+mod try_prepare;
+mod splice;
+mod try_splice;
+mod try_body;
+mod try_numbers;
+mod trying;
+
+pub use copying::copy_blocks;
+pub use numbers::{number_blocks, renumber_values};
+pub use piece::put_last_piece;
+pub use placing::put_last_body;
+pub use prepare::prepare_tail;
+pub use try_prepare::prepare_try;
+pub use splice::splice_tail;
+pub use try_splice::splice_try;
+pub use try_body::{MadeBlocks, OpenBlock, try_blocks};
+pub use try_numbers::number_try_blocks;
+pub use trying::{TrySite, is_plain_call, tried_line};

@@ -1,0 +1,45 @@
+//! Numbers of a callee's blocks and values in the caller.
+ghost use Rattle.std.specs.Prelude.{◌≡◌, ◌+◌, ◌<◌, ◌^◌, length, map, get_or, IfOk};
+ghost use Rattle.ir_core.specs.Lists.{Each};
+ghost use Rattle.ir_core.specs.Lookup.{block_numbers};
+ghost use Rattle.inline_body.specs.Named.{names_of, Moves};
+ghost use Rattle.inline_ends.specs.Ending.{numbered};
+
+use inline_body::Names;
+use ir_core::{Block, Func, List, Value};
+use std::alloc::{AllocError, Global};
+
+/// For each block of a callee its number in the caller: those from `first` on, in list order.
+pub fn number_blocks(alloc: Global, callee: &Func, first: u32) -> Result<List<Block>, AllocError>
+    requires { first + length callee.now.function.blocks < 2 ^ 32 }
+    ensures as_many { IfOk result (λ t. length t ≡ length callee.now.function.blocks) }
+    ensures numbers { IfOk result (λ t. map (λ b. get_or t b 0) (block_numbers callee.now.function.blocks)
+        ≡ numbered first (block_numbers callee.now.function.blocks)) }
+{
+    let mut table = Vec::new(alloc);
+    for _block in callee.blocks() {
+        table.push(Block::new(0))?;
+    }
+    let mut number = first;
+    'written: for block in callee.blocks() {
+        table[block.number() as usize] = Block::new(number);
+        number += 1;
+    }
+    Ok(List::from_vec(table))
+}
+
+/// The numbers of a callee's values in the caller.
+pub fn renumber_values(
+    alloc: Global,
+    names: &Names,
+    values: &[Value],
+) -> Result<List<Value>, AllocError>
+    requires { Each (Moves names.now.values) values.now }
+    ensures { IfOk result (λ list. list ≡ map (names_of names.now).value values.now) }
+{
+    let mut list = Vec::new(alloc);
+    for value in values {
+        list.push(names.value(*value))?;
+    }
+    Ok(List::from_vec(list))
+}

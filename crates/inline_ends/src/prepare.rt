@@ -1,0 +1,74 @@
+//! A callee's body made ready for a tail call, before the caller is changed.
+ghost use Rattle.std.specs.Prelude.{◌≡◌, length, IfOk};
+ghost use Rattle.ir_core.specs.Viewed.{instruction_of};
+ghost use Rattle.ir_semantics.specs.Splice.{args_of};
+ghost use Rattle.body_import.specs.Imports.{IsIndexOf};
+ghost use Rattle.inline_ends.specs.TailCall.{CanSpliceTail};
+ghost use Rattle.inline_ends.specs.LastBody.{IsLastPrepared};
+
+use crate::copying::copy_blocks;
+use crate::numbers::number_blocks;
+use body_import::{Import, Index, plan_import};
+use inline_body::{Names, PreparedBody, jump, new_types};
+use ir_core::{Block, Func, Inst, List, Point, Value};
+use std::alloc::{AllocError, Global};
+
+/// The arguments of a call; no values where the instruction is none.
+pub(crate) fn call_args(inst: &Inst) -> &[Value]
+    ensures { result.now ≡ args_of (instruction_of inst.now) }
+{
+    match inst {
+        Inst::Call { args, .. } => args.as_slice(),
+        Inst::ReturnCall { args, .. } => args.as_slice(),
+        Inst::TryCall { args, .. } => args.as_slice(),
+        Inst::CallIndirect { args, .. } => args.as_slice(),
+        Inst::ReturnCallIndirect { args, .. } => args.as_slice(),
+        Inst::TryCallIndirect { args, .. } => args.as_slice(),
+        _ => &[],
+    }
+}
+
+/// A callee's body for a tail call of a caller that has so many blocks, and whose declarations have the index. The
+/// caller stays as it is. Time is the callee's size, times the logarithm of the number of declarations. Only
+/// `AllocError` refuses.
+pub fn prepare_tail(
+    alloc: Global,
+    caller: &Func,
+    block_count: u32,
+    index: &Index,
+    site: Point,
+    callee: &Func,
+) -> Result<PreparedBody, AllocError>
+    requires counted { block_count ≡ length caller.now.function.blocks }
+    requires indexed { IsIndexOf caller.now.function index.now }
+    requires can { CanSpliceTail caller.now.function callee.now.function site }
+    ensures { IfOk result (λ body. IsLastPrepared caller.now.function callee.now.function site body) }
+{
+    let _ = caller.values();
+    let _ = callee.values();
+    let call = caller.inst(site);
+    let Import { sigs, callees } = plan_import(alloc, index, caller, callee)?;
+    let names = Names {
+        values: caller.values() as u32,
+        slots: caller.slots().len() as u32,
+        blocks: number_blocks(alloc, callee, block_count)?,
+        sig_count: caller.sigs().len() + sigs.added.as_slice().len(),
+        callee_count: caller.callees().len() + callees.added.as_slice().len(),
+        sigs: sigs.table,
+        callees: callees.table,
+    };
+    let body = copy_blocks(alloc, &names, &call.tags, callee)?;
+    let mut block_params = body.block_params.into_vec();
+    let first = block_params.remove(0);
+    Ok(PreparedBody {
+        slots: List::from_vec(Vec::from_slice(alloc, callee.slots())?),
+        sigs: sigs.added,
+        callees: callees.added,
+        types: new_types(alloc, callee, &[], 0)?,
+        jump: jump(alloc, Block::new(block_count), call_args(&call.inst))?,
+        results: List::from_vec(Vec::new(alloc)),
+        first,
+        block_params: List::from_vec(block_params),
+        block_lines: body.block_lines,
+    })
+}

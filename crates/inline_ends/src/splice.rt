@@ -1,0 +1,44 @@
+//! A tail call replaced by its callee's body.
+ghost use Rattle.std.specs.Prelude.{◌≡◌, length, OnOk, OnErr};
+ghost use Rattle.inline_body.specs.PlainCall.{IsSplice};
+ghost use Rattle.inline_ends.specs.TailCall.{CanSpliceTail};
+
+use crate::piece::put_last_piece;
+use crate::prepare::prepare_tail;
+use body_import::index_declarations;
+use inline_body::body_room;
+use ir_core::{Func, Point};
+use std::alloc::{AllocError, Global};
+
+/// The number of blocks.
+pub(crate) fn count_blocks(func: &Func) -> usize
+    ensures { result ≡ length func.now.function.blocks }
+{
+    func.blocks().count()
+}
+
+/// Replaces a tail call by its callee's body. After `AllocError` the caller is as before. Time is the size of both,
+/// times the logarithm of the number of declarations.
+pub fn splice_tail(
+    alloc: Global,
+    caller: &mut Func,
+    site: Point,
+    callee: &Func,
+) -> Result<(), AllocError>
+    requires { CanSpliceTail caller.old.function callee.now.function site }
+    ensures ok { OnOk result (IsSplice caller.old.function callee.now.function site caller.new.function) }
+    ensures err { OnErr result (caller.new.function ≡ caller.old.function) }
+{
+    let _ = caller.values();
+    let block_count = count_blocks(caller) as u32;
+    let index = index_declarations(alloc, caller)?;
+    let place = Point {
+        block: site.block,
+        index: site.index,
+    };
+    let body = prepare_tail(alloc, caller, block_count, &index, place, callee)?;
+    let room = body_room(&body);
+    caller.reserve(room)?;
+    let _ = put_last_piece(caller, site, body);
+    Ok(())
+}

@@ -1,0 +1,88 @@
+//! A callee's body made ready for a `try_call`, before the caller is changed.
+ghost use Rattle.std.specs.Prelude.{◌≡◌, ◌++◌, length, IfOk};
+ghost use Rattle.ir_core.specs.Viewed.{instruction_of};
+ghost use Rattle.ir_semantics.specs.Splice.{Tries, kind_of};
+ghost use Rattle.body_import.specs.Imports.{IsIndexOf};
+ghost use Rattle.inline_ends.specs.TryCallSite.{IsTryCall, CanSpliceTry};
+ghost use Rattle.inline_ends.specs.LastBody.{IsLastPrepared};
+
+use crate::prepare::call_args;
+use crate::try_body::try_blocks;
+use crate::try_numbers::number_try_blocks;
+use crate::trying::TrySite;
+use body_import::{Import, Index, plan_import};
+use inline_body::{Names, PreparedBody, jump, new_types};
+use ir_core::{Block, Callee, Func, Inst, InstData, List, Point};
+use std::alloc::{AllocError, Global};
+
+/// A `try_call` as a site, where its function has these callee declarations and takes over others.
+fn site_of<'a>(call: &'a InstData, own: &'a [Callee], added: &'a [Callee]) -> TrySite<'a>
+    requires { IsTryCall (instruction_of call.now.inst) }
+    ensures kind { kind_of (instruction_of call.now.inst) ≡ Tries result.normal result.table }
+    ensures tags { result.tags ≡ call.now.tags }
+    ensures callees { result.callees ≡ own.now ++ added.now }
+{
+    match &call.inst {
+        Inst::TryCall { normal, table, .. } => TrySite {
+            tags: &call.tags,
+            normal: normal.get(),
+            table: table.get(),
+            own,
+            added,
+        },
+        Inst::TryCallIndirect { normal, table, .. } => TrySite {
+            tags: &call.tags,
+            normal: normal.get(),
+            table: table.get(),
+            own,
+            added,
+        },
+        _ => unreachable!(),
+    }
+}
+
+/// A callee's body for a `try_call` of a caller that has so many blocks, and whose declarations have the index. The
+/// caller stays as it is. Time is the callee's size, and the number of its calls times the size of the site's table and
+/// tags, times the logarithm of the number of declarations. Only `AllocError` refuses.
+pub fn prepare_try(
+    alloc: Global,
+    caller: &Func,
+    block_count: u32,
+    index: &Index,
+    site: Point,
+    callee: &Func,
+) -> Result<PreparedBody, AllocError>
+    requires counted { block_count ≡ length caller.now.function.blocks }
+    requires indexed { IsIndexOf caller.now.function index.now }
+    requires can { CanSpliceTry caller.now.function callee.now.function site }
+    ensures { IfOk result (λ body. IsLastPrepared caller.now.function callee.now.function site body) }
+{
+    let _ = caller.values();
+    let _ = callee.values();
+    let call = caller.inst(site);
+    let Import { sigs, callees } = plan_import(alloc, index, caller, callee)?;
+    let names = Names {
+        values: caller.values() as u32,
+        slots: caller.slots().len() as u32,
+        blocks: number_try_blocks(alloc, callee, block_count)?,
+        sig_count: caller.sigs().len() + sigs.added.as_slice().len(),
+        callee_count: caller.callees().len() + callees.added.as_slice().len(),
+        sigs: sigs.table,
+        callees: callees.table,
+    };
+    let outer = site_of(call, caller.callees(), callees.added.as_slice());
+    let body = try_blocks(alloc, &names, &outer, callee)?;
+    let mut block_params = body.block_params.into_vec();
+    let first = block_params.remove(0);
+    Ok(PreparedBody {
+        slots: List::from_vec(Vec::from_slice(alloc, callee.slots())?),
+        sigs: sigs.added,
+        callees: callees.added,
+        types: new_types(alloc, callee, &[], 0)?,
+        jump: jump(alloc, Block::new(block_count), call_args(&call.inst))?,
+        results: List::from_vec(Vec::new(alloc)),
+        first,
+        block_params: List::from_vec(block_params),
+        block_lines: body.block_lines,
+    })
+}

@@ -1,0 +1,38 @@
+//! A `try_call` replaced by its callee's body.
+ghost use Rattle.std.specs.Prelude.{◌≡◌, OnOk, OnErr};
+ghost use Rattle.inline_body.specs.PlainCall.{IsSplice};
+ghost use Rattle.inline_ends.specs.TryCallSite.{CanSpliceTry};
+
+use crate::piece::put_last_piece;
+use crate::try_prepare::prepare_try;
+use crate::splice::count_blocks;
+use body_import::index_declarations;
+use inline_body::body_room;
+use ir_core::{Func, Point};
+use std::alloc::{AllocError, Global};
+
+/// Replaces a `try_call` by its callee's body. After `AllocError` the caller is as before. Time is the size of what
+/// comes out, times the logarithm of the number of declarations.
+pub fn splice_try(
+    alloc: Global,
+    caller: &mut Func,
+    site: Point,
+    callee: &Func,
+) -> Result<(), AllocError>
+    requires { CanSpliceTry caller.old.function callee.now.function site }
+    ensures ok { OnOk result (IsSplice caller.old.function callee.now.function site caller.new.function) }
+    ensures err { OnErr result (caller.new.function ≡ caller.old.function) }
+{
+    let _ = caller.values();
+    let block_count = count_blocks(caller) as u32;
+    let index = index_declarations(alloc, caller)?;
+    let place = Point {
+        block: site.block,
+        index: site.index,
+    };
+    let body = prepare_try(alloc, caller, block_count, &index, place, callee)?;
+    let room = body_room(&body);
+    caller.reserve(room)?;
+    let _ = put_last_piece(caller, site, body);
+    Ok(())
+}

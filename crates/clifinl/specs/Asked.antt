@@ -1,8 +1,10 @@
--- What the words of the command line ask for: the first is the program's name, and behind it the one word `inline` may
--- stand.
-use Rattle.std.specs.Prelude.{ℕ, Bool, false, List, [], ◌∷◌, codes}
-use Rattle.std.specs.Str.{bytes_eq}
+-- Which of the settings that words may have the program carries out: all but those of `run`, which is still to come.
+use Rattle.std.specs.Prelude.{Bool, true, false, Option, None, Some}
+use Rattle.settings.specs.Settings.{Settings, Check, Print, Inline, Run}
 
-abbrev pub asks_inline : List (List ℕ) → Bool
-asks_inline (name ∷ word ∷ []) = bytes_eq word (codes "inline")
-asks_inline words = false
+abbrev pub is_carried_out : Option Settings → Bool
+is_carried_out None = false
+is_carried_out (Some Check) = true
+is_carried_out (Some Print) = true
+is_carried_out (Some (Inline s)) = true
+is_carried_out (Some (Run s)) = false

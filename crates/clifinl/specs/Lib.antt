@@ -1,3 +1,4 @@
 pub mod Asked
 pub mod Codes
-pub mod Output
+pub mod Lines
+pub mod Runs

@@ -1,32 +1,51 @@
 //! The top call.
-ghost use Rattle.std.specs.Prelude.{◌≡◌, ℕ, ◌<◌, ◌≤◌, ◌⊎◌, ◌↔◌, List, Some, false, true, length, map, string_bytes};
+ghost use Rattle.std.specs.Prelude.{◌≡◌, ◌≢◌, ◌⊎◌, Some, None, false, true, map, string_bytes};
+ghost use Rattle.std.specs.Io.KnownBytes.{Appends};
 ghost use Rattle.clk_flow.specs.Faults.{Rose};
-ghost use Rattle.ir_core.specs.Module as ir;
-ghost use Rattle.clifinl.specs.Asked as asked;
-ghost use Rattle.clif_read.specs.SimpleModule.{Reads};
-ghost use Rattle.clifinl.specs.Output.{ReadsNone, ReadsAndWrites, ReadsAndWritesPart, GivesTooMany, most_bytes};
-ghost use Rattle.clifinl.specs.Output.{no_simple_text, too_long};
+ghost use Rattle.clk_flow.specs.Whole.{AppendsPrefix};
+ghost use Rattle.settings.specs.Meaning.{settings_of};
+ghost use Rattle.settings.specs.Settings as asked;
+ghost use Rattle.settings.specs.Shown.{shown};
+ghost use Rattle.clifinl.specs.Asked.{is_carried_out};
+ghost use Rattle.clifinl.specs.Lines.{line_of};
+ghost use Rattle.clifinl.specs.Runs.{IsRunOf, outside};
 
-use crate::status::{Refusal, Status};
-use crate::words::asks_inline;
-use clif_lex::{Place, TextKind};
-use clif_read::{SimpleErr, read_simple_text};
-use clk_flow::{Gate, ReadErr, Sink, Source, read_whole};
-use print_workers::{PrintErr, print_with};
+use crate::commands::{check, inline, print};
+use crate::report::tell;
+use crate::status::Status;
+use clk_flow::{Gate, Sink, Source, put};
+use settings::{Settings, Stopped, read_settings};
 use std::alloc::Global;
-use std::mem::forget;
 use std::sync::Wait;
 use std::thread::Threads;
 
-/// The most bytes that a text may have.
-const LIMIT: usize = 67_108_864;
+/// Carries out what the settings ask for, as far as it is there.
+fn carry_out<R: Threads + Wait + Sync, I: Source, O: Sink>(
+    rt: &R,
+    alloc: Global,
+    settings: &Settings,
+    input: &mut I,
+    out: &mut O,
+) -> Status
+    ensures usage { result ≡ Status.Usage → is_carried_out (Some (shown settings.now)) ≡ false }
+    ensures no_usage { is_carried_out (Some (shown settings.now)) ≡ false
+        → (result ≡ Status.Usage) × (input.new ≡ input.old) }
+    ensures run { is_carried_out (Some (shown settings.now)) ≡ true → IsRunOf (shown settings.now)
+        (outside (I.left input.old) (I.faults input.old) (O.written out.old) (O.faults out.old))
+        (outside (I.left input.new) (I.faults input.new) (O.written out.new) (O.faults out.new)) result }
+    ensures nothing { (out.new ≡ out.old) ⊎ ((result ≡ Status.Done) ⊎ (result ≡ Status.WriteFault)) }
+{
+    match settings {
+        Settings::Check => check(rt, alloc, input, out),
+        Settings::Print => print(rt, alloc, input, out),
+        Settings::Inline(options) => inline(rt, alloc, options.workers, input, out),
+        Settings::Run(_) => Status::Usage,
+    }
+}
 
-/// How many workers read and print where the words say nothing of it.
-const WORKERS: usize = 4;
-
-/// All that the program does, by the words of its command line: `inline` reads a module from `input` and writes the
-/// canonical text of the module with its calls inlined to `out`. Nothing is written to `err` yet, and nothing passes
-/// the gate.
+/// All that the program does, by the words of its command line: `check` and `print` read a module from `input`, and
+/// write to `out` how many functions it has, and its canonical text; `inline` writes the text of the module with its
+/// calls inlined. A refusal is told on `err` in one line, and nothing passes the gate yet.
 pub fn command<R: Threads + Wait + Sync, I: Source, O: Sink, E: Sink, G: Gate>(
     rt: &R,
     alloc: Global,
@@ -36,61 +55,36 @@ pub fn command<R: Threads + Wait + Sync, I: Source, O: Sink, E: Sink, G: Gate>(
     err: &mut E,
     gate: &G,
 ) -> Status
-    // The words are not `inline`: nothing was read.
-    ensures usage { (result ≡ Status.Usage) ↔ (asked.asks_inline (map string_bytes words.now) ≡ false) }
-    ensures unread { result ≡ Status.Usage → input.new ≡ input.old }
+    // The words ask for nothing that is there: nothing was read.
+    ensures usage { result ≡ Status.Usage → is_carried_out (settings_of (map string_bytes words.now)) ≡ false }
+    ensures no_usage { is_carried_out (settings_of (map string_bytes words.now)) ≡ false
+        → ((result ≡ Status.Usage) ⊎ (result ≡ Status.NoMemory)) × (input.new ≡ input.old) }
 
-    // Each fault of the text or of the outside has its cause.
-    ensures not_simple { result ≡ no_simple_text → ReadsNone (I.left input.old) (I.left input.new) }
-    ensures too_long { result ≡ too_long → GivesTooMany (I.left input.old) (I.left input.new) }
-    ensures read_fault { result ≡ Status.ReadFault → Rose (I.faults input.old) (I.faults input.new) }
-    ensures write_fault { result ≡ Status.WriteFault → Rose (O.faults out.old) (O.faults out.new) }
-    ensures refusals { (r : Refusal) → result ≡ Status.Refused r → (result ≡ no_simple_text) ⊎ (result ≡ too_long) }
-
-    // What was written: the text of the module that was read, a part of it where the sink failed, and nothing
-    // otherwise.
-    ensures done { result ≡ Status.Done
-        → ReadsAndWrites (I.left input.old) (I.left input.new) (O.written out.old) (O.written out.new) }
-    ensures part { result ≡ Status.WriteFault
-        → ReadsAndWritesPart (I.left input.old) (I.left input.new) (O.written out.old) (O.written out.new) }
+    // Else this is a run of the command: each status has its cause, and where the source tells its bytes, they decide.
+    ensures run { (s : asked.Settings) → settings_of (map string_bytes words.now) ≡ Some s
+        → is_carried_out (Some s) ≡ true → IsRunOf s
+        (outside (I.left input.old) (I.faults input.old) (O.written out.old) (O.faults out.old))
+        (outside (I.left input.new) (I.faults input.new) (O.written out.new) (O.faults out.new)) result }
     ensures nothing { (out.new ≡ out.old) ⊎ ((result ≡ Status.Done) ⊎ (result ≡ Status.WriteFault)) }
-    ensures silent { err.new ≡ err.old }
 
-    // Where the source tells its bytes, they decide, unless the outside fails or memory runs out.
-    ensures complete { asked.asks_inline (map string_bytes words.now) ≡ true → (bytes : List ℕ)
-        → I.left input.old ≡ Some bytes → (m : ir.Module) → Reads bytes m → length bytes ≤ most_bytes
-        → (Rose (I.faults input.old) (I.faults input.new) → ⊥) → (Rose (O.faults out.old) (O.faults out.new) → ⊥)
-        → (result ≡ Status.Done) ⊎ (result ≡ Status.NoMemory) }
-    ensures refuses_text { asked.asks_inline (map string_bytes words.now) ≡ true → (bytes : List ℕ)
-        → I.left input.old ≡ Some bytes → length bytes ≤ most_bytes → ((m : ir.Module) → Reads bytes m → ⊥)
-        → (result ≡ no_simple_text) ⊎ ((result ≡ Status.ReadFault) ⊎ (result ≡ Status.NoMemory)) }
-    ensures refuses_length { asked.asks_inline (map string_bytes words.now) ≡ true → (bytes : List ℕ)
-        → I.left input.old ≡ Some bytes → most_bytes < length bytes
-        → (result ≡ too_long) ⊎ ((result ≡ Status.ReadFault) ⊎ (result ≡ Status.NoMemory)) }
+    // What was told: nothing where all was done, else the line of the status. A fault of `err` changes nothing else.
+    ensures silent { result ≡ Status.Done → err.new ≡ err.old }
+    ensures told { result ≢ Status.Usage → AppendsPrefix (E.written err.old) (E.written err.new) (line_of result) }
+    ensures told_whole { result ≢ Status.Usage → (Rose (E.faults err.old) (E.faults err.new) → ⊥)
+        → Appends (E.written err.old) (E.written err.new) (line_of result) }
 {
-    if !asks_inline(words) {
-        return Status::Usage;
-    }
-    let bytes = match read_whole(alloc, input, LIMIT) {
-        Ok(bytes) => bytes,
-        Err(ReadErr::Failed) => return Status::ReadFault,
-        Err(ReadErr::TooLong) => return Status::Refused(Refusal::TooLong),
-        Err(ReadErr::NoMemory) => return Status::NoMemory,
-    };
-    let module = match read_simple_text(rt, alloc, bytes.as_slice(), WORKERS) {
-        Ok(module) => module,
-        Err(SimpleErr::NotSimple) => {
-            let start = Place { line: 1, column: 1 };
-            return Status::Refused(Refusal::Text(TextKind::Syntax, start));
+    let settings = match read_settings(alloc, words) {
+        Ok(settings) => settings,
+        Err(Stopped::Usage(text)) => {
+            let _told = put(err, text.as_bytes());
+            return Status::Usage;
         }
-        Err(SimpleErr::NoMemory) => return Status::NoMemory,
+        Err(Stopped::NoMemory) => {
+            tell(err, Status::NoMemory);
+            return Status::NoMemory;
+        }
     };
-    let printed = print_with(rt, alloc, &module, WORKERS, out);
-    // The program ends here: its memory goes with it, and not part by part before.
-    forget(module);
-    match printed {
-        Ok(()) => Status::Done,
-        Err(PrintErr::Failed) => Status::WriteFault,
-        Err(PrintErr::NoMemory) => Status::NoMemory,
-    }
+    let status = carry_out(rt, alloc, &settings, input, out);
+    tell(err, status);
+    status
 }

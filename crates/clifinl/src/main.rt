@@ -1,11 +1,15 @@
-//! `clifinl inline` over the standard streams.
+//! The commands of `clifinl` over the standard streams.
 #![tactic(auto)]
 
 mod command;
+mod commands;
+mod pieces;
+mod reading;
+mod report;
 mod status;
 #[cfg(test)]
 mod tests;
-mod words;
+mod writing;
 
 use clk_flow::{NoGate, StdSink, StdSource};
 pub use command::command;

@@ -1,8 +1,8 @@
-//! What no clause says: that memory suffices for small texts, one outside row, and each call of the outside failing in
-//! turn.
+//! What no clause says: that memory suffices for small texts, one outside row, what `clap` says of words, and each call
+//! of the outside failing in turn.
 use crate::{Refusal, Status, command};
 use clif_lex::{Place, TextKind};
-use clk_flow::{MemSink, MemSource, NoGate, NullSink};
+use clk_flow::{MemSink, MemSource, NoGate};
 use std::alloc::{AllocError, Global};
 use std::sync::Wait;
 use std::thread::Threads;
@@ -13,35 +13,58 @@ const INPUT: &[u8] = b"function %f(i64) -> i64 {\n\
 const OUTPUT: &[u8] = b"function %f(i64) -> i64 fast {\n\
     block0(v0: i64):\n    v1 = iconst.i64 -1\n    v2 = iadd v0, v1\n    return v2\n}\n";
 
-fn ask(alloc: Global, word: &str) -> Result<Vec<String>, AllocError> {
-    let mut words = Vec::new(alloc);
-    words.push(String::from_str(alloc, "clifinl")?)?;
-    words.push(String::from_str(alloc, word)?)?;
-    Ok(words)
+/// The words of a command line: the program's name, and these.
+fn command_line(alloc: Global, words: &[&str]) -> Result<Vec<String>, AllocError> {
+    let mut line = Vec::new(alloc);
+    line.push(String::from_str(alloc, "clifinl")?)?;
+    for word in words {
+        line.push(String::from_str(alloc, word)?)?;
+    }
+    Ok(line)
 }
 
-/// What a run over these bytes answers and writes: call number `fails` of the source fails, and the sink has so much
-/// room.
-fn run<R: Threads + Wait + Sync>(
+/// What a run answers, writes and tells.
+#[derive(Drop)]
+struct Ran {
+    status: Status,
+    out: MemSink,
+    err: MemSink,
+}
+
+/// A run of a command over these bytes: call number `fails` of the source fails, and the sink has so much room.
+fn run_command<R: Threads + Wait + Sync>(
     rt: &R,
     alloc: Global,
+    words: &[&str],
     bytes: &[u8],
     fails: u64,
     room: usize,
-) -> Result<(Status, MemSink), AllocError> {
+) -> Result<Ran, AllocError> {
     let mut input = MemSource::new(Vec::from_slice(alloc, bytes)?, vec![in alloc; fails]?, 40);
     let mut out = MemSink::new(alloc, Vec::new(alloc), room)?;
-    let words = ask(alloc, "inline")?;
+    let mut err = MemSink::new(alloc, Vec::new(alloc), 1000)?;
+    let words = command_line(alloc, words)?;
     let status = command(
         rt,
         alloc,
         words.as_slice(),
         &mut input,
         &mut out,
-        &mut NullSink::new(),
+        &mut err,
         &NoGate,
     );
-    Ok((status, out))
+    Ok(Ran { status, out, err })
+}
+
+/// A run of `inline`.
+fn run<R: Threads + Wait + Sync>(
+    rt: &R,
+    alloc: Global,
+    bytes: &[u8],
+    fails: u64,
+    room: usize,
+) -> Result<Ran, AllocError> {
+    run_command(rt, alloc, ["inline"].as_slice(), bytes, fails, room)
 }
 
 #[test]
@@ -52,9 +75,12 @@ fn the_row_and_its_output(rt: HostRuntime) -> Result<(), AllocError> {
         (b"".as_slice(), b"".as_slice()),
         (b"; a\n; b".as_slice(), b"".as_slice()),
     ] {
-        let (status, out) = run(&rt, rt.alloc(), input, 99, 1000)?;
-        assert!(rt; status == Status::Done);
-        assert!(rt; out.bytes() == output);
+        for word in ["inline", "print"] {
+            let ran = run_command(&rt, rt.alloc(), [word].as_slice(), input, 99, 1000)?;
+            assert!(rt; ran.status == Status::Done);
+            assert!(rt; ran.out.bytes() == output);
+            assert!(rt; ran.err.bytes().is_empty());
+        }
     }
     Ok(())
 }
@@ -63,14 +89,16 @@ fn the_row_and_its_output(rt: HostRuntime) -> Result<(), AllocError> {
 fn each_fault_of_the_outside(rt: HostRuntime) -> Result<(), AllocError> {
     // Three calls give bytes, and one more the end.
     for fails in 0..4 {
-        let (status, out) = run(&rt, rt.alloc(), INPUT, fails, 1000)?;
-        assert!(rt; status == Status::ReadFault);
-        assert!(rt; out.bytes().is_empty());
+        let ran = run(&rt, rt.alloc(), INPUT, fails, 1000)?;
+        assert!(rt; ran.status == Status::ReadFault);
+        assert!(rt; ran.out.bytes().is_empty());
+        assert!(rt; ran.err.bytes() == b"error ReadFault\n".as_slice());
     }
     for room in 0..OUTPUT.len() {
-        let (status, out) = run(&rt, rt.alloc(), INPUT, 99, room)?;
-        assert!(rt; status == Status::WriteFault);
-        assert!(rt; out.bytes() == &OUTPUT[..room]);
+        let ran = run(&rt, rt.alloc(), INPUT, 99, room)?;
+        assert!(rt; ran.status == Status::WriteFault);
+        assert!(rt; ran.out.bytes() == &OUTPUT[..room]);
+        assert!(rt; ran.err.bytes() == b"error WriteFault\n".as_slice());
     }
     Ok(())
 }
@@ -85,22 +113,90 @@ fn refused_texts_and_words(rt: HostRuntime) -> Result<(), AllocError> {
         b"function %f() {\nblock0:\n    return\n}\nfunction %f() {\nblock0:\n    return\n}\n".as_slice(),
         b"#".as_slice(),
     ] {
-        let (status, out) = run(&rt, rt.alloc(), text, 99, 1000)?;
-        assert!(rt; status == refused);
-        assert!(rt; out.bytes().is_empty());
+        let ran = run(&rt, rt.alloc(), text, 99, 1000)?;
+        assert!(rt; ran.status == refused);
+        assert!(rt; ran.out.bytes().is_empty());
+        assert!(rt; ran.err.bytes() == b"error 1:1 Syntax\n".as_slice());
     }
-    let alloc = rt.alloc();
-    let words = ask(alloc, "print")?;
-    let mut input = MemSource::new(Vec::new(alloc), Vec::new(alloc), 1);
-    let status = command(
-        &rt,
-        alloc,
-        words.as_slice(),
-        &mut input,
-        &mut NullSink::new(),
-        &mut NullSink::new(),
-        &NoGate,
-    );
-    assert!(rt; status == Status::Usage);
+    for (words, told) in [
+        (
+            ["run", "--entry=%f"].as_slice(),
+            "error: this command is still to come\n",
+        ),
+        (
+            ["frob"].as_slice(),
+            "error: unrecognized subcommand 'frob'\n\n\
+             Usage: clifinl <COMMAND>\n\nFor more information, try '--help'.\n",
+        ),
+    ] {
+        let ran = run_command(&rt, rt.alloc(), words, INPUT, 99, 1000)?;
+        assert!(rt; ran.status == Status::Usage);
+        assert!(rt; ran.out.bytes().is_empty());
+        assert!(rt; ran.err.bytes() == told.as_bytes(), "at {told}");
+    }
+    Ok(())
+}
+
+#[test]
+fn accepted_texts_are_counted_and_printed(rt: HostRuntime) -> Result<(), AllocError> {
+    let two_blocks = b"function %g() {\nblock0:\n    jump block7\nblock7:\n    return\n}\n\
+        function %h() {\n    fn3 = %g()\nblock0:\n    call fn3()\n    return\n}\n"
+        .as_slice();
+    let printed = b"function %g() fast {\nblock0:\n    jump block1\n\nblock1:\n    return\n}\n\n\
+        function %h() fast {\n    sig0 = () fast\n    fn0 = %g sig0\n\n\
+        block0:\n    call fn0()\n    return\n}\n"
+        .as_slice();
+    for (input, count, text) in [
+        (b"".as_slice(), "ok 0\n", b"".as_slice()),
+        (INPUT, "ok 1\n", OUTPUT),
+        (two_blocks, "ok 2\n", printed),
+    ] {
+        let checked = run_command(&rt, rt.alloc(), ["check"].as_slice(), input, 99, 1000)?;
+        assert!(rt; checked.status == Status::Done);
+        assert!(rt; checked.out.bytes() == count.as_bytes());
+        assert!(rt; checked.err.bytes().is_empty());
+        let ran = run_command(&rt, rt.alloc(), ["print"].as_slice(), input, 99, 1000)?;
+        assert!(rt; ran.status == Status::Done);
+        assert!(rt; ran.out.bytes() == text);
+        assert!(rt; ran.err.bytes().is_empty());
+    }
+    Ok(())
+}
+
+#[test]
+fn the_first_fault_of_each_stage(rt: HostRuntime) -> Result<(), AllocError> {
+    for (input, told) in [
+        ("function %f() {\n\x01", "error 2:1 BadChar\n"),
+        ("function %f() {\nblock0:\n", "error 3:1 Syntax\n"),
+        (
+            "function %f() {\nblock0:\nreturn v7\n}",
+            "error 3:8 Undefined\n",
+        ),
+        (
+            "function %f() {\nblock0:\nnop\n}",
+            "error 3:1 NoTerminator\n",
+        ),
+        (
+            "function %f() {\nblock0:\njump block0\n}",
+            "error 3:1 EntryTarget\n",
+        ),
+        (
+            "function %f() -> i64 {\nblock0:\nv0 = iconst.i8 1\nreturn v0\n}",
+            "error 4:1 TypeMismatch\n",
+        ),
+        (
+            "function %f() {\nblock0:\nv0 = iconst.i64 1\nv1 = iadd v0, v2\n\
+             v2 = iconst.i64 1\nreturn\n}",
+            "error 4:6 NotAvailable\n",
+        ),
+    ] {
+        for word in ["check", "print"] {
+            let bytes = input.as_bytes();
+            let ran = run_command(&rt, rt.alloc(), [word].as_slice(), bytes, 99, 1000)?;
+            assert!(rt; ran.status.code() == 1, "at {told}");
+            assert!(rt; ran.out.bytes().is_empty());
+            assert!(rt; ran.err.bytes() == told.as_bytes(), "at {told}");
+        }
+    }
     Ok(())
 }

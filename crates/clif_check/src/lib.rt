@@ -1,0 +1,7 @@
+//! The accepted module of a text, or the text's first fault.
+#![tactic(auto)]
+
+mod checking;
+pub mod laws;
+
+pub use checking::check_text;

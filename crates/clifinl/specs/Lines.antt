@@ -1,0 +1,22 @@
+-- The line that is written on standard error after a refusal. After Usage stands the text of `clap`'s fault, of which
+-- nothing is said here.
+use Rattle.std.specs.Prelude.{ℕ, List, [], ◌++◌, codes, decimal}
+use Rattle.clif_lex.specs.Faults.{kind_name}
+use Rattle.clifinl.specs.declared.status.Refusal.{Refusal}
+use Rattle.clifinl.specs.declared.status.Refusal.TheVariants.{Text, TooLong}
+use Rattle.clifinl.specs.declared.status.Status.{Status}
+use Rattle.clifinl.specs.declared.status.Status.TheVariants.{Done, Refused, Usage, ReadFault, WriteFault, NoMemory}
+
+abbrev pub refusal_line : Refusal → List ℕ
+refusal_line (Text kind place) =
+    codes "error " ++ decimal place.line ++ codes ":" ++ decimal place.column ++ codes " " ++ kind_name kind
+    ++ codes "\n"
+refusal_line TooLong = codes "error TooLong\n"
+
+abbrev pub line_of : Status → List ℕ
+line_of Done = []
+line_of (Refused refusal) = refusal_line refusal
+line_of Usage = []
+line_of ReadFault = codes "error ReadFault\n"
+line_of WriteFault = codes "error WriteFault\n"
+line_of NoMemory = codes "error NoMemory\n"

@@ -1,0 +1,71 @@
+//! Reading what a command works on.
+ghost use Rattle.std.specs.Prelude.{◌≡◌, ◌≤◌, IfErr, IfOk, length};
+ghost use Rattle.clif_check.specs.Faults.{IsAccepted};
+ghost use Rattle.clifinl.specs.Runs.{IsFirstFault, IsPlaceOf, NoText, ReadsWhole, Stopped, Took};
+
+use crate::status::{Refusal, Status};
+use clif_check::check_text;
+use clif_lex::{Place, TextErr, place};
+use clk_flow::{ReadErr, Source, read_whole};
+use ir_check::Checked;
+use std::alloc::Global;
+use std::sync::Wait;
+use std::thread::Threads;
+
+/// The most bytes that a text may have.
+const LIMIT: usize = 67_108_864;
+
+/// The bytes of the source, up to its end.
+///
+/// # Errors
+///
+/// The status of a run that stops here.
+pub(crate) fn read_input<I: Source>(alloc: Global, input: &mut I) -> Result<Vec<u8>, Status>
+    ensures whole { IfOk result (λ bytes. ReadsWhole (I.left input.old) (I.left input.new) bytes.items) }
+    ensures stopped { IfErr result (λ status. Stopped NoText (I.left input.old) (I.left input.new)
+        (I.faults input.old) (I.faults input.new) status) }
+{
+    match read_whole(alloc, input, LIMIT) {
+        Ok(bytes) => Ok(bytes),
+        Err(ReadErr::Failed) => Err(Status::ReadFault),
+        Err(ReadErr::TooLong) => Err(Status::Refused(Refusal::TooLong)),
+        Err(ReadErr::NoMemory) => Err(Status::NoMemory),
+    }
+}
+
+/// The accepted module of the source's text, read by so many workers.
+///
+/// # Errors
+///
+/// The status of a run that stops here.
+pub(crate) fn read_module<R: Threads + Wait + Sync, I: Source>(
+    rt: &R,
+    alloc: Global,
+    workers: usize,
+    input: &mut I,
+) -> Result<Checked, Status>
+    ensures read { IfOk result (λ m. Took IsAccepted (I.left input.old) (I.left input.new) m) }
+    ensures stopped { IfErr result (λ status. Stopped IsFirstFault (I.left input.old) (I.left input.new)
+        (I.faults input.old) (I.faults input.new) status) }
+{
+    let bytes = match read_input(alloc, input) {
+        Ok(bytes) => bytes,
+        Err(status) => return Err(status),
+    };
+    match check_text(rt, alloc, bytes.as_slice(), workers) {
+        Ok(checked) => Ok(checked),
+        Err(TextErr::Fault { kind, spot }) => {
+            let place = place_of(bytes.as_slice(), spot);
+            Err(Status::Refused(Refusal::Text(kind, place)))
+        }
+        Err(TextErr::NoMemory) => Err(Status::NoMemory),
+    }
+}
+
+/// The place of a byte. Behind the text it is that of the text's end.
+fn place_of(text: &[u8], spot: usize) -> Place
+    requires { length text.now ≤ 4294967294 }
+    ensures { IsPlaceOf text.now spot result }
+{
+    place(text, spot.min(text.len()))
+}

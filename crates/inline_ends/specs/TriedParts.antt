@@ -13,7 +13,8 @@ use Rattle.inline_ends.specs.declared.try_body.OpenBlock.{OpenBlock}
 use Rattle.inline_ends.specs.Tried.{OuterTry, plain_calls, block_with}
 
 abbrev pub outer_try : Inside → OuterTry
-outer_try s = record { tags = s.tags.now; normal = s.normal.now; table = s.table.now; callees = s.own.now ++ s.added.now }
+outer_try s =
+    record { tags = s.tags.now; normal = s.normal.now; table = s.table.now; callees = s.own.now ++ s.added.now }
 
 abbrev pub made_blocks : MadeBlocks → List Block
 made_blocks m = blocks_from m.block_params.items m.block_lines.items

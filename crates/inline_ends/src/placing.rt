@@ -14,7 +14,8 @@ use inline_body::{BlockLines, append_to_blocks, insert_blocks};
 use ir_core::{Func, InstData, List, Point, Value};
 
 /// Puts a body in the place of a call that ends its block, and answers the call. The block ends in the jump. The body's
-/// blocks stand behind it: the first has the parameters `first`, the others those of `block_params`. No memory is taken.
+/// blocks stand behind it: the first has the parameters `first`, the others those of `block_params`. It takes no
+/// memory.
 pub fn put_last_body(
     caller: &mut Func,
     site: Point,

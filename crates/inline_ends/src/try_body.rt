@@ -6,7 +6,8 @@ ghost use Rattle.ir_core.specs.Viewed.{instruction_of, line_of};
 ghost use Rattle.ir_semantics.specs.Splice.{Fragment};
 ghost use Rattle.inline_body.specs.Named.{names_of, Moves, Reached};
 ghost use Rattle.inline_body.specs.Inlined.{block_at, blocks_from};
-ghost use Rattle.inline_ends.specs.Tried.{is_plain_call as spec_is_plain_call, tried_line as spec_tried_line, with_line};
+ghost use Rattle.inline_ends.specs.Tried.{is_plain_call as spec_is_plain_call, tried_line as spec_tried_line};
+ghost use Rattle.inline_ends.specs.Tried.{with_line};
 ghost use Rattle.inline_ends.specs.Tried.{tried_block, tried_blocks};
 ghost use Rattle.inline_ends.specs.TriedParts.{made_blocks, AsMany, with_rest, CanTry, Called};
 

@@ -128,8 +128,8 @@ module _ (Takes : List ℕ → Module → Type 0) (Refuses : List ℕ → TextKi
 abbrev pub count_line : Module → List ℕ
 count_line m = codes "ok " ++ decimal (length m) ++ codes "\n"
 
--- `check` and `print` take accepted texts. `inline` takes simple ones, which have no call, so that the pass leaves their
--- modules as they are.
+-- `check` and `print` take accepted texts. `inline` takes simple ones, which have no call, so that the pass leaves
+-- their modules as they are.
 abbrev pub IsRunOf : Settings → Outside → Outside → Status → Type 0
 IsRunOf Check = IsRun IsAccepted IsFirstFault count_line
 IsRunOf Print = IsRun IsAccepted IsFirstFault text_of

@@ -146,8 +146,8 @@ module _ (p : Splicing) (n : Names) (s : OuterTry) (is : TryNumbers p n s) where
       ap (λ (k : Kind). fragment_by p k c j l (fragment p c (suc j) ls)) is.kind
       ∙ (step c j next l l.inst (fragment p c (suc j) ls) refl number
       ∙ ap (with_line n next l (tried_line n s next l l.inst) (is_plain_call l.inst))
-        (lines_are c (suc j) (if is_plain_call l.inst then next + 1 else next) (pre ++ (l ∷ [])) ls (e ∙ sym (append_assoc pre (l ∷ []) ls)) (let k = length-append pre (l ∷ []) in omega (arith, g, k))
-        (behind (is_plain_call l.inst) refl)))
+      (lines_are c (suc j) (if is_plain_call l.inst then next + 1 else next) (pre ++ (l ∷ [])) ls (e ∙ sym (append_assoc pre (l ∷ []) ls)) (let k = length-append pre (l ∷ []) in omega (arith, g, k))
+      (behind (is_plain_call l.inst) refl)))
     where
       behind : (b : Bool) → is_plain_call l.inst ≡ b → (if is_plain_call l.inst then next + 1 else next) ≡ get_or n.blocks c 0 + plain_calls (pre ++ (l ∷ [])) + 1
       behind true q =

@@ -143,9 +143,9 @@ module _ (n : Names) (s : OuterTry) (G N : Counts) (fit : NamesInRange n G N) (s
       let rest = below_right N.values O (A ++ T) values in
       record {
         values =
-          below_join N.values O (A ++ targets_used (table_targets (inner' ++ s.table))) (below_left N.values O (A ++ T) values)
-          (below_join N.values A (targets_used (table_targets (inner' ++ s.table))) (below_left N.values A T rest)
-          (subst (Below N.values) (sym (targets_joined inner' s.table)) (below_join N.values T (targets_used (table_targets s.table)) (below_right N.values A T rest) site.table)));
+            below_join N.values O (A ++ targets_used (table_targets (inner' ++ s.table))) (below_left N.values O (A ++ T) values)
+            (below_join N.values A (targets_used (table_targets (inner' ++ s.table))) (below_left N.values A T rest)
+            (subst (Below N.values) (sym (targets_joined inner' s.table)) (below_join N.values T (targets_used (table_targets s.table)) (below_right N.values A T rest) site.table)));
         blocks = (blocks.0, subst (Below N.blocks) (sym (blocks_joined inner' s.table)) (below_join N.blocks (map (λ t. t.block) (table_targets inner')) (map (λ t. t.block) (table_targets s.table)) blocks.1 site.blocks));
         slots = tt;
         shown = both_shown n G N fit s.tags site.tags l.tags h.shown;

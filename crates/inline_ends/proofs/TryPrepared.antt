@@ -196,16 +196,16 @@ module _ (f g : Function) (at : Point) (sf : IsSound f) (sg : IsSound g) (can : 
           let m = many in
           let some : 0 < length B = let h = can.has_block in omega (arith, h, m) in
           let is_ready = ready f g at l i imp n q B made can.there can.last
-            (record {
-              few_slots = can.few_slots;
-              few_sigs = can.few_sigs;
-              few_callees = can.few_callees;
-              few_values = can.few_values;
-              few_blocks = let h = can.few_blocks in omega (arith, h, m);
-              few_lines = let h = can.few_lines in let c = tried_count n s g.blocks in omega (arith, h, c);
-            })
-            (tried_numbers n s (length f.blocks) g.blocks numbers)
-            body_in_range ((tried_define n s g.blocks).differ (shifted_differ n.values (definitions g.blocks) sg.defined_once)) body_undefined some (try_args l.inst tries (length f.types) site_line.values) in
+          (record {
+            few_slots = can.few_slots;
+            few_sigs = can.few_sigs;
+            few_callees = can.few_callees;
+            few_values = can.few_values;
+            few_blocks = let h = can.few_blocks in omega (arith, h, m);
+            few_lines = let h = can.few_lines in let c = tried_count n s g.blocks in omega (arith, h, c);
+          })
+          (tried_numbers n s (length f.blocks) g.blocks numbers)
+          body_in_range ((tried_define n s g.blocks).differ (shifted_differ n.values (definitions g.blocks) sg.defined_once)) body_undefined some (try_args l.inst tries (length f.types) site_line.values) in
           let new : ℕ → ℕ → ℕ = λ c j. get_or n.blocks c 0 + plain_calls (take j (lines_of c g.blocks)) + 1 in
           let p = own_splicing f g at l i imp n q B made new in
           prepared f g at l i imp n q B made new sg is_ready found

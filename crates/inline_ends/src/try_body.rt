@@ -76,8 +76,8 @@ fn push_tried(
     ensures blocks { IfOk result (λ o. (rest : Fragment)
         → with_rest o rest
         ≡ with_rest current (with_line names.now (current.block + 1) (line_of line.now)
-            (spec_tried_line names.now site.now (current.block + 1) (line_of line.now) (instruction_of line.now.inst))
-            (spec_is_plain_call (instruction_of line.now.inst)) rest)) }
+        (spec_tried_line names.now site.now (current.block + 1) (line_of line.now) (instruction_of line.now.inst))
+        (spec_is_plain_call (instruction_of line.now.inst)) rest)) }
     ensures as_many { IfOk result (λ o. AsMany o.made) }
     ensures number { IfOk result (λ o. o.block
         ≡ (if spec_is_plain_call (instruction_of line.now.inst) then current.block + 1 else current.block)) }

@@ -4,8 +4,8 @@ ghost use Rattle.inline_body.specs.PlainCall.{IsSplice};
 ghost use Rattle.inline_ends.specs.TryCallSite.{CanSpliceTry};
 
 use crate::piece::put_last_piece;
-use crate::try_prepare::prepare_try;
 use crate::splice::count_blocks;
+use crate::try_prepare::prepare_try;
 use body_import::index_declarations;
 use inline_body::body_room;
 use ir_core::{Func, Point};

@@ -17,7 +17,9 @@ ghost use Rattle.inline_ends.specs.TriedParts.{Called};
 use debug_tags::Tags;
 use exn_tables::Table;
 use inline_body::{Names, copy_inst, copy_tags};
-use ir_core::{Arg, Block, BlockCall, Boxed, Callee, FuncRef, Inst, InstData, List, SigRef, Value, Values};
+use ir_core::{
+    Arg, Block, BlockCall, Boxed, Callee, FuncRef, Inst, InstData, List, SigRef, Value, Values,
+};
 use std::alloc::{AllocError, Global};
 use std::marker::Model;
 

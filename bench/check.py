@@ -1,0 +1,131 @@
+#!/usr/bin/env python3
+"""Speed and memory of `check` and `print`, beside `wc -w` on the same text in the same run.
+
+    python3 bench/check.py PATH/clifinl [SCALE]
+
+`rt ci`, or `rt run` in crates/clifinl, builds the program and leaves it in out/. First 14 MB of small functions in chains
+of calls and 60 MB of large bodies (SCALE times as much): the median of five runs by the clock, on all processors and on
+one of them, as a multiple of `wc -w`, and the most memory that a run held, a byte of text. Then texts of one shape each,
+once and twice as large: twice the text should take at most 2.2 times the time, by the processor's clock."""
+import os
+import statistics
+import subprocess
+import sys
+import tempfile
+import time
+
+TURNS = 5
+
+
+def chains(size):
+    """Functions that each call the one before, in chains of 64."""
+    parts, length = [], 0
+    while length < size and len(parts) < 65_536:
+        i = len(parts)
+        if i % 64 == 0:
+            text = f'function %f{i}(i64) -> i64 fast {{\nblock0(v0: i64):\n    v1 = iadd_imm v0, {i}\n    return v1\n}}\n\n'
+        else:
+            text = (f'function %f{i}(i64) -> i64 fast {{\n    sig0 = (i64) -> i64 fast\n    fn0 = %f{i - 1} sig0\n\n'
+                    f'block0(v0: i64):\n    v1 = iadd_imm v0, {i}\n    v2 = call fn0(v1)\n    brif v2, block1, block2(v1)\n\n'
+                    f'block1:\n    return v2\n\nblock2(v3: i64):\n    v4 = imul v3, v2\n    return v4\n}}\n\n')
+        parts.append(text)
+        length += len(text)
+    return ''.join(parts)
+
+
+def body(index, lines):
+    """A function of one large body, in blocks of a thousand lines."""
+    out = [f'function %g{index}(i64, i64) -> i64 fast {{\nblock0(v0: i64, v1: i64):\n']
+    value, block = 2, 0
+    for k in range(lines):
+        if k % 1000 == 999:
+            block += 1
+            out.append(f'    jump block{block}\n\nblock{block}:\n')
+        out.append(f'    v{value} = iadd v{value - 1}, v{value - 2}\n')
+        value += 1
+    out.append(f'    return v{value - 1}\n}}\n\n')
+    return ''.join(out)
+
+
+def bodies(size):
+    parts, length = [], 0
+    while length < size:
+        parts.append(body(len(parts), 50_000))
+        length += len(parts[-1])
+    return ''.join(parts)
+
+
+def aliases(count):
+    lines = ''.join(f'    v{i + 1} -> v{i}\n' for i in range(count))
+    return f'function %f(i64) -> i64 fast {{\nblock0(v0: i64):\n{lines}    return v{count}\n}}\n'
+
+
+def blocks(count):
+    lines = ''.join(f'    jump block{i + 1}\n\nblock{i + 1}:\n' for i in range(count))
+    return f'function %f() fast {{\nblock0:\n{lines}    return\n}}\n'
+
+
+def functions(count):
+    return ''.join(f'function %f{i}() fast {{\nblock0:\n    return\n}}\n\n' for i in range(count))
+
+
+SHAPES = {
+    'functions': (32_000, functions),
+    'lines of a function': (25_000, lambda n: body(0, n)),
+    'blocks of a function': (40_000, blocks),
+    'aliases in a chain': (1_000_000, aliases),
+}
+
+
+def run(words, path):
+    """The clock's seconds, the processor's, and the peak memory in bytes, of one run over the file."""
+    with open(path, 'rb') as text, open(os.devnull, 'wb') as out:
+        begin = time.monotonic()
+        process = subprocess.Popen(words, stdin=text, stdout=out)
+        _, status, usage = os.wait4(process.pid, 0)
+        clock = time.monotonic() - begin
+    if status != 0:
+        sys.exit('%s ended with %d' % (' '.join(words), os.waitstatus_to_exitcode(status)))
+    return clock, usage.ru_utime + usage.ru_stime, usage.ru_maxrss * 1024
+
+
+def medians(jobs, path):
+    """Of each job the medians of its runs and its most memory; the jobs take turns."""
+    found = {name: [] for name in jobs}
+    for _ in range(TURNS):
+        for name, words in jobs.items():
+            found[name].append(run(words, path))
+    return {name: (statistics.median(it[0] for it in runs), statistics.median(it[1] for it in runs), max(it[2] for it in runs))
+            for name, runs in found.items()}
+
+
+def main():
+    program = os.path.abspath(sys.argv[1])
+    scale = float(sys.argv[2]) if len(sys.argv) > 2 else 1
+    one = ['taskset', '-c', '0']
+    jobs = {'wc -w': ['wc', '-w']}
+    for command in ('check', 'print'):
+        jobs[command] = [program, command]
+        jobs[command + ', one processor'] = [*one, program, command]
+    with tempfile.TemporaryDirectory() as folder:
+        path = os.path.join(folder, 'text')
+        for name, text in (('small functions', chains(int(14e6 * scale))), ('large bodies', bodies(int(60e6 * scale)))):
+            with open(path, 'w') as file:
+                file.write(text)
+            found = medians(jobs, path)
+            words = found['wc -w'][0]
+            print('%s, %.1f MB: wc -w %.3f s' % (name, len(text) / 1e6, words))
+            for job in list(jobs)[1:]:
+                clock, _, memory = found[job]
+                print('  %-22s %.3f s, %.2f times wc -w, %.1f bytes a byte of text' % (job, clock, clock / words, memory / len(text)))
+        for name, (count, make) in SHAPES.items():
+            both = []
+            for text in (make(count), make(2 * count)):
+                with open(path, 'w') as file:
+                    file.write(text)
+                both.append(medians({it: [program, it] for it in ('check', 'print')}, path))
+            print('%d %s:' % (count, name), ', '.join('%s %.3f s, twice %.2f times' % (it, both[0][it][1], both[1][it][1] / both[0][it][1]) for it in ('check', 'print')))
+
+
+if __name__ == '__main__':
+    main()

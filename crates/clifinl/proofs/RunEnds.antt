@@ -9,8 +9,12 @@ use Rattle.ir_core.specs.Lookup.{find_function, same_name}
 use Rattle.ir_core.specs.Module.{Function, Module}
 use Rattle.ir_core.proofs.Equal.{name_equal}
 use Rattle.host_script.specs.declared.script.Script.{Script}
+use Rattle.interp.specs.declared.outcome.Outcome.{Outcome}
+use Rattle.interp.specs.Outcome.{outcome_of}
+use Rattle.ir_text.specs.TextTree.{spelled}
 use Rattle.interp_run.specs.declared.run.RunErr.TheVariants as err
 use Rattle.program_run.specs.EntryName.{HasNoEntry, IsRefusalOfSpelled, spelling}
+use Rattle.program_run.specs.RunText.{run_text}
 use Rattle.script_text.specs.Grammar as grammar
 use Rattle.script_text.specs.Scripts.{Reads, StopsIn}
 use Rattle.script_text.specs.Values.{number_list_value, script_value}
@@ -18,8 +22,8 @@ use Rattle.settings.specs.Settings.{RunSettings}
 use Rattle.clifinl.specs.declared.status.Status.{Status}
 use Rattle.clifinl.specs.declared.status.Status.TheVariants.{Done, Refused, Usage, ReadFault, WriteFault, NoMemory}
 use Rattle.clifinl.specs.declared.status.Refusal.TheVariants.{Text, TooLong, BadScript, NoEntry, BadArgs}
-use Rattle.clifinl.specs.RunCommand.{CanRun, EntryRunEnds, HasCause, HasEntry, HasUnfitNumbers, IsFunctionRun, IsListRefusal, IsNoList, IsScriptRefusal, IsScriptText, IsUnread, ReadsNumbers, ReadsScript}
-use Rattle.clifinl.specs.Runs.{IsFirstFault, Outside, Stopped, Took, count_line}
+use Rattle.clifinl.specs.RunCommand.{CanRun, EntryRunEnds, HasCause, HasEntry, HasOutcome, HasUnfitNumbers, IsEntryRefusal, IsFunctionRun, IsListRefusal, IsNoList, IsScriptRefusal, IsScriptText, IsUnread, ReadsNumbers, ReadsScript}
+use Rattle.clifinl.specs.Runs.{IsFirstFault, Outside, Stopped, Took, Wrote, count_line}
 use Rattle.clifinl.proofs.Beginnings.{read_stops_nowhere}
 use Rattle.clifinl.proofs.Runs as runs
 
@@ -49,6 +53,33 @@ entry_there : (m : Module) (text : List ℕ) → HasEntry m text → HasNoEntry 
 entry_there m text entry none =
     let found = found_at m entry.0 entry.1.1.0 entry.1.1.1 in
     none found.0 entry.1.1.0 found.1 (ap spelling found.2 ∙ entry.1.0)
+
+-- ---- of an accepted module
+
+-- where the numbers are not read, the module's run is refused
+pub list_refused : (s : RunSettings) (m : Module) → HasEntry m s.entry → (status : Status) → IsListRefusal s.args status → IsEntryRefusal s m status
+list_refused s m entry (Refused BadArgs) why = (entry, inl why)
+list_refused s m entry NoMemory why = tt
+list_refused s m entry (Refused (Text k place)) why = absurd why
+list_refused s m entry (Refused TooLong) why = absurd why
+list_refused s m entry (Refused (BadScript count)) why = absurd why
+list_refused s m entry (Refused NoEntry) why = absurd why
+list_refused s m entry Done why = absurd why
+list_refused s m entry Usage why = absurd why
+list_refused s m entry ReadFault why = absurd why
+list_refused s m entry WriteFault why = absurd why
+
+-- a run whose text is written
+pub entry_ends : (s : RunSettings) (script : Script) (m : Module) (outcome : Outcome) → HasOutcome s script m outcome
+    → (before after : Option (List ℕ)) (faults now : ℕ) (status : Status) → Wrote (spelled (run_text (outcome_of outcome))) before after faults now status
+    → EntryRunEnds s script m before after faults now status
+entry_ends s script m outcome has before after faults now Done wrote = (spelled (run_text (outcome_of outcome)), (outcome, has, refl), wrote)
+entry_ends s script m outcome has before after faults now WriteFault wrote =
+    (spelled (run_text (outcome_of outcome)), (outcome, has, refl), wrote.0, wrote.1)
+entry_ends s script m outcome has before after faults now NoMemory wrote = tt
+entry_ends s script m outcome has before after faults now (Refused refusal) wrote = absurd wrote
+entry_ends s script m outcome has before after faults now Usage wrote = absurd wrote
+entry_ends s script m outcome has before after faults now ReadFault wrote = absurd wrote
 
 -- ---- a run for each end
 

@@ -1,5 +1,5 @@
 -- Where the text of a script goes no further, that is within the text or at its end.
-use Rattle.std.proofs.Common.{◌≡◌, ℕ, ◌≤◌, ◌<◌, Bool, true, false, cond, nat_lt, ℤ, pos, List, [], ◌∷◌, ◌++◌, length, map, take, slice_get, Some, Result, Ok, Err, refl, sym, ap, subst, ◌∙◌, arith, length-take}
+use Rattle.std.proofs.Common.{◌≡◌, ℕ, ◌+◌, ◌≤◌, ◌<◌, Bool, true, false, cond, nat_lt, ℤ, pos, List, [], ◌∷◌, ◌++◌, length, map, take, slice_get, Some, Result, Ok, Err, refl, sym, ap, subst, ◌∙◌, arith, length-take}
 use Rattle.std.specs.Str.{bytes_eq}
 use Rattle.std.specs.Prelude.{codes}
 use Rattle.grammar.specs.Rules.{Lexeme, Rule}

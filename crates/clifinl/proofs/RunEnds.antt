@@ -1,5 +1,5 @@
 -- How runs of `run` end.
-use Rattle.std.proofs.Common.{◌≡◌, ℕ, zero, suc, ℤ, Bool, true, false, List, [], ◌∷◌, Option, Some, None, slice_get, refl, sym, ap, subst, ◌∙◌, inl, inr}
+use Rattle.std.proofs.Common.{◌≡◌, ℕ, zero, suc, ℤ, Bool, true, false, List, [], ◌∷◌, Option, Some, slice_get, refl, sym, ap, subst, ◌∙◌, inl, inr}
 use Rattle.std.specs.Prelude.{◌⊎◌, if◌then◌else◌}
 use Rattle.grammar.specs.Rules.{Rule, Tree}
 use Rattle.clif_check.specs.Faults.{IsAccepted}
@@ -22,7 +22,7 @@ use Rattle.settings.specs.Settings.{RunSettings}
 use Rattle.clifinl.specs.declared.status.Status.{Status}
 use Rattle.clifinl.specs.declared.status.Status.TheVariants.{Done, Refused, Usage, ReadFault, WriteFault, NoMemory}
 use Rattle.clifinl.specs.declared.status.Refusal.TheVariants.{Text, TooLong, BadScript, NoEntry, BadArgs}
-use Rattle.clifinl.specs.RunCommand.{CanRun, EntryRunEnds, HasCause, HasEntry, HasOutcome, HasUnfitNumbers, IsEntryRefusal, IsFunctionRun, IsListRefusal, IsNoList, IsScriptRefusal, IsScriptText, IsUnread, ReadsNumbers, ReadsScript}
+use Rattle.clifinl.specs.RunCommand.{CanRun, EntryRunEnds, HasCause, HasEntry, HasOutcome, HasUnfitNumbers, IsEntryRefusal, IsFunctionRun, IsListRefusal, IsNoList, IsScriptRefusal, IsScriptText, IsUnread, ReadsScript}
 use Rattle.clifinl.specs.Runs.{IsFirstFault, Outside, Stopped, Took, Wrote, count_line}
 use Rattle.clifinl.proofs.Beginnings.{read_stops_nowhere}
 use Rattle.clifinl.proofs.Runs as runs

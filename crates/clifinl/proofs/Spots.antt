@@ -1,5 +1,5 @@
 -- Where the text of a script goes no further, that is within the text or at its end.
-use Rattle.std.proofs.Common.{◌≡◌, ℕ, ◌+◌, ◌≤◌, ◌<◌, Bool, true, false, cond, nat_lt, ℤ, pos, List, [], ◌∷◌, ◌++◌, length, map, take, slice_get, Some, Result, Ok, Err, refl, sym, ap, subst, ◌∙◌, arith, length-take}
+use Rattle.std.proofs.Common.{◌≡◌, ℕ, suc, ◌≤◌, ◌<◌, Bool, true, false, cond, nat_lt, ℤ, pos, List, [], ◌∷◌, ◌++◌, length, take, slice_get, Some, Result, Ok, Err, refl, sym, subst, arith, length-take}
 use Rattle.std.specs.Str.{bytes_eq}
 use Rattle.std.specs.Prelude.{codes}
 use Rattle.grammar.specs.Rules.{Lexeme, Rule}
@@ -14,7 +14,7 @@ use Rattle.clif_lex.specs.declared.faults.LexErr.TheVariants.{BadChar, BadNumber
 use Rattle.clif_lex.specs.Lexing.{tokens_of}
 use Rattle.clif_lex.specs.Numbers.{spelled_number}
 use Rattle.clif_lex.specs.Spans.{spelling}
-use Rattle.clif_lex.specs.Spelling.{IsTokenIn, IsFaultIn}
+use Rattle.clif_lex.specs.Spelling.{IsTokenIn}
 use Rattle.clif_lex.proofs.Readings.{fault_inside_text, token_inside_text}
 use Rattle.clif_words.specs.declared.class.Class.{Class}
 use Rattle.clif_words.specs.declared.class.Class.TheVariants as words
@@ -75,7 +75,7 @@ symbols_within text len (t ∷ ts) le each =
     let some = inside.some in
     let within = inside.within in
     let at : spot_of (lexeme text t) ≡ t.start = kind_spot t.kind (spelling text t) t.start in
-    (omega arith, symbols_within text len ts le (λ i u e. each (i + 1) u e))
+    (omega arith, symbols_within text len ts le (λ i u e. each (suc i) u e))
 
 read_within : (text : List ℕ) (len : ℕ) (r : Result (List Token) LexErr) → length text ≤ len → tokens_of text ≡ r → Within len (symbols text (or_none r))
 read_within text len (Ok ts) le e = symbols_within text len ts le (token_inside_text text ts e)

@@ -9,4 +9,4 @@ overflow_add-result c =
     let near : c.in-Err-BadScript.spot ≤ length c.args.text.now =
     stops_within grammar.script c.args.text.now c.in-Err-BadScript.spot
     (subst (Refuses grammar.script c.args.text.now) c.in-Err-BadScript.field-0-is c.in-Err-BadScript.ensures.refused) in
-    omega (arith, near, c.type_inv.text)
+    omega (arith, near)

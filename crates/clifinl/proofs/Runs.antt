@@ -1,5 +1,5 @@
 -- How the runs of a command end.
-use Rattle.std.proofs.Common.{◌≡◌, ℕ, ◌<◌, ◌++◌, true, List, length, Option, None, Some, inl, inr, refl, sym, ap, subst, ◌∙◌, arith, append-nil, length-append}
+use Rattle.std.proofs.Common.{◌≡◌, ℕ, ◌<◌, ◌++◌, List, length, Option, None, Some, inl, inr, refl, sym, ap, subst, ◌∙◌, arith, append-nil, length-append}
 use Rattle.std.specs.Io.KnownBytes.{Appends}
 use Rattle.clk_flow.specs.Faults.{Rose}
 use Rattle.clk_flow.specs.Whole.{AppendsPrefix}
@@ -8,19 +8,15 @@ use Rattle.clif_lex.specs.declared.faults.TextKind.{TextKind}
 use Rattle.ir_core.specs.Module.{Module}
 use Rattle.clifinl.specs.declared.status.Status.{Status}
 use Rattle.clifinl.specs.declared.status.Status.TheVariants.{Done, Refused, Usage, ReadFault, WriteFault, NoMemory}
-use Rattle.clifinl.specs.declared.status.Refusal.TheVariants.{Text, TooLong}
+use Rattle.clifinl.specs.declared.status.Refusal.TheVariants.{Text, TooLong, BadScript, NoEntry, BadArgs}
 use Rattle.clif_check.specs.Faults.{IsAccepted}
 use Rattle.clif_check.proofs.Stages.{accepted_has_no_fault}
-use Rattle.clif_read.specs.SimpleModule as simple
-use Rattle.ir_text.specs.Text.{text_of}
-use Rattle.settings.specs.Settings.{Settings, Check, Print, Inline, Run}
-use Rattle.clifinl.specs.Asked.{is_carried_out}
-use Rattle.clifinl.specs.Runs.{IsFirstFault, IsNotSimple, IsRunOf, count_line, most_bytes, ReadsWhole, GivesTooMany, Outside, Took, NoText, Stopped, Wrote, IsRun}
+use Rattle.clifinl.specs.Runs.{IsFirstFault, most_bytes, ReadsWhole, GivesTooMany, Outside, Took, NoText, Stopped, Wrote, IsRun}
 
 -- ---- where the source tells its bytes
 
 -- what is read whole is all that there was
-told : (before after : Option (List ℕ)) (bytes all : List ℕ) → ReadsWhole before after bytes → before ≡ Some all → bytes ≡ all
+pub told : (before after : Option (List ℕ)) (bytes all : List ℕ) → ReadsWhole before after bytes → before ≡ Some all → bytes ≡ all
 told None after bytes all whole is = absurd cc
 told (Some xs) None bytes all whole is = absurd whole.taken
 told (Some xs) (Some ys) bytes all whole is =
@@ -41,6 +37,9 @@ told_long (Some xs) (Some ys) all many is =
 pub stopped_at_no_text : (Refuses : List ℕ → TextKind → Place → Type 0) (before after : Option (List ℕ)) (faults now : ℕ) (status : Status) → Stopped NoText before after faults now status → Stopped Refuses before after faults now status
 stopped_at_no_text Refuses before after faults now (Refused (Text k place)) why = absurd why.2
 stopped_at_no_text Refuses before after faults now (Refused TooLong) why = why
+stopped_at_no_text Refuses before after faults now (Refused (BadScript count)) why = absurd why
+stopped_at_no_text Refuses before after faults now (Refused NoEntry) why = absurd why
+stopped_at_no_text Refuses before after faults now (Refused BadArgs) why = absurd why
 stopped_at_no_text Refuses before after faults now ReadFault why = why
 stopped_at_no_text Refuses before after faults now NoMemory why = why
 stopped_at_no_text Refuses before after faults now Done why = absurd why
@@ -114,19 +113,14 @@ module _ (Takes : List ℕ → Module → Type 0) (Refuses : List ℕ → TextKi
     pub stopped : (status : Status) → Stopped Refuses before.left after.left before.read_faults after.read_faults status → Ends status
     stopped (Refused (Text k place)) why = refused k place why.0 why.1 why.2
     stopped (Refused TooLong) why = given_too_many why
+    stopped (Refused (BadScript count)) why = absurd why
+    stopped (Refused NoEntry) why = absurd why
+    stopped (Refused BadArgs) why = absurd why
     stopped ReadFault why = not_read why
     stopped NoMemory why = out_of_memory
     stopped Done why = absurd why
     stopped Usage why = absurd why
     stopped WriteFault why = absurd why
-
--- ---- by the command
-
-pub no_memory : (s : Settings) (before after : Outside) → is_carried_out (Some s) ≡ true → IsRunOf s before after NoMemory
-no_memory Check before after there = out_of_memory IsAccepted IsFirstFault count_line before after
-no_memory Print before after there = out_of_memory IsAccepted IsFirstFault text_of before after
-no_memory (Inline s) before after there = out_of_memory simple.Reads IsNotSimple text_of before after
-no_memory (Run s) before after there = absurd cc
 
 -- an accepted text is not refused
 pub honest : (bytes : List ℕ) (k : TextKind) (place : Place) (m : Module) → IsFirstFault bytes k place → IsAccepted bytes m → ⊥

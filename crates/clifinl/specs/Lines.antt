@@ -3,7 +3,7 @@
 use Rattle.std.specs.Prelude.{ℕ, List, [], ◌++◌, codes, decimal}
 use Rattle.clif_lex.specs.Faults.{kind_name}
 use Rattle.clifinl.specs.declared.status.Refusal.{Refusal}
-use Rattle.clifinl.specs.declared.status.Refusal.TheVariants.{Text, TooLong}
+use Rattle.clifinl.specs.declared.status.Refusal.TheVariants.{Text, TooLong, BadScript, NoEntry, BadArgs}
 use Rattle.clifinl.specs.declared.status.Status.{Status}
 use Rattle.clifinl.specs.declared.status.Status.TheVariants.{Done, Refused, Usage, ReadFault, WriteFault, NoMemory}
 
@@ -12,6 +12,9 @@ refusal_line (Text kind place) =
     codes "error " ++ decimal place.line ++ codes ":" ++ decimal place.column ++ codes " " ++ kind_name kind
     ++ codes "\n"
 refusal_line TooLong = codes "error TooLong\n"
+refusal_line (BadScript count) = codes "error BadScript " ++ decimal count ++ codes "\n"
+refusal_line NoEntry = codes "error NoEntry\n"
+refusal_line BadArgs = codes "error BadArgs\n"
 
 abbrev pub line_of : Status → List ℕ
 line_of Done = []

@@ -8,10 +8,8 @@ use Rattle.clif_lex.specs.declared.faults.TextKind.{TextKind}
 use Rattle.clif_lex.specs.declared.faults.TextKind.TheVariants as kind
 use Rattle.clif_lex.specs.Places.{line_at, column_at}
 use Rattle.clif_read.specs.SimpleModule as simple
-use Rattle.clif_check.specs.Faults.{IsAccepted, FirstFault}
+use Rattle.clif_check.specs.Faults.{FirstFault}
 use Rattle.ir_core.specs.Module.{Module}
-use Rattle.ir_text.specs.Text.{text_of}
-use Rattle.settings.specs.Settings.{Settings, Check, Print, Inline, Run}
 use Rattle.clifinl.specs.declared.status.Status.{Status}
 use Rattle.clifinl.specs.declared.status.Status.TheVariants.{Done, Refused, ReadFault, WriteFault, NoMemory}
 use Rattle.clifinl.specs.declared.status.Refusal.TheVariants.{Text, TooLong}
@@ -127,11 +125,3 @@ module _ (Takes : List ℕ → Module → Type 0) (Refuses : List ℕ → TextKi
 -- what `check` writes: how many functions there are
 abbrev pub count_line : Module → List ℕ
 count_line m = codes "ok " ++ decimal (length m) ++ codes "\n"
-
--- `check` and `print` take accepted texts. `inline` takes simple ones, which have no call, so that the pass leaves
--- their modules as they are.
-abbrev pub IsRunOf : Settings → Outside → Outside → Status → Type 0
-IsRunOf Check = IsRun IsAccepted IsFirstFault count_line
-IsRunOf Print = IsRun IsAccepted IsFirstFault text_of
-IsRunOf (Inline s) = IsRun simple.Reads IsNotSimple text_of
-IsRunOf (Run s) = λ before after status. ⊥

@@ -1,17 +1,18 @@
 //! The top call.
-ghost use Rattle.std.specs.Prelude.{◌≡◌, ◌≢◌, ◌⊎◌, Some, None, false, true, map, string_bytes};
+ghost use Rattle.std.specs.Prelude.{◌≡◌, ◌≢◌, ◌⊎◌, Some, None, map, string_bytes};
 ghost use Rattle.std.specs.Io.KnownBytes.{Appends};
 ghost use Rattle.clk_flow.specs.Faults.{Rose};
 ghost use Rattle.clk_flow.specs.Whole.{AppendsPrefix};
 ghost use Rattle.settings.specs.Meaning.{settings_of};
 ghost use Rattle.settings.specs.Settings as asked;
 ghost use Rattle.settings.specs.Shown.{shown};
-ghost use Rattle.clifinl.specs.Asked.{is_carried_out};
+ghost use Rattle.clifinl.specs.Asked.{IsRunOf};
 ghost use Rattle.clifinl.specs.Lines.{line_of};
-ghost use Rattle.clifinl.specs.Runs.{IsRunOf, outside};
+ghost use Rattle.clifinl.specs.Runs.{outside};
 
 use crate::commands::{check, inline, print};
 use crate::report::tell;
+use crate::running::run;
 use crate::status::Status;
 use clk_flow::{Gate, Sink, Source, put};
 use settings::{Settings, Stopped, read_settings};
@@ -19,7 +20,7 @@ use std::alloc::Global;
 use std::sync::Wait;
 use std::thread::Threads;
 
-/// Carries out what the settings ask for, as far as it is there.
+/// Carries out what the settings ask for.
 fn carry_out<R: Threads + Wait + Sync, I: Source, O: Sink>(
     rt: &R,
     alloc: Global,
@@ -27,10 +28,7 @@ fn carry_out<R: Threads + Wait + Sync, I: Source, O: Sink>(
     input: &mut I,
     out: &mut O,
 ) -> Status
-    ensures usage { result ≡ Status.Usage → is_carried_out (Some (shown settings.now)) ≡ false }
-    ensures no_usage { is_carried_out (Some (shown settings.now)) ≡ false
-        → (result ≡ Status.Usage) × (input.new ≡ input.old) }
-    ensures run { is_carried_out (Some (shown settings.now)) ≡ true → IsRunOf (shown settings.now)
+    ensures run { IsRunOf (shown settings.now)
         (outside (I.left input.old) (I.faults input.old) (O.written out.old) (O.faults out.old))
         (outside (I.left input.new) (I.faults input.new) (O.written out.new) (O.faults out.new)) result }
     ensures nothing { (out.new ≡ out.old) ⊎ ((result ≡ Status.Done) ⊎ (result ≡ Status.WriteFault)) }
@@ -39,13 +37,14 @@ fn carry_out<R: Threads + Wait + Sync, I: Source, O: Sink>(
         Settings::Check => check(rt, alloc, input, out),
         Settings::Print => print(rt, alloc, input, out),
         Settings::Inline(options) => inline(rt, alloc, options.workers, input, out),
-        Settings::Run(_) => Status::Usage,
+        Settings::Run(options) => run(rt, alloc, options, input, out),
     }
 }
 
 /// All that the program does, by the words of its command line: `check` and `print` read a module from `input`, and
-/// write to `out` how many functions it has, and its canonical text; `inline` writes the text of the module with its
-/// calls inlined. A refusal is told on `err` in one line, and nothing passes the gate yet.
+/// write to `out` how many functions it has, and its canonical text; `run` runs a function of it, and writes what the
+/// run did; `inline` writes the text of the module with its calls inlined. A refusal is told on `err` in one line, and
+/// nothing passes the gate yet.
 pub fn command<R: Threads + Wait + Sync, I: Source, O: Sink, E: Sink, G: Gate>(
     rt: &R,
     alloc: Global,
@@ -55,14 +54,13 @@ pub fn command<R: Threads + Wait + Sync, I: Source, O: Sink, E: Sink, G: Gate>(
     err: &mut E,
     gate: &G,
 ) -> Status
-    // The words ask for nothing that is there: nothing was read.
-    ensures usage { result ≡ Status.Usage → is_carried_out (settings_of (map string_bytes words.now)) ≡ false }
-    ensures no_usage { is_carried_out (settings_of (map string_bytes words.now)) ≡ false
+    // The words have no settings: nothing was read.
+    ensures usage { result ≡ Status.Usage → settings_of (map string_bytes words.now) ≡ None }
+    ensures no_usage { settings_of (map string_bytes words.now) ≡ None
         → ((result ≡ Status.Usage) ⊎ (result ≡ Status.NoMemory)) × (input.new ≡ input.old) }
 
     // Else this is a run of the command: each status has its cause, and where the source tells its bytes, they decide.
-    ensures run { (s : asked.Settings) → settings_of (map string_bytes words.now) ≡ Some s
-        → is_carried_out (Some s) ≡ true → IsRunOf s
+    ensures run { (s : asked.Settings) → settings_of (map string_bytes words.now) ≡ Some s → IsRunOf s
         (outside (I.left input.old) (I.faults input.old) (O.written out.old) (O.faults out.old))
         (outside (I.left input.new) (I.faults input.new) (O.written out.new) (O.faults out.new)) result }
     ensures nothing { (out.new ≡ out.old) ⊎ ((result ≡ Status.Done) ⊎ (result ≡ Status.WriteFault)) }

@@ -17,8 +17,8 @@ use std::mem::forget;
 use std::sync::Wait;
 use std::thread::Threads;
 
-/// How many workers share the job of `check` and `print`.
-const WORKERS: usize = 4;
+/// How many workers share the job of `check`, `print` and `run`.
+pub(crate) const WORKERS: usize = 4;
 
 /// Reads a module and writes how many functions it has, where it is accepted.
 pub(crate) fn check<R: Threads + Wait + Sync, I: Source, O: Sink>(

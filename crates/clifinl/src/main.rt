@@ -6,6 +6,7 @@ mod commands;
 mod pieces;
 mod reading;
 mod report;
+mod running;
 mod status;
 #[cfg(test)]
 mod tests;

@@ -1,5 +1,5 @@
 //! The line on standard error after a refusal.
-ghost use Rattle.std.specs.Prelude.{◌≡◌, ◌≢◌, ◌++◌, OnOk, OnErr};
+ghost use Rattle.std.specs.Prelude.{◌≡◌, ◌++◌, OnOk, OnErr, codes, decimal};
 ghost use Rattle.std.specs.Io.KnownBytes.{Appends};
 ghost use Rattle.clk_flow.specs.Faults.{HasCause, Rose};
 ghost use Rattle.clk_flow.specs.Whole.{AppendsPrefix};
@@ -10,8 +10,24 @@ use crate::status::{Refusal, Status};
 use clk_flow::{Failed, Sink, put};
 use itoa::Buffer;
 
-/// What is said of a command that has settings and is not there yet.
-const STILL_TO_COME: &[u8] = b"error: this command is still to come\n";
+/// Writes at which byte a script goes no further.
+fn put_script_fault<K: Sink>(sink: &mut K, count: u64) -> Result<(), Failed>
+    ensures whole { OnOk result (Appends (K.written sink.old) (K.written sink.new)
+        (codes "error BadScript " ++ decimal count ++ codes "\n")) }
+    ensures part { OnErr result (AppendsPrefix (K.written sink.old) (K.written sink.new)
+        (codes "error BadScript " ++ decimal count ++ codes "\n")) }
+    ensures cause { HasCause (K.faults sink.old) (K.faults sink.new) result }
+{
+    let mut number = Buffer::new();
+    put_all(
+        sink,
+        &[
+            b"error BadScript ".as_slice(),
+            number.format(count).as_bytes(),
+            b"\n".as_slice(),
+        ],
+    )
+}
 
 /// Writes why an input is refused.
 fn put_refusal<K: Sink>(sink: &mut K, refusal: Refusal) -> Result<(), Failed>
@@ -37,6 +53,9 @@ fn put_refusal<K: Sink>(sink: &mut K, refusal: Refusal) -> Result<(), Failed>
             )
         }
         Refusal::TooLong => put(sink, b"error TooLong\n"),
+        Refusal::BadScript(count) => put_script_fault(sink, count),
+        Refusal::NoEntry => put(sink, b"error NoEntry\n"),
+        Refusal::BadArgs => put(sink, b"error BadArgs\n"),
     }
 }
 
@@ -59,15 +78,12 @@ fn report<K: Sink>(sink: &mut K, status: Status) -> Result<(), Failed>
 /// nothing else.
 pub(crate) fn tell<K: Sink>(sink: &mut K, status: Status)
     ensures silent { status ≡ Status.Done → sink.new ≡ sink.old }
-    ensures told { status ≢ Status.Usage → AppendsPrefix (K.written sink.old) (K.written sink.new) (line_of status) }
-    ensures told_whole { status ≢ Status.Usage → (Rose (K.faults sink.old) (K.faults sink.new) → ⊥)
+    ensures told { AppendsPrefix (K.written sink.old) (K.written sink.new) (line_of status) }
+    ensures told_whole { (Rose (K.faults sink.old) (K.faults sink.new) → ⊥)
         → Appends (K.written sink.old) (K.written sink.new) (line_of status) }
 {
     match status {
         Status::Done => {}
-        Status::Usage => {
-            let _told = put(sink, STILL_TO_COME);
-        }
         refusal => {
             let _told = report(sink, refusal);
         }

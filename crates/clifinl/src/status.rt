@@ -10,6 +10,12 @@ pub enum Refusal {
     Text(TextKind, Place),
     /// The source has more bytes than a text may have.
     TooLong,
+    /// The script goes no further at this byte of its text, counted from 1.
+    BadScript(u64),
+    /// No function has a name that is spelled so.
+    NoEntry,
+    /// The arguments are no list of numbers, not as many as the parameters, or one is no value of its parameter's type.
+    BadArgs,
 }
 
 /// How a run of the program ends.

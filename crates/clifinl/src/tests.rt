@@ -120,8 +120,9 @@ fn refused_texts_and_words(rt: HostRuntime) -> Result<(), AllocError> {
     }
     for (words, told) in [
         (
-            ["run", "--entry=%f"].as_slice(),
-            "error: this command is still to come\n",
+            ["run"].as_slice(),
+            "error: the following required arguments were not provided:\n  --entry <entry>\n\n\
+             Usage: clifinl run --entry <entry>\n\nFor more information, try '--help'.\n",
         ),
         (
             ["frob"].as_slice(),
@@ -197,6 +198,91 @@ fn the_first_fault_of_each_stage(rt: HostRuntime) -> Result<(), AllocError> {
             assert!(rt; ran.out.bytes().is_empty());
             assert!(rt; ran.err.bytes() == told.as_bytes(), "at {told}");
         }
+    }
+    Ok(())
+}
+
+#[test]
+fn runs_and_their_refusals(rt: HostRuntime) -> Result<(), AllocError> {
+    let store = b"function %f() {\nblock0:\n    v0 = iconst.i64 16\n    v1 = iconst.i16 513\n\
+        store big v1, v0+2\n    return\n}\n"
+        .as_slice();
+    let taken = "returned []\nmemory 00000010: 00 00 02 01\n";
+    for (words, input, out, told) in [
+        (
+            ["run", "--entry=%f", "--args=-5"].as_slice(),
+            INPUT,
+            "returned [-6]\n",
+            "",
+        ),
+        (
+            ["run", "--entry=%f", "--args=-5", "--steps=3"].as_slice(),
+            INPUT,
+            "returned [-6]\n",
+            "",
+        ),
+        (
+            ["run", "--entry=%f", "--args=-5", "--steps=2"].as_slice(),
+            INPUT,
+            "going\n",
+            "",
+        ),
+        (
+            ["run", "--entry=%f", "--memory=20"].as_slice(),
+            store,
+            taken,
+            "",
+        ),
+        (
+            ["run", "--entry=%f", "--memory=19"].as_slice(),
+            store,
+            "trapped heap_oob\n",
+            "",
+        ),
+        (
+            ["run", "--entry=%x"].as_slice(),
+            store,
+            "",
+            "error NoEntry\n",
+        ),
+        (
+            ["run", "--entry=%x", "--args=a"].as_slice(),
+            store,
+            "",
+            "error NoEntry\n",
+        ),
+        (
+            ["run", "--entry=%f", "--args=1"].as_slice(),
+            store,
+            "",
+            "error BadArgs\n",
+        ),
+        (
+            ["run", "--entry=%f", "--args=a"].as_slice(),
+            store,
+            "",
+            "error BadArgs\n",
+        ),
+        (
+            ["run", "--entry=%f", "--script=throw 3"].as_slice(),
+            b"#".as_slice(),
+            "",
+            "error BadScript 7\n",
+        ),
+        (
+            ["run", "--entry=%x", "--args=a"].as_slice(),
+            b"#".as_slice(),
+            "",
+            "error 1:1 BadChar\n",
+        ),
+    ] {
+        let ran = run_command(&rt, rt.alloc(), words, input, 99, 1000)?;
+        assert!(rt;
+            ran.status.code() == if told.is_empty() { 0 } else { 1 },
+            "at {told}"
+        );
+        assert!(rt; ran.out.bytes() == out.as_bytes(), "at {out}");
+        assert!(rt; ran.err.bytes() == told.as_bytes(), "at {told}");
     }
     Ok(())
 }

@@ -1,10 +1,13 @@
 use Rattle.clifinl.proofs.command.carry_out.Goals as goal
 
 pub returns-in-Check-clause-run : goal.returns-in-Check-clause-run
-returns-in-Check-clause-run g c = λ _. rw c.in-Check.is c.check.ensures.run
+returns-in-Check-clause-run g c = rw c.in-Check.is c.check.ensures.run
 
 pub returns-in-Print-clause-run : goal.returns-in-Print-clause-run
-returns-in-Print-clause-run g c = λ _. rw c.in-Print.is c.print.ensures.run
+returns-in-Print-clause-run g c = rw c.in-Print.is c.print.ensures.run
 
 pub returns-in-Inline-clause-run : goal.returns-in-Inline-clause-run
-returns-in-Inline-clause-run g c = λ _. rw c.in-Inline.is c.inline.ensures.run
+returns-in-Inline-clause-run g c = rw c.in-Inline.is c.inline.ensures.run
+
+pub returns-in-Run-clause-run : goal.returns-in-Run-clause-run
+returns-in-Run-clause-run g c = rw c.in-Run.is c.run.ensures.run

@@ -1,0 +1,121 @@
+#!/usr/bin/env python3
+"""Steps a second of `run`, and its memory at a deep recursion.
+
+    python3 bench/run.py PATH/clifinl
+
+`rt ci`, or `rt run` in crates/clifinl, builds the program and leaves it in out/. Each loop is run once and twice as long;
+the time is the processor's, the median of five runs, less that of a run of no step. Wanted: 25 million steps a second of
+arithmetic and 10 million of the others, a million frames within 250 MB, twice the steps in at most 2.1 times the time."""
+import os
+import statistics
+import subprocess
+import sys
+import tempfile
+
+TURNS = 5
+
+TEXT = '''function %arithmetic(i64) -> i64 {
+block0(v0: i64):
+    v1 = iconst.i64 0
+    jump block1(v0, v1)
+
+block1(v2: i64, v3: i64):
+    v4 = imul_imm v3, 3
+    v5 = iadd v4, v2
+    v6 = bxor v5, v3
+    v7 = iadd_imm v2, -1
+    brif v7, block1(v7, v6), block2
+
+block2:
+    return v6
+}
+
+function %calls(i64) -> i64 {
+    fn0 = %calls(i64) -> i64
+
+block0(v0: i64):
+    brif v0, block1, block2
+
+block1:
+    v1 = iadd_imm v0, -1
+    v2 = call fn0(v1)
+    v3 = iadd_imm v2, 1
+    return v3
+
+block2:
+    return v0
+}
+
+function %memory(i64) {
+block0(v0: i64):
+    jump block1(v0)
+
+block1(v1: i64):
+    v2 = band_imm v1, 4088
+    v3 = load.i64 v2
+    v4 = iadd v3, v1
+    store v4, v2
+    v5 = iadd_imm v1, -1
+    brif v5, block1(v5), block2
+
+block2:
+    return
+}
+
+function %tables(i64) {
+block0(v0: i64):
+    jump block1(v0)
+
+block1(v1: i64):
+    v2 = ireduce.i32 v1
+    v3 = band_imm v2, 3
+    v4 = iadd_imm v1, -1
+    br_table v3, block2(v4), [block2(v4), block3(v4), block2(v4)]
+
+block2(v5: i64):
+    brif v5, block1(v5), block4
+
+block3(v6: i64):
+    jump block2(v6)
+
+block4:
+    return
+}
+'''
+
+# the entry, how often its loop runs, and about how many steps a turn takes
+LOOPS = [('arithmetic', 4_000_000, 5), ('calls', 1_000_000, 5), ('memory', 2_000_000, 6), ('tables', 2_000_000, 5.25)]
+
+
+def run(program, path, entry, turns):
+    """The processor's seconds and the peak memory in bytes."""
+    words = [program, 'run', '--entry', '%' + entry, '--args', str(turns), '--steps', '1000000000']
+    with open(path, 'rb') as text, open(os.devnull, 'wb') as out:
+        process = subprocess.Popen(words, stdin=text, stdout=out)
+        _, status, usage = os.wait4(process.pid, 0)
+    if status != 0:
+        sys.exit('%s ended with %d' % (' '.join(words), os.waitstatus_to_exitcode(status)))
+    return usage.ru_utime + usage.ru_stime, usage.ru_maxrss * 1024
+
+
+def median(program, path, entry, turns):
+    runs = [run(program, path, entry, turns) for _ in range(TURNS)]
+    return statistics.median(it[0] for it in runs), max(it[1] for it in runs)
+
+
+def main():
+    program = os.path.abspath(sys.argv[1])
+    with tempfile.TemporaryDirectory() as folder:
+        path = os.path.join(folder, 'text')
+        with open(path, 'w') as file:
+            file.write(TEXT)
+        for entry, turns, steps in LOOPS:
+            idle, _ = median(program, path, entry, 1)
+            once, memory = median(program, path, entry, turns)
+            twice, _ = median(program, path, entry, 2 * turns)
+            print('%-10s %5.1f million steps a second, twice %.2f times, %4.0f MB' % (
+                entry, turns * steps / (once - idle) / 1e6, (twice - idle) / (once - idle), memory / 1e6))
+
+
+if __name__ == '__main__':
+    main()

@@ -8,11 +8,10 @@ of calls and 60 MB of large bodies (SCALE times as much): the median of five run
 one of them, as a multiple of `wc -w`, and the most memory that a run held, a byte of text. Then texts of one shape each,
 once and twice as large: twice the text should take at most 2.2 times the time, by the processor's clock."""
 import os
-import statistics
-import subprocess
 import sys
 import tempfile
-import time
+
+from timing import median, run
 
 TURNS = 5
 
@@ -77,26 +76,13 @@ SHAPES = {
 }
 
 
-def run(words, path):
-    """The clock's seconds, the processor's, and the peak memory in bytes, of one run over the file."""
-    with open(path, 'rb') as text, open(os.devnull, 'wb') as out:
-        begin = time.monotonic()
-        process = subprocess.Popen(words, stdin=text, stdout=out)
-        _, status, usage = os.wait4(process.pid, 0)
-        clock = time.monotonic() - begin
-    if status != 0:
-        sys.exit('%s ended with %d' % (' '.join(words), os.waitstatus_to_exitcode(status)))
-    return clock, usage.ru_utime + usage.ru_stime, usage.ru_maxrss * 1024
-
-
 def medians(jobs, path):
     """Of each job the medians of its runs and its most memory; the jobs take turns."""
     found = {name: [] for name in jobs}
     for _ in range(TURNS):
         for name, words in jobs.items():
             found[name].append(run(words, path))
-    return {name: (statistics.median(it[0] for it in runs), statistics.median(it[1] for it in runs), max(it[2] for it in runs))
-            for name, runs in found.items()}
+    return {name: median(runs) for name, runs in found.items()}
 
 
 def main():
@@ -113,10 +99,10 @@ def main():
             with open(path, 'w') as file:
                 file.write(text)
             found = medians(jobs, path)
-            words = found['wc -w'][0]
+            words = found['wc -w'].clock
             print('%s, %.1f MB: wc -w %.3f s' % (name, len(text) / 1e6, words))
             for job in list(jobs)[1:]:
-                clock, _, memory = found[job]
+                clock, memory = found[job].clock, found[job].memory
                 print('  %-22s %.3f s, %.2f times wc -w, %.1f bytes a byte of text' % (job, clock, clock / words, memory / len(text)))
         for name, (count, make) in SHAPES.items():
             both = []
@@ -124,7 +110,7 @@ def main():
                 with open(path, 'w') as file:
                     file.write(text)
                 both.append(medians({it: [program, it] for it in ('check', 'print')}, path))
-            print('%d %s:' % (count, name), ', '.join('%s %.3f s, twice %.2f times' % (it, both[0][it][1], both[1][it][1] / both[0][it][1]) for it in ('check', 'print')))
+            print('%d %s:' % (count, name), ', '.join('%s %.3f s, twice %.2f times' % (it, both[0][it].processor, both[1][it].processor / both[0][it].processor) for it in ('check', 'print')))
 
 
 if __name__ == '__main__':

@@ -10,11 +10,10 @@ the whole takes. (Twice 60 MB is more than a text may have, so the half stands f
 of it.)"""
 import os
 import random
-import resource
-import subprocess
 import sys
 import tempfile
-import time
+
+from timing import run
 
 TURNS = 5
 
@@ -38,18 +37,6 @@ def text_of(size, seed=1):
     return ''.join(parts)
 
 
-def run(words, path):
-    """Seconds by the clock, seconds of the processor, and peak memory in bytes of one run over the file."""
-    with open(path, 'rb') as text, open(os.devnull, 'wb') as out:
-        begin = time.monotonic()
-        process = subprocess.Popen(words, stdin=text, stdout=out)
-        _, status, usage = os.wait4(process.pid, 0)
-        seconds = time.monotonic() - begin
-    if status != 0:
-        sys.exit('%s ended with %d' % (' '.join(words), os.waitstatus_to_exitcode(status)))
-    return seconds, usage.ru_utime + usage.ru_stime, usage.ru_maxrss * 1024
-
-
 def measure(program, paths):
     """For each file the least times of each program, by the clock and of the processor, and the memory of the first.
     The files and the programs take turns, so that what disturbs the machine for a while disturbs them alike."""
@@ -60,7 +47,7 @@ def measure(program, paths):
             own[path].append(run([program, 'inline'], path))
             words[path].append(run(['wc', '-w'], path))
     least = lambda runs: [min(it[clock] for it in runs) for clock in (0, 1)]
-    return [(least(own[path]), least(words[path]), max(it[2] for it in own[path])) for path in paths]
+    return [(least(own[path]), least(words[path]), max(it.memory for it in own[path])) for path in paths]
 
 
 def main():

@@ -13,11 +13,10 @@ First a text of about 60 MB whose bodies have all forms. Then texts of one shape
 text should take at most 2.2 times the time."""
 import os
 import random
-import statistics
-import subprocess
 import sys
 import tempfile
-import time
+
+from timing import median, run
 
 TURNS = 9
 
@@ -125,18 +124,6 @@ SHAPES = {
 }
 
 
-def run(words, path):
-    """The processor's seconds, the clock's, and the peak memory in bytes, of one run over the file."""
-    with open(path, 'rb') as text, open(os.devnull, 'wb') as out:
-        begin = time.monotonic()
-        process = subprocess.Popen(words, stdin=text, stdout=out)
-        _, status, usage = os.wait4(process.pid, 0)
-        clock = time.monotonic() - begin
-    if status != 0:
-        sys.exit('%s ended with %d' % (' '.join(words), os.waitstatus_to_exitcode(status)))
-    return usage.ru_utime + usage.ru_stime, clock, usage.ru_maxrss * 1024
-
-
 def measured(program, texts):
     """For each text the median times and the memory of each step, and of `wc -w`. The texts take turns, so that what
     disturbs the machine for a while disturbs them alike."""
@@ -151,18 +138,13 @@ def measured(program, texts):
             for path, runs in zip(paths, found):
                 for step, words in steps.items():
                     runs[step].append(run(words, path))
-    return [{step: summary(it) for step, it in runs.items()} for runs in found]
+    return [{step: median(it) for step, it in runs.items()} for runs in found]
 
 
-def summary(runs):
-    """The median of the processor's seconds and of the clock's, and the most memory, of some runs."""
-    return statistics.median(run[0] for run in runs), statistics.median(run[1] for run in runs), max(run[2] for run in runs)
-
-
-def net(found, step):
+def net(found, shown):
     """A step's seconds, less those of reading the bytes: the processor's, or the clock's where several workers read."""
-    watch = 1 if STEPS[step][1] else 0
-    return max(found[step][watch] - found['bytes'][watch], 1e-3)
+    took = lambda step: found[step].clock if STEPS[shown][1] else found[step].processor
+    return max(took(shown) - took('bytes'), 1e-3)
 
 
 def main():
@@ -174,8 +156,8 @@ def main():
     print('%.1f MB with all forms' % (length / 1e6))
     for step in SHOWN:
         seconds = net(found, step)
-        print('  %-18s %.3f s, %4.0f MB/s, %.1f bytes a byte of text' % (step, seconds, length / 1e6 / seconds, found[step][2] / length))
-    print('  wc -w              %.3f s, %4.0f MB/s' % (found['wc'][0], length / 1e6 / found['wc'][0]))
+        print('  %-18s %.3f s, %4.0f MB/s, %.1f bytes a byte of text' % (step, seconds, length / 1e6 / seconds, found[step].memory / length))
+    print('  wc -w              %.3f s, %4.0f MB/s' % (found['wc'].processor, length / 1e6 / found['wc'].processor))
     for name, (count, make) in SHAPES.items():
         once, twice = make(count), make(2 * count)
         first, second = measured(program, [once, twice])

@@ -7,10 +7,10 @@
 the time is the processor's, the median of five runs, less that of a run of no step. Wanted: 25 million steps a second of
 arithmetic and 10 million of the others, a million frames within 250 MB, twice the steps in at most 2.1 times the time."""
 import os
-import statistics
-import subprocess
 import sys
 import tempfile
+
+from timing import median, run
 
 TURNS = 5
 
@@ -87,20 +87,10 @@ block4:
 LOOPS = [('arithmetic', 4_000_000, 5), ('calls', 1_000_000, 5), ('memory', 2_000_000, 6), ('tables', 2_000_000, 5.25)]
 
 
-def run(program, path, entry, turns):
-    """The processor's seconds and the peak memory in bytes."""
+def measured(program, path, entry, turns):
+    """What a run of so many turns took."""
     words = [program, 'run', '--entry', '%' + entry, '--args', str(turns), '--steps', '1000000000']
-    with open(path, 'rb') as text, open(os.devnull, 'wb') as out:
-        process = subprocess.Popen(words, stdin=text, stdout=out)
-        _, status, usage = os.wait4(process.pid, 0)
-    if status != 0:
-        sys.exit('%s ended with %d' % (' '.join(words), os.waitstatus_to_exitcode(status)))
-    return usage.ru_utime + usage.ru_stime, usage.ru_maxrss * 1024
-
-
-def median(program, path, entry, turns):
-    runs = [run(program, path, entry, turns) for _ in range(TURNS)]
-    return statistics.median(it[0] for it in runs), max(it[1] for it in runs)
+    return median([run(words, path) for _ in range(TURNS)])
 
 
 def main():
@@ -110,11 +100,12 @@ def main():
         with open(path, 'w') as file:
             file.write(TEXT)
         for entry, turns, steps in LOOPS:
-            idle, _ = median(program, path, entry, 1)
-            once, memory = median(program, path, entry, turns)
-            twice, _ = median(program, path, entry, 2 * turns)
+            idle = measured(program, path, entry, 1).processor
+            once = measured(program, path, entry, turns)
+            twice = measured(program, path, entry, 2 * turns)
             print('%-10s %5.1f million steps a second, twice %.2f times, %4.0f MB' % (
-                entry, turns * steps / (once - idle) / 1e6, (twice - idle) / (once - idle), memory / 1e6))
+                entry, turns * steps / (once.processor - idle) / 1e6,
+                (twice.processor - idle) / (once.processor - idle), once.memory / 1e6))
 
 
 if __name__ == '__main__':

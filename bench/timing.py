@@ -1,0 +1,31 @@
+"""One run of a program over a file, with what it took."""
+import os
+import statistics
+import subprocess
+import sys
+import time
+from typing import NamedTuple
+
+
+class Run(NamedTuple):
+    """Seconds by the clock, seconds of the processor (user and system), and the peak memory in bytes."""
+    clock: float
+    processor: float
+    memory: int
+
+
+def run(words, path):
+    """Runs these words over the file; a run that fails ends the measurement."""
+    with open(path, 'rb') as text, open(os.devnull, 'wb') as out:
+        begin = time.monotonic()
+        process = subprocess.Popen(words, stdin=text, stdout=out)
+        _, status, usage = os.wait4(process.pid, 0)
+        clock = time.monotonic() - begin
+    if status != 0:
+        sys.exit('%s ended with %d' % (' '.join(words), os.waitstatus_to_exitcode(status)))
+    return Run(clock, usage.ru_utime + usage.ru_stime, usage.ru_maxrss * 1024)
+
+
+def median(runs):
+    """The medians of the times of some runs, and their most memory."""
+    return Run(statistics.median(it.clock for it in runs), statistics.median(it.processor for it in runs), max(it.memory for it in runs))

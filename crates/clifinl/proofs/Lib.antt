@@ -4,4 +4,5 @@ pub mod Telling
 pub mod Beginnings
 pub mod Spots
 pub mod RunEnds
+pub mod InlineEnds
 pub mod Asked

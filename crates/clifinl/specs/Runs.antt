@@ -5,9 +5,7 @@ use Rattle.clk_flow.specs.Faults.{Rose}
 use Rattle.clk_flow.specs.Whole.{AppendsPrefix}
 use Rattle.clif_lex.specs.declared.faults.Place.{Place}
 use Rattle.clif_lex.specs.declared.faults.TextKind.{TextKind}
-use Rattle.clif_lex.specs.declared.faults.TextKind.TheVariants as kind
 use Rattle.clif_lex.specs.Places.{line_at, column_at}
-use Rattle.clif_read.specs.SimpleModule as simple
 use Rattle.clif_check.specs.Faults.{FirstFault}
 use Rattle.ir_core.specs.Module.{Module}
 use Rattle.clifinl.specs.declared.status.Status.{Status}
@@ -40,12 +38,6 @@ pub record IsPlaceOf (text : List ℕ) (spot : ℕ) (place : Place) : Type 0 whe
 -- the text's first fault is of this kind, and its byte stands there
 abbrev pub IsFirstFault : List ℕ → TextKind → Place → Type 0
 IsFirstFault text k place = (spot : ℕ) × FirstFault text k spot × IsPlaceOf text spot place
-
--- a text that is no simple one is refused at its beginning
-pub record IsNotSimple (text : List ℕ) (k : TextKind) (place : Place) : Type 0 where
-  pub none : (m : Module) → simple.Reads text m → ⊥
-  pub named : k ≡ kind.Syntax
-  pub at_start : place ≡ record { line = 1; column = 1 }
 
 -- ---- a run
 

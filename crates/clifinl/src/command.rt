@@ -36,15 +36,15 @@ fn carry_out<R: Threads + Wait + Sync, I: Source, O: Sink>(
     match settings {
         Settings::Check => check(rt, alloc, input, out),
         Settings::Print => print(rt, alloc, input, out),
-        Settings::Inline(options) => inline(rt, alloc, options.workers, input, out),
+        Settings::Inline(options) => inline(rt, alloc, options, input, out),
         Settings::Run(options) => run(rt, alloc, options, input, out),
     }
 }
 
 /// All that the program does, by the words of its command line: `check` and `print` read a module from `input`, and
 /// write to `out` how many functions it has, and its canonical text; `run` runs a function of it, and writes what the
-/// run did; `inline` writes the text of the module with its calls inlined. A refusal is told on `err` in one line, and
-/// nothing passes the gate yet.
+/// run did; `inline` writes the canonical text of the module with its calls inlined, from callees to callers, as the sizes
+/// of the settings allow. A refusal is told on `err` in one line, and nothing passes the gate yet.
 pub fn command<R: Threads + Wait + Sync, I: Source, O: Sink, E: Sink, G: Gate>(
     rt: &R,
     alloc: Global,

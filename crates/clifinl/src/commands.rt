@@ -1,17 +1,19 @@
 //! The commands.
-ghost use Rattle.std.specs.Prelude.{◌≡◌, ◌<◌, ◌⊎◌, IfErr, IfOk};
+ghost use Rattle.std.specs.Prelude.{◌≡◌, ◌⊎◌};
 ghost use Rattle.clif_check.specs.Faults.{IsAccepted};
-ghost use Rattle.clif_read.specs.SimpleModule.{Reads};
+ghost use Rattle.inlined_reads.specs.Laws.{inlined_text};
 ghost use Rattle.ir_text.specs.Text.{text_of};
-ghost use Rattle.clifinl.specs.Runs.{IsFirstFault, IsNotSimple, IsRun, Stopped, Took, count_line, outside};
+ghost use Rattle.settings.specs.Shown.{inline_shown};
+ghost use Rattle.clifinl.specs.InlineCommand.{IsInlineRun, policy_of};
+ghost use Rattle.clifinl.specs.Runs.{IsFirstFault, IsRun, Wrote, count_line, outside};
 
-use crate::reading::{read_input, read_module};
-use crate::status::{Refusal, Status};
+use crate::reading::read_module;
+use crate::status::Status;
 use crate::writing::{write_count, write_text};
-use clif_lex::{Place, TextKind};
-use clif_read::{SimpleErr, read_simple_text};
 use clk_flow::{Sink, Source};
-use ir_core::Module;
+use inline_finish::{Policy, pass};
+use ir_check::Checked;
+use settings::InlineSettings;
 use std::alloc::Global;
 use std::mem::forget;
 use std::sync::Wait;
@@ -65,56 +67,54 @@ pub(crate) fn print<R: Threads + Wait + Sync, I: Source, O: Sink>(
     }
 }
 
-/// Reads a simple module by so many workers and writes its canonical text. It has no call, so that this is the text of
-/// the module with its calls inlined.
+/// Reads a module and writes the canonical text of its finished bodies, where it is accepted. The workers share the job
+/// of reading and of printing; what is written does not depend on their number.
 pub(crate) fn inline<R: Threads + Wait + Sync, I: Source, O: Sink>(
     rt: &R,
     alloc: Global,
-    workers: usize,
+    options: &InlineSettings,
     input: &mut I,
     out: &mut O,
 ) -> Status
-    requires { 0 < workers }
-    ensures run { IsRun Reads IsNotSimple text_of
+    ensures run { IsInlineRun (inline_shown options.now)
         (outside (I.left input.old) (I.faults input.old) (O.written out.old) (O.faults out.old))
         (outside (I.left input.new) (I.faults input.new) (O.written out.new) (O.faults out.new)) result }
     ensures nothing { (out.new ≡ out.old) ⊎ ((result ≡ Status.Done) ⊎ (result ≡ Status.WriteFault)) }
 {
-    match read_simple_module(rt, alloc, workers, input) {
-        Ok(module) => {
-            let status = write_text(rt, alloc, &module, workers, out);
-            forget(module);
+    inlined_reads::laws::inlined_text_is_kept();
+    match read_module(rt, alloc, options.workers, input) {
+        Ok(checked) => {
+            let status = write_inlined(rt, alloc, &checked, options, out);
+            forget(checked);
             status
         }
         Err(status) => status,
     }
 }
 
-/// The module of the source's text, where it is a simple one, read by so many workers.
-///
-/// # Errors
-///
-/// The status of a run that stops here.
-fn read_simple_module<R: Threads + Wait + Sync, I: Source>(
+/// Writes the canonical text of a module's finished bodies.
+fn write_inlined<R: Threads + Wait + Sync, O: Sink>(
     rt: &R,
     alloc: Global,
-    workers: usize,
-    input: &mut I,
-) -> Result<Module, Status>
-    ensures read { IfOk result (λ m. Took Reads (I.left input.old) (I.left input.new) m) }
-    ensures stopped { IfErr result (λ status. Stopped IsNotSimple (I.left input.old) (I.left input.new)
-        (I.faults input.old) (I.faults input.new) status) }
+    checked: &Checked,
+    options: &InlineSettings,
+    out: &mut O,
+) -> Status
+    ensures wrote { Wrote (inlined_text (policy_of (inline_shown options.now)) checked.now)
+        (O.written out.old) (O.written out.new) (O.faults out.old) (O.faults out.new) result }
+    ensures nothing { (out.new ≡ out.old) ⊎ ((result ≡ Status.Done) ⊎ (result ≡ Status.WriteFault)) }
 {
-    let bytes = match read_input(alloc, input) {
-        Ok(bytes) => bytes,
-        Err(status) => return Err(status),
+    inlined_reads::laws::inlined_text_is_one();
+    let policy = Policy {
+        callee_size: options.callee_size,
+        caller_size: options.caller_size,
     };
-    match read_simple_text(rt, alloc, bytes.as_slice(), workers) {
-        Ok(module) => Ok(module),
-        Err(SimpleErr::NotSimple) => {
-            let start = Place { line: 1, column: 1 };
-            Err(Status::Refused(Refusal::Text(TextKind::Syntax, start)))
+    match pass(alloc, checked, policy) {
+        Ok(passed) => {
+            let status = write_text(rt, alloc, passed.module.module(), options.workers, out);
+            forget(passed);
+            status
         }
-        Err(SimpleErr::NoMemory) => Err(Status::NoMemory),
+        Err(_) => Status::NoMemory,
     }
 }

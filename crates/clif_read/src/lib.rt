@@ -17,7 +17,6 @@ mod room;
 mod shares;
 mod sharing;
 mod signatures;
-mod simple;
 #[cfg(test)]
 mod stretch_tests;
 mod stretches;
@@ -26,11 +25,12 @@ mod tags;
 mod tests;
 mod texts;
 
+pub use ranges::{PIECE, stretch_end};
 pub use raw::{
     RawAttribute, RawBlock, RawBlockParam, RawCalleeSig, RawDecl, RawFuncName, RawFunction,
     RawLine, RawModule, RawParam, RawSignature, RawTag,
 };
+pub use room::make_room;
 pub use shares::read_raw;
-pub use simple::{SimpleErr, read_simple, read_simple_text};
 pub use stretches::{read_text, read_text_alone};
 pub use texts::read_raw_alone;

@@ -1,10 +1,6 @@
 -- Runs by the command.
 use Rattle.std.proofs.Common.{◌≡◌, subst}
 use Rattle.clif_check.specs.Faults.{IsAccepted}
-<<<<<<< HEAD
-=======
-use Rattle.simple_read.specs.SimpleModule as simple
->>>>>>> 76e6f12084c24e0dce8e5bfade544449544ce4d7
 use Rattle.ir_text.specs.Text.{text_of}
 use Rattle.settings.specs.Settings.{Settings, Check, Print, Inline, Run}
 use Rattle.clifinl.specs.declared.status.Status.{Status}

@@ -18,7 +18,7 @@ use ir_core::{Block, Func, Inst, List, Point, Room, Value};
 use std::alloc::{AllocError, Global};
 
 /// The arguments of a call; no values where the instruction is none.
-fn call_args(inst: &Inst) -> &[Value]
+pub fn call_args(inst: &Inst) -> &[Value]
     ensures { result.now ≡ args_of (instruction_of inst.now) }
 {
     match inst {

@@ -9,7 +9,7 @@ use ir_core::{Func, Point};
 use std::alloc::{AllocError, Global};
 
 /// The number of blocks.
-fn count_blocks(func: &Func) -> usize
+pub fn count_blocks(func: &Func) -> usize
     ensures { result ≡ length func.now.function.blocks }
 {
     func.blocks().count()

@@ -1,7 +1,5 @@
 //! A callee's body made ready for a tail call, before the caller is changed.
 ghost use Rattle.std.specs.Prelude.{◌≡◌, length, IfOk};
-ghost use Rattle.ir_core.specs.Viewed.{instruction_of};
-ghost use Rattle.ir_semantics.specs.Splice.{args_of};
 ghost use Rattle.body_import.specs.Imports.{IsIndexOf};
 ghost use Rattle.inline_ends.specs.TailCall.{CanSpliceTail};
 ghost use Rattle.inline_ends.specs.LastBody.{IsLastPrepared};
@@ -9,24 +7,9 @@ ghost use Rattle.inline_ends.specs.LastBody.{IsLastPrepared};
 use crate::copying::copy_blocks;
 use crate::numbers::number_blocks;
 use body_import::{Import, Index, plan_import};
-use inline_body::{Names, PreparedBody, jump, new_types};
-use ir_core::{Block, Func, Inst, List, Point, Value};
+use inline_body::{Names, PreparedBody, call_args, jump, new_types};
+use ir_core::{Block, Func, List, Point};
 use std::alloc::{AllocError, Global};
-
-/// The arguments of a call; no values where the instruction is none.
-pub(crate) fn call_args(inst: &Inst) -> &[Value]
-    ensures { result.now ≡ args_of (instruction_of inst.now) }
-{
-    match inst {
-        Inst::Call { args, .. } => args.as_slice(),
-        Inst::ReturnCall { args, .. } => args.as_slice(),
-        Inst::TryCall { args, .. } => args.as_slice(),
-        Inst::CallIndirect { args, .. } => args.as_slice(),
-        Inst::ReturnCallIndirect { args, .. } => args.as_slice(),
-        Inst::TryCallIndirect { args, .. } => args.as_slice(),
-        _ => &[],
-    }
-}
 
 /// A callee's body for a tail call of a caller that has so many blocks, and whose declarations have the index. The
 /// caller stays as it is. Time is the callee's size, times the logarithm of the number of declarations. Only

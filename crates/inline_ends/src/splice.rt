@@ -1,21 +1,14 @@
 //! A tail call replaced by its callee's body.
-ghost use Rattle.std.specs.Prelude.{◌≡◌, length, OnOk, OnErr};
+ghost use Rattle.std.specs.Prelude.{◌≡◌, OnOk, OnErr};
 ghost use Rattle.inline_body.specs.PlainCall.{IsSplice};
 ghost use Rattle.inline_ends.specs.TailCall.{CanSpliceTail};
 
 use crate::piece::put_last_piece;
 use crate::prepare::prepare_tail;
 use body_import::index_declarations;
-use inline_body::body_room;
+use inline_body::{body_room, count_blocks};
 use ir_core::{Func, Point};
 use std::alloc::{AllocError, Global};
-
-/// The number of blocks.
-pub(crate) fn count_blocks(func: &Func) -> usize
-    ensures { result ≡ length func.now.function.blocks }
-{
-    func.blocks().count()
-}
 
 /// Replaces a tail call by its callee's body. After `AllocError` the caller is as before. Time is the size of both,
 /// times the logarithm of the number of declarations.

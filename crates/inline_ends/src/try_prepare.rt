@@ -6,12 +6,11 @@ ghost use Rattle.body_import.specs.Imports.{IsIndexOf};
 ghost use Rattle.inline_ends.specs.TryCallSite.{IsTryCall, CanSpliceTry};
 ghost use Rattle.inline_ends.specs.LastBody.{IsLastPrepared};
 
-use crate::prepare::call_args;
 use crate::try_body::try_blocks;
 use crate::try_numbers::number_try_blocks;
 use crate::trying::TrySite;
 use body_import::{Import, Index, plan_import};
-use inline_body::{Names, PreparedBody, jump, new_types};
+use inline_body::{Names, PreparedBody, call_args, jump, new_types};
 use ir_core::{Block, Callee, Func, Inst, InstData, List, Point};
 use std::alloc::{AllocError, Global};
 

@@ -4,10 +4,9 @@ ghost use Rattle.inline_body.specs.PlainCall.{IsSplice};
 ghost use Rattle.inline_ends.specs.TryCallSite.{CanSpliceTry};
 
 use crate::piece::put_last_piece;
-use crate::splice::count_blocks;
 use crate::try_prepare::prepare_try;
 use body_import::index_declarations;
-use inline_body::body_room;
+use inline_body::{body_room, count_blocks};
 use ir_core::{Func, Point};
 use std::alloc::{AllocError, Global};
 

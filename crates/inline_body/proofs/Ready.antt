@@ -373,8 +373,8 @@ module _ (f g : Function) (at : Point) (sf : IsSound f) (sg : IsSound g) (can : 
           results = sym made.results;
         }
 
-    pub prepared : IsPrepared f g at q
-    prepared = record { ready = ready; line = can.line; found = can.found; naming = naming; keeps = record { caller_value = λ v. refl; caller_block = λ b. refl; after = refl }; is_body = is_body }
+    pub prepared : IsPrepared f g at i q
+    prepared = record { ready = ready; line = can.line; found = can.found; naming = naming; keeps = record { caller_value = λ v. refl; caller_block = λ b. refl; after = refl }; is_body = is_body; sigs = made.piece_sigs; callees = made.piece_callees }
 
 -- ---- the splice by its place
 

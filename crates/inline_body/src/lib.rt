@@ -21,7 +21,7 @@ pub use appending::append_to_blocks;
 pub use blocks::{BlockLines, InlinedBlocks, inline_blocks};
 pub use copies::{copy_inst, copy_tags};
 pub use inserting::insert_blocks;
-pub use lines::{copy_lines, inline_lines, jump};
+pub use lines::{copy_line, copy_lines, inline_lines, jump, line_with};
 pub use names::Names;
 pub use numbers::renumber_values;
 pub use piece::{PreparedBody, put_piece};

@@ -150,7 +150,7 @@ module _ (f g : Function) (at : Point) (l : Line) (i : Import) (imp : IsImportOf
         → ((c : ℕ) (j : Instruction) → new_types_by own_splicing c (kind_of l.inst) j ≡ [])
         → 0 < length g.blocks → get_or n.blocks (first_number g.blocks) 0 ≡ length f.blocks
         → body own_splicing g.blocks ≡ B
-        → IsLastPrepared f g at q
+        → IsLastPrepared f g at i q
     prepared sg is_ready found none_behind none some first body_is =
         record {
           ready = is_ready;
@@ -172,12 +172,14 @@ module _ (f g : Function) (at : Point) (l : Line) (i : Import) (imp : IsImportOf
             jump = first_is g.blocks some first;
             body = body_is ∙ sym made.body;
           };
+          sigs = made.piece_sigs;
+          callees = made.piece_callees;
         }
 
 -- ---- the splice
 
-pub is_splice : (f g h k : Function) (at : Point) (q : PreparedBody) → IsLastPrepared f g at q → h ≡ f → ((p : Splicing) → IsLastBodyOf p h at q → k ≡ spliced p) → IsSplice f g at k
-is_splice f g h k at q made same put =
+pub is_splice : (f g h k : Function) (at : Point) (i : Import) (q : PreparedBody) → IsLastPrepared f g at i q → h ≡ f → ((p : Splicing) → IsLastBodyOf p h at q → k ≡ spliced p) → IsSplice f g at k
+is_splice f g h k at i q made same put =
     record {
       naming = made.naming;
       keeps = made.keeps;

@@ -90,7 +90,7 @@ module _ (f g : Function) (at : Point) (sf : IsSound f) (sg : IsSound g) (can : 
       body_undefined : (v : ℕ) → In v (definitions B) → In v (definitions f.blocks) → ⊥
       body_undefined v j k = moved_undefined f g sf n values v (subst (In v) (blocks_define n l.tags g.blocks) j) k
 
-      pub tail_prepared : IsLastPrepared f g at q
+      pub tail_prepared : IsLastPrepared f g at i q
       tail_prepared =
           let m = many in
           let some : 0 < length B = let h = can.has_block in omega (arith, h, m) in

@@ -175,7 +175,7 @@ module _ (f g : Function) (at : Point) (sf : IsSound f) (sg : IsSound g) (can : 
       body_undefined : (v : ℕ) → In v (definitions B) → In v (definitions f.blocks) → ⊥
       body_undefined v j k = moved_undefined f g sf n values v ((tried_define n s g.blocks).inside v j) k
 
-      pub try_prepared : IsLastPrepared f g at q
+      pub try_prepared : IsLastPrepared f g at i q
       try_prepared =
           let m = many in
           let some : 0 < length B = let h = can.has_block in omega (arith, h, m) in

@@ -1,10 +1,10 @@
 //! What no clause says: that a text is read in stretches, whatever the number of workers and the size of a stretch.
 
-use crate::RawModule;
-use crate::shares::{read_in_shares, read_raw_by};
-use crate::stretches::{read_in_stretches, read_text, read_text_by};
-use crate::tests::read;
+use crate::modules::read;
 use clif_lex::{TextErr, tokens};
+use clif_read::{
+    RawModule, read_in_shares, read_in_stretches, read_raw_by, read_text, read_text_by,
+};
 use std::alloc::{AllocError, Global};
 use std::thread::Threads;
 

@@ -1,8 +1,8 @@
 //! Names, signatures, declarations and heads of blocks in texts: what is read, and where reading stops.
 
-use crate::tests::{fault, read};
-use crate::{RawAttribute, RawCalleeSig, RawDecl, RawFuncName, RawFunction, RawSignature};
+use crate::modules::{fault, read};
 use clif_insts::{RawName, RawNumber};
+use clif_read::{RawAttribute, RawCalleeSig, RawDecl, RawFuncName, RawFunction, RawSignature};
 use ir_core::{Conv, Ty};
 
 #[test]

@@ -1,7 +1,7 @@
 //! That each form of the language is read.
 
-use crate::RawLine;
-use crate::tests::read;
+use crate::modules::read;
+use clif_read::RawLine;
 
 /// Each opcode, each of its forms, each word that may stand in them, each attribute and each declaration.
 const EVERYTHING: &str = "test run

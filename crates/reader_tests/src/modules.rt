@@ -1,8 +1,8 @@
 //! What no clause says: that the definitions are what the text form of CLIF asks for, and that modules are read.
 
-use crate::{RawLine, RawModule, read_raw};
 use clif_insts::RawOperands;
 use clif_lex::{TextErr, TextKind, place, tokens};
+use clif_read::{RawLine, RawModule, read_raw};
 use std::alloc::{AllocError, Global};
 use std::thread::Threads;
 

@@ -1,7 +1,7 @@
 //! What no clause says: that the faults are those that the text form of CLIF asks for, and that they are found.
 
-use crate::{FunctionNames, first_fault, function_size};
 use clif_lex::{TextErr, tokens};
+use clif_names::{FunctionNames, first_fault, function_size};
 use clif_read::read_raw_alone;
 use std::alloc::Global;
 use std::test::Fail;

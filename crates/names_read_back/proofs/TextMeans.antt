@@ -62,7 +62,7 @@ defs_bare r = ap (flat_map step_defs) (steps_bare r) ∙ flat_bare step_defs bar
 
 -- ---- no alias lines
 
-pub no_target : (t : Option RawName) → bare.bare_option bare.bare_name t ≡ None → t ≡ None
+no_target : (t : Option RawName) → bare.bare_option bare.bare_name t ≡ None → t ≡ None
 no_target None e = refl
 no_target (Some x) e = absurd cc
 

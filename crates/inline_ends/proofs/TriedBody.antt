@@ -56,17 +56,17 @@ take_front [] ys = refl
 take_front (x ∷ xs) ys = ap (λ z. x ∷ z) (take_front xs ys)
 
 module _ (p : Splicing) (n : Names) (s : OuterTry) (is : TryNumbers p n s) where
-  own : IsNumbering p n
-  own = record { value = is.value; block = is.block; slots = is.slots; sig = is.sig; callee = is.callee }
+  numbering : IsNumbering p n
+  numbering = record { value = is.value; block = is.block; slots = is.slots; sig = is.sig; callee = is.callee }
 
   same : (k : ℕ) → k ≡ k
   same k = refl
 
   tags_are : (i : Instruction) (ts : List Tag) → joined_tags p i ts ≡ copied_tags n s.tags i ts
-  tags_are i ts = joined_are p n own i ts ∙ ap (λ (z : List Tag). copied_tags n z i ts) is.tags
+  tags_are i ts = joined_are p n numbering i ts ∙ ap (λ (z : List Tag). copied_tags n z i ts) is.tags
 
   copied_is : (l : Line) → callee_line p l ≡ copied_line n s.tags l
-  copied_is l = line_is p n own l ∙ ap (λ (z : List Tag). copied_line n z l) is.tags
+  copied_is l = line_is p n numbering l ∙ ap (λ (z : List Tag). copied_line n z l) is.tags
 
   -- ---- the site's target and table
 
@@ -82,7 +82,7 @@ module _ (p : Splicing) (n : Names) (s : OuterTry) (is : TryNumbers p n s) where
   args_are : (vs : List ℕ) (as' : List Arg) → map (returned_arg p vs) as' ≡ map (arg_returned (map (names_of n).value vs)) as'
   args_are vs [] = refl
   args_are vs (arg.Value v ∷ as') = ap₂ (λ (x : ℕ) (z : List Arg). arg.Value x ∷ z) (is.caller_value v) (args_are vs as')
-  args_are vs (arg.Ret i ∷ as') = ap₂ (λ (x : List ℕ) (z : List Arg). returned_in i x ∷ z) (values_are p n own vs) (args_are vs as')
+  args_are vs (arg.Ret i ∷ as') = ap₂ (λ (x : List ℕ) (z : List Arg). returned_in i x ∷ z) (values_are p n numbering vs) (args_are vs as')
     where
       returned_in : ℕ → List ℕ → Arg
       returned_in i xs = arg_returned xs (arg.Ret i)
@@ -100,7 +100,7 @@ module _ (p : Splicing) (n : Names) (s : OuterTry) (is : TryNumbers p n s) where
   try_is : (l : Line) (i : Instruction) (t : CallTarget) (args : List ℕ) (normal target : BlockCall) → copied_tags n s.tags i l.tags ≡ s.tags ++ map (tag_under (names_of n)) l.tags → l.inst ≡ i → normal ≡ target → call_as_try p l t args normal (outer_table p s.table) ≡ try_line n s l (try_of n s t args target)
   try_is l i t args normal target tags e g =
       ap (λ (z : Instruction). record { inst = TryCall (try_target (called_under (callee_names p) t)) (named_sig p (called_under (callee_names p) t)) (map p.naming.callee_value args) normal (outer_table p s.table); ty = l.ty; results = []; tags = joined_tags p z l.tags }) e
-      ∙ (ap₂ (λ (x : CallTarget) (y : List ℕ). record { inst = TryCall (try_target x) (named_sig p x) y normal (outer_table p s.table); ty = l.ty; results = []; tags = joined_tags p i l.tags }) (called_are p n own t) (values_are p n own args)
+      ∙ (ap₂ (λ (x : CallTarget) (y : List ℕ). record { inst = TryCall (try_target x) (named_sig p x) y normal (outer_table p s.table); ty = l.ty; results = []; tags = joined_tags p i l.tags }) (called_are p n numbering t) (values_are p n numbering args)
       ∙ (ap₂ (λ (x : ℕ) (y : BlockCall). record { inst = TryCall (try_target (called_under (names_of n) t)) x (map (names_of n).value args) y (outer_table p s.table); ty = l.ty; results = []; tags = joined_tags p i l.tags }) (sig_is (called_under (names_of n) t)) g
       ∙ ap₂ (λ (x : List (Entry BlockCall)) (y : List Tag). record { inst = TryCall (try_target (called_under (names_of n) t)) (sig_called s.callees (called_under (names_of n) t)) (map (names_of n).value args) target x; ty = l.ty; results = []; tags = y }) outer_is (tags_are i l.tags ∙ tags)))
 
@@ -118,13 +118,13 @@ module _ (p : Splicing) (n : Names) (s : OuterTry) (is : TryNumbers p n s) where
   step c j next l (Call t args) q e g =
       ap₂ (λ (x : Line) (y : Block). record { lines = x ∷ []; more = y ∷ q.more })
       (try_is l (Call t args) t args (to_rest p c j l) (to_next next l) refl e (ap (λ (z : ℕ). to_next z l) g))
-      (ap₂ (λ (x : ℕ) (y : List ℕ). record { number = x; params = y; lines = q.lines }) g (values_are p n own l.results))
+      (ap₂ (λ (x : ℕ) (y : List ℕ). record { number = x; params = y; lines = q.lines }) g (values_are p n numbering l.results))
   step c j next l (ReturnCall t args) q e g = ap (λ (z : Line). fronted z q) (try_is l (ReturnCall t args) t args (target_under (caller_names p) s.normal) s.normal refl e normal_is)
   step c j next l (TryCall t sig args own inner) q e g =
       let i = TryCall t sig args own inner in
       ap (λ (z : Line). fronted z q)
       (ap (λ (z : Instruction). record { inst = table_behind (outer_table p s.table) (instruction_under (callee_names p) i); ty = l.ty; results = []; tags = joined_tags p z l.tags }) e
-      ∙ (ap₂ (λ (x : Instruction) (y : List (Entry BlockCall)). record { inst = table_behind y x; ty = l.ty; results = []; tags = joined_tags p i l.tags }) (instructions_are p n own i) outer_is
+      ∙ (ap₂ (λ (x : Instruction) (y : List (Entry BlockCall)). record { inst = table_behind y x; ty = l.ty; results = []; tags = joined_tags p i l.tags }) (instructions_are p n numbering i) outer_is
       ∙ ap (λ (y : List Tag). record { inst = table_behind s.table (instruction_under (names_of n) i); ty = l.ty; results = []; tags = y }) (tags_are i l.tags)))
 
   lines_are : (c j next : ℕ) (pre ls : List Line) → lines_of c p.callee.blocks ≡ pre ++ ls → j ≡ length pre → next ≡ get_or n.blocks c 0 + plain_calls pre + 1 → fragment p c j ls ≡ tried_lines n s next ls
@@ -152,5 +152,5 @@ module _ (p : Splicing) (n : Names) (s : OuterTry) (is : TryNumbers p n s) where
   body_is [] h = refl
   body_is (b ∷ bs) h =
       ap (λ (q : Fragment). record { number = p.naming.callee_block b.number; params = map p.naming.callee_value b.params; lines = q.lines } ∷ (q.more ++ body p bs)) (lines_are b.number 0 (get_or n.blocks b.number 0 + 1) [] b.lines h.0 refl (omega arith))
-      ∙ (ap₂ (λ (x : ℕ) (y : List ℕ). block_with x y (tried_lines n s (get_or n.blocks b.number 0 + 1) b.lines) ++ body p bs) (is.block b.number) (values_are p n own b.params)
+      ∙ (ap₂ (λ (x : ℕ) (y : List ℕ). block_with x y (tried_lines n s (get_or n.blocks b.number 0 + 1) b.lines) ++ body p bs) (is.block b.number) (values_are p n numbering b.params)
       ∙ ap (λ (z : List Block). tried_block n s b ++ z) (body_is bs h.1))

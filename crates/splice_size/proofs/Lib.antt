@@ -1,0 +1,5 @@
+pub mod Examples
+pub mod Lines
+pub mod Steps
+pub mod Stub
+pub mod Sums

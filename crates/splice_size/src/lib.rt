@@ -1,0 +1,7 @@
+//! The size that a function would have with a call replaced by the body of its callee, before anything is changed.
+#![tactic(auto)]
+
+mod counts;
+pub mod laws;
+
+pub use counts::Counts;

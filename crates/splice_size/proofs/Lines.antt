@@ -63,6 +63,20 @@ pub entries_join : (es fs : List (Entry BlockCall)) → total argument_count (ta
 entries_join es fs =
     total_targets (es ++ fs) ∙ (total_join (λ e. argument_count e.target) es fs ∙ ap₂ (λ x y. x + y) (sym (total_targets es)) (sym (total_targets fs)))
 
+-- the size of a line whose instruction is known
+pub known_size : (l : Line) (i : Instruction) → l.inst ≡ i → line_size l ≡ (1 + length l.results) + (operand_count i + entry_count i) + length l.tags
+known_size l i e = ap (λ z. (1 + length l.results) + (operand_count z + entry_count z) + length l.tags) e
+
+-- the part of its size that stands beside a return's operands, and these
+pub whole : (l : Line) (i : Instruction) → l.inst ≡ i → (counts_by l i).blocks + (counts_by l i).returned ≡ line_size l
+whole l (Return vs) e = let a = known_size l (Return vs) e in omega (arith, a)
+whole l (Plain x) e = omega arith
+whole l (Branches x) e = omega arith
+whole l SequencePoint e = omega arith
+whole l (Call t args) e = omega arith
+whole l (ReturnCall t args) e = omega arith
+whole l (TryCall t sig args normal table) e = omega arith
+
 module _ (p : Splicing) where
   -- ---- tags
 
@@ -87,25 +101,12 @@ module _ (p : Splicing) where
   pub known_tags : (l : Line) (i : Instruction) → l.inst ≡ i → length (joined_tags p l.inst l.tags) ≡ taking_tags (counts_by l i) * length p.site.tags + length l.tags
   known_tags l i e = ap (λ z. length (joined_tags p z l.tags)) e ∙ tags_length l i l.tags
 
-  pub known_size : (l : Line) (i : Instruction) → l.inst ≡ i → line_size l ≡ (1 + length l.results) + (operand_count i + entry_count i) + length l.tags
-  known_size l i e = ap (λ z. (1 + length l.results) + (operand_count z + entry_count z) + length l.tags) e
-
   -- a line that stays what it is
   pub stays : (l : Line) (i : Instruction) → l.inst ≡ i → line_size (callee_line p l) ≡ line_size l + taking_tags (counts_by l i) * length p.site.tags
   stays l i e =
       let a = length_map p.naming.callee_value l.results in
       let b = inst_same (callee_names p) l.inst in
       let c = known_tags l i e in omega (arith, a, b, c)
-
-  -- the part of its size that stands beside a return's operands, and these
-  pub whole : (l : Line) (i : Instruction) → l.inst ≡ i → (counts_by l i).blocks + (counts_by l i).returned ≡ line_size l
-  whole l (Return vs) e = let a = known_size l (Return vs) e in omega (arith, a)
-  whole l (Plain x) e = omega arith
-  whole l (Branches x) e = omega arith
-  whole l SequencePoint e = omega arith
-  whole l (Call t args) e = omega arith
-  whole l (ReturnCall t args) e = omega arith
-  whole l (TryCall t sig args normal table) e = omega arith
 
   pub new_length : (c : ℕ) → length (new_results p c) ≡ length p.site.results
   new_length c = length_map (p.naming.new_value c) (from 0 (length p.site.results)) ∙ length_from 0 (length p.site.results)

@@ -39,7 +39,7 @@ module _ (p : Splicing) where
       let a = call_same (callee_names p) t args in
       let b = lines.new_length p c in
       let d = lines.known_tags p l (ReturnCall t args) e in
-      let g = lines.known_size p l (ReturnCall t args) e in
+      let g = lines.known_size l (ReturnCall t args) e in
       let h = length_map arg.Value (new_results p c) in omega (arith, a, b, d, f, g, h)
   within_step c j l q (Plain x) e f = let a = lines.stays p l (Plain x) e in omega (arith, a)
   within_step c j l q (Branches x) e f = let a = lines.stays p l (Branches x) e in omega (arith, a)
@@ -50,7 +50,7 @@ module _ (p : Splicing) where
   -- ---- a tail call
 
   last_step : (l : Line) (q : Fragment) (i : Instruction) → l.inst ≡ i → fragment_size (front p (callee_line p l) q) ≡ body_size Last tag_count result_count (counts_by l i) + fragment_size q
-  last_step l q i e = let a = lines.stays p l i e in let b = lines.whole p l i e in omega (arith, a, b)
+  last_step l q i e = let a = lines.stays p l i e in let b = lines.whole l i e in omega (arith, a, b)
 
   -- ---- a `try_call`
 
@@ -63,14 +63,14 @@ module _ (p : Splicing) where
         let a = as_try_same (callee_names p) t (named_sig p (called_under (callee_names p) t)) args in
         let b = lines.outer_size p table in
         let d = lines.known_tags p l (Call t args) e in
-        let g = lines.known_size p l (Call t args) e in
+        let g = lines.known_size l (Call t args) e in
         let h = length_map arg.Ret (from 0 (length l.results)) ∙ length_from 0 (length l.results) in
         let k = length_map p.naming.callee_value l.results in omega (arith, a, b, d, g, h, k)
     tries_step c j l q (TryCall t sig args own inner) e f =
         let a = try_same (callee_names p) t (sig_after p.caller p.callee sig) sig args in
         let b = lines.outer_size p table in
         let d = lines.known_tags p l (TryCall t sig args own inner) e in
-        let g = lines.known_size p l (TryCall t sig args own inner) e in
+        let g = lines.known_size l (TryCall t sig args own inner) e in
         let h = length_map (arg_under (callee_names p)) own.args in
         let k = length-append (map (entry_under (callee_names p)) inner) (outer_table p table) in
         let m = length_map (entry_under (callee_names p)) inner in
@@ -80,7 +80,7 @@ module _ (p : Splicing) where
         let a = as_try_same (callee_names p) t (named_sig p (called_under (callee_names p) t)) args in
         let b = lines.outer_size p table in
         let d = lines.known_tags p l (ReturnCall t args) e in
-        let g = lines.known_size p l (ReturnCall t args) e in
+        let g = lines.known_size l (ReturnCall t args) e in
         let h = length_map (arg_under (caller_names p)) normal.args in omega (arith, a, b, d, f, g, h)
     tries_step c j l q (Plain x) e f = let a = lines.stays p l (Plain x) e in omega (arith, a)
     tries_step c j l q (Branches x) e f = let a = lines.stays p l (Branches x) e in omega (arith, a)
@@ -93,7 +93,7 @@ module _ (p : Splicing) where
   step Last c j l q f = last_step l q l.inst refl
   step (Tries normal table) c j l q f = tries_step normal table c j l q l.inst refl f
 
-  nothing : (k : Kind) → 0 ≡ body_size k tag_count result_count (summed line_counts [])
+  pub nothing : (k : Kind) → 0 ≡ body_size k tag_count result_count (summed line_counts [])
   nothing Within = omega arith
   nothing Last = omega arith
   nothing (Tries normal table) = omega arith

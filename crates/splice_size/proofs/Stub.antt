@@ -1,5 +1,5 @@
 use Rattle.std.proofs.Common.{◌≡◌, ℕ, suc, ◌+◌, List, [], ◌∷◌, ◌++◌, length, map, Option, Some, None}
-use Rattle.std.specs.Prelude.{slice_get}
+use Rattle.std.specs.Prelude.{slice_get, IsSomeAnd}
 use Rattle.ir_core.specs.Module.{Line, Block, Function, Module}
 use Rattle.ir_core.specs.Lists.{In, Each, Different}
 use Rattle.ir_core.specs.Lookup.{find_block, block_numbers}
@@ -48,3 +48,6 @@ in_get xs a i = ?
 
 pub some_same : {A : Type 0} {a b : A} → Some a ≡ Some b → a ≡ b
 some_same e = ?
+
+pub some_and : {A : Type 0} (o : Option A) (P : A → Type 0) → IsSomeAnd o P → (a : A) × (o ≡ Some a) × P a
+some_and o P h = ?

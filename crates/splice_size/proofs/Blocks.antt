@@ -15,7 +15,10 @@ use Rattle.ir_semantics.specs.Splice.{Splicing, Kind, Within, Last, Tries, after
 use Rattle.splice_size.specs.declared.counts.Counts.{Counts}
 use Rattle.splice_size.specs.Counts.{block_counts, counts_of, line_counts, none, summed}
 use Rattle.splice_size.specs.SizeAfter.{after_size, body_size, put_size}
-use Rattle.splice_size.proofs.Stub.{block_same, find_hit, find_skip, length_map, line_same, some_same, total_map}
+use Rattle.inline_outcomes.proofs.Places.{find_hit, find_skip}
+use Rattle.inline_outcomes.proofs.Local.{some_same}
+use Rattle.inline_acceptance.proofs.KeptSizes.{block_same, line_same, total_map}
+use Rattle.inline_acceptance.proofs.KeptLists.{length_map}
 use Rattle.splice_size.proofs.Lines.{Fits}
 use Rattle.splice_size.proofs.Steps as steps
 use Rattle.splice_size.proofs.Steps.{lines_size}

@@ -11,7 +11,11 @@ use Rattle.ir_semantics.specs.CallRules.{InstructionTags}
 use Rattle.ir_semantics.specs.CountRules.{InstructionCounts, TargetCounts}
 use Rattle.ir_semantics.specs.EndRules.{EndsRightly}
 use Rattle.ir_semantics.specs.Splice.{Splicing, kind_of}
-use Rattle.splice_size.proofs.Stub.{get_after, get_site, in_each, in_find, in_get, none_first, rule_at, some_and}
+use Rattle.inline_acceptance.proofs.Unique.{in_find}
+use Rattle.inline_acceptance.proofs.Points.{none_first}
+use Rattle.inline_acceptance.proofs.KeptSite.{rule_at}
+use Rattle.inline_acceptance.proofs.KeptLists.{get_after, get_site, in_each, some_and}
+use Rattle.inline_acceptance.proofs.KeptFunctions.{in_get}
 use Rattle.splice_size.proofs.Blocks.{AllFit, Ends}
 use Rattle.splice_size.proofs.Lines.{Fits}
 

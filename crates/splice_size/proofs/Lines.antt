@@ -13,7 +13,8 @@ use Rattle.ir_semantics.specs.Renaming.{Renaming, arg_under, called_under, entry
 use Rattle.ir_semantics.specs.Splice.{Splicing, Kind, Within, Last, Tries, Fragment, call_as_try, callee_line, callee_names, caller_names, fragment_by, from, joined_tags, joined_try, new_results, outer_table, returned_arg, to_rest, try_target}
 use Rattle.splice_size.specs.Counts.{counts_by, line_counts}
 use Rattle.splice_size.specs.SizeAfter.{body_size, table_size, taking_tags}
-use Rattle.splice_size.proofs.Stub.{length_map, line_same, total_map}
+use Rattle.inline_acceptance.proofs.KeptSizes.{line_same, total_map}
+use Rattle.inline_acceptance.proofs.KeptLists.{length_map}
 
 -- what acceptance says of a line: it has no results where it leaves the function, and a return has no tags
 abbrev pub Fits : Line → Instruction → Type 0

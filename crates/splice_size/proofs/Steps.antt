@@ -13,7 +13,7 @@ use Rattle.ir_semantics.specs.Renaming.{arg_under, called_under, entry_under, ta
 use Rattle.ir_semantics.specs.Splice.{Splicing, Kind, Within, Last, Tries, Fragment, call_as_try, callee_line, callee_names, caller_names, fragment, fragment_by, from, front, joined_try, kind_of, named_sig, new_results, outer_table, returned_arg, to_after, to_normal, to_rest, try_target, tries_fragment, within_fragment}
 use Rattle.splice_size.specs.Counts.{counts_by, line_counts, summed}
 use Rattle.splice_size.specs.SizeAfter.{body_size, table_size, taking_tags}
-use Rattle.splice_size.proofs.Stub.{length_map}
+use Rattle.inline_acceptance.proofs.KeptLists.{length_map}
 use Rattle.splice_size.proofs.Lines as lines
 use Rattle.splice_size.proofs.Lines.{Fits, fragment_size, as_try_same, call_same, entries_join, entries_same, length_from, try_same}
 use Rattle.splice_size.proofs.Sums.{body_plus}

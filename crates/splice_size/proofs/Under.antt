@@ -9,7 +9,8 @@ use Rattle.splice_size.specs.declared.counts.Counts.{Counts}
 use Rattle.splice_size.specs.Counts.{bare_size, block_counts, counts_by, line_counts, none, plus, summed}
 use Rattle.splice_size.specs.SizeAfter.{after_size, any_calls, body_size, put_size, size_after, taking_tags}
 use Rattle.splice_size.proofs.Lines.{entries_same, whole}
-use Rattle.splice_size.proofs.Stub.{length_map, line_same}
+use Rattle.inline_acceptance.proofs.KeptSizes.{line_same}
+use Rattle.inline_acceptance.proofs.KeptLists.{length_map}
 
 -- ---- counts
 

@@ -2,6 +2,7 @@
 #![tactic(auto)]
 
 mod counts;
+mod sizes;
 pub mod laws;
 
 pub use counts::Counts;

@@ -1,4 +1,7 @@
 pub mod Blocks
+pub mod Budgets
+pub mod Caps
+pub mod Counting
 pub mod Examples
 pub mod Fitting
 pub mod Lines

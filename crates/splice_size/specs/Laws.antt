@@ -14,7 +14,7 @@ use Rattle.inline_outcomes.specs.Stands.{Stands}
 use Rattle.inline_numbering.specs.Carried.{SiteUnder, splicing_under}
 use Rattle.inline_numbering.specs.Renamed.{Renamed}
 use Rattle.splice_size.specs.declared.counts.Counts.{Counts}
-use Rattle.splice_size.specs.Counts.{counts_of, declared_size}
+use Rattle.splice_size.specs.Counts.{counts_of, declared_size, sum_size}
 use Rattle.splice_size.specs.SizeAfter.{added_size, size_after}
 
 -- the site stands in its caller, and both functions are accepted where no other one is known
@@ -42,7 +42,7 @@ SiteWithin = (p : Splicing) → Stands p → line_size p.site ≤ size_of p.call
 
 -- the counts are the function's size, by parts
 abbrev pub SizeByCounts : Type 0
-SizeByCounts = (f : Function) → size_of f ≡ declared_size f + ((counts_of f).blocks + (counts_of f).returned)
+SizeByCounts = (f : Function) → size_of f ≡ declared_size f + sum_size (counts_of f)
 
 -- under other numbers a function has the same counts, a site makes the same of a size, and a splice has the same size
 abbrev pub RenamedKeepsCounts : Type 0

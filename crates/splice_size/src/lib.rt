@@ -3,6 +3,8 @@
 
 mod counts;
 mod sizes;
+mod spliced;
 pub mod laws;
 
-pub use counts::Counts;
+pub use counts::{Counts, count_within};
+pub use spliced::spliced_size;

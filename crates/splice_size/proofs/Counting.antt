@@ -7,8 +7,10 @@ use Rattle.ir_core.specs.Lists.{In, Different}
 use Rattle.ir_core.specs.Lookup.{block_numbers}
 use Rattle.ir_core.specs.Module.{Instruction, Plain, Branches, SequencePoint, Return, Call, ReturnCall, TryCall, Line, Block}
 use Rattle.ir_core.specs.Size.{block_size, line_size, size_at, total}
+use Rattle.ir_core.proofs.Sizing.{total_numbers}
 use Rattle.splice_size.specs.declared.counts.Counts.{Counts}
 use Rattle.splice_size.specs.Counts.{block_counts, counts_at, counts_by, line_counts, none, of_size, plus, sum_size, summed, IsSmall}
+use Rattle.splice_size.proofs.Lines.{whole}
 
 counts_same : (a b c d e f g h a' b' c' d' e' f' g' h' : ℕ) → a ≡ a' → b ≡ b' → c ≡ c' → d ≡ d' → e ≡ e' → f ≡ f' → g ≡ g' → h ≡ h' → (let x : Counts = record { blocks = a; returned = b; returns = c; calls = d; results = e; tail_calls = f; try_calls = g; sequence_points = h } in x) ≡ record { blocks = a'; returned = b'; returns = c'; calls = d'; results = e'; tail_calls = f'; try_calls = g'; sequence_points = h' }
 counts_same a b c d e f g h a' b' c' d' e' f' g' h' p q r s t u v w = cc
@@ -110,3 +112,25 @@ counts_by_number bs d = go [] bs refl
     go : (pre post : List Block) → bs ≡ pre ++ post → summed (counts_at bs) (block_numbers post) ≡ summed block_counts post
     go pre [] e = refl
     go pre (b ∷ post) e = ap₂ plus (found_here bs b d pre post e) (go (pre ++ (b ∷ [])) post (e ∙ sym (append_assoc pre (b ∷ []) post)))
+
+-- the sizes by the numbers
+pub at_size : (bs : List Block) (n : ℕ) → sum_size (counts_at bs n) ≡ size_at bs n
+at_size bs n =
+    let e : sum_size (summed line_counts (lines_of n bs)) ≡ total line_size (lines_of n bs) = sizes_summed line_counts line_size (λ l. whole l l.inst refl) (lines_of n bs) in
+    joined (length (params_of n bs)) (summed line_counts (lines_of n bs)) (total line_size (lines_of n bs)) e
+  where
+    joined : (k : ℕ) (c : Counts) (m : ℕ) → sum_size c ≡ m → sum_size (plus (of_size (1 + k)) c) ≡ (1 + k) + m
+    joined k c m e = omega (arith, e)
+
+-- counts so far, those of a block and those of what is left: no more than those of all, as sizes
+pub all_size : (bs : List Block) → Different (block_numbers bs) → sum_size (summed (counts_at bs) (block_numbers bs)) ≡ total block_size bs
+all_size bs d = sizes_summed (counts_at bs) (size_at bs) (at_size bs) (block_numbers bs) ∙ total_numbers bs d
+
+-- a block with those before it has no greater size than all
+pub part_of_all : (bs : List Block) → Different (block_numbers bs) → (c : Counts) (left next : List ℕ) (n : ℕ) → plus c (summed (counts_at bs) left) ≡ summed (counts_at bs) (block_numbers bs) → left ≡ n ∷ next → sum_size c + size_at bs n ≤ total block_size bs
+part_of_all bs d c left next n e g =
+    let a : sum_size (plus c (plus (counts_at bs n) (summed (counts_at bs) next))) ≡ sum_size (summed (counts_at bs) (block_numbers bs)) = ap sum_size (ap (λ (z : List ℕ). plus c (summed (counts_at bs) z)) (sym g) ∙ e) in
+    joined c (counts_at bs n) (summed (counts_at bs) next) (sum_size (summed (counts_at bs) (block_numbers bs))) (size_at bs n) (total block_size bs) a (all_size bs d) (at_size bs n)
+  where
+    joined : (x y z : Counts) (m k t : ℕ) → sum_size (plus x (plus y z)) ≡ m → m ≡ t → sum_size y ≡ k → sum_size x + k ≤ t
+    joined x y z m k t e f g = omega (arith, e, f, g)

@@ -33,10 +33,10 @@ fits f l (Call a args) c t = tt
 pub all_fit : (f : Function) → RulesHold [] f → Different (block_numbers f.blocks) → AllFit f.blocks
 all_fit f ok d =
     in_each (λ (b : Block). Each (λ l. Fits l l.inst) b.lines) f.blocks (λ b i.
-        in_each (λ (l : Line). Fits l l.inst) b.lines (λ l j.
-            let found : find_block b.number f.blocks ≡ Some b = in_find b f.blocks d i in
-            let at : (k : ℕ) × (slice_get b.lines k ≡ Some l) = in_get b.lines l j in
-            fits f l l.inst (rule_at [] f ok b.number b at.0 l found at.1 count_mismatch) (rule_at [] f ok b.number b at.0 l found at.1 tag_place)))
+    in_each (λ (l : Line). Fits l l.inst) b.lines (λ l j.
+    let found : find_block b.number f.blocks ≡ Some b = in_find b f.blocks d i in
+    let at : (k : ℕ) × (slice_get b.lines k ≡ Some l) = in_get b.lines l j in
+    fits f l l.inst (rule_at [] f ok b.number b at.0 l found at.1 count_mismatch) (rule_at [] f ok b.number b at.0 l found at.1 tag_place)))
 
 none_of : (o : Option Line) → EndsRightly true o → o ≡ None
 none_of None e = refl
@@ -57,5 +57,5 @@ ends p ok b found lines =
     let here : slice_get b.lines (length p.before) ≡ Some p.site = ap (λ (ls : List Line). slice_get ls (length p.before)) lines ∙ get_site p.before p.site p.behind in
     let next : suc (length p.before) ≡ suc (length p.before + 0) = omega arith in
     let behind : slice_get b.lines (suc (length p.before)) ≡ slice_get p.behind 0 =
-        ap (slice_get b.lines) next ∙ (ap (λ (ls : List Line). slice_get ls (suc (length p.before + 0))) lines ∙ get_after p.before p.site p.behind 0) in
+    ap (slice_get b.lines) next ∙ (ap (λ (ls : List Line). slice_get ls (suc (length p.before + 0))) lines ∙ get_after p.before p.site p.behind 0) in
     ends_by p p.site.inst (subst (EndsRightly (terminates p.site.inst)) behind (rule_at [] p.caller ok p.at b (length p.before) p.site found here no_terminator))

@@ -68,11 +68,11 @@ to_sides r s p m c h site =
     let carry : Carries t r s sides m p.caller c p.callee h = sides_carry r s m p.caller c p.callee h site.caller site.callee site.callee_whole in
     let q = splicing_under r m c h p in
     let blocks : spliced_blocks q c.blocks ≡ map (block_under t) (spliced_blocks (by_sides p) p.caller.blocks) =
-        ap (spliced_blocks q) site.caller.blocks ∙ sym (splice_carried t r s (by_sides p) m c h carry p.caller.blocks (apart r s p c h site)) in
+    ap (spliced_blocks q) site.caller.blocks ∙ sym (splice_carried t r s (by_sides p) m c h carry p.caller.blocks (apart r s p c h site)) in
     ap₂ (λ (x y : ℕ). x + y)
     (ap₂ (λ (x y : ℕ). x + y)
-      (ap₂ (λ (x y : ℕ). x + y) (ap₂ (λ (us vs : List SlotDecl). length (us ++ vs)) site.caller.slots site.callee.slots) (ap (λ (z : List Callee). length z) carry.all_callees))
-      (ap (total sig_size) (all_sigs p.caller c p.callee h site.caller.sigs site.callee.sigs)))
+    (ap₂ (λ (x y : ℕ). x + y) (ap₂ (λ (us vs : List SlotDecl). length (us ++ vs)) site.caller.slots site.callee.slots) (ap (λ (z : List Callee). length z) carry.all_callees))
+    (ap (total sig_size) (all_sigs p.caller c p.callee h site.caller.sigs site.callee.sigs)))
     (ap (total block_size) blocks ∙ total_map (block_under t) block_size block_size (block_same t) (spliced_blocks (by_sides p) p.caller.blocks))
 
 line_itself : (l : Line) → l ≡ line_under same_numbers l
@@ -86,13 +86,13 @@ itself p =
 pub splice_size_under : SpliceSizeUnder
 splice_size_under r s p m c h site =
     let stays : SiteUnder same_numbers same_numbers p p.caller p.callee =
-        record {
-          stands = site.stands;
-          caller = renamed_itself p.caller;
-          callee = renamed_itself p.callee;
-          caller_whole = site.caller_whole;
-          caller_after_whole = site.caller_whole;
-          callee_whole = site.callee_whole;
-          callee_after_whole = site.callee_whole;
-        } in
+    record {
+      stands = site.stands;
+      caller = renamed_itself p.caller;
+      callee = renamed_itself p.callee;
+      caller_whole = site.caller_whole;
+      caller_after_whole = site.caller_whole;
+      callee_whole = site.callee_whole;
+      callee_after_whole = site.callee_whole;
+    } in
     to_sides r s p m c h site ∙ (sym (to_sides same_numbers same_numbers p p.naming p.caller p.callee stays) ∙ ap (λ z. size_of (spliced z)) (itself p))

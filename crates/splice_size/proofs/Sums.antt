@@ -17,7 +17,6 @@ any_plus a b = omega arith
 taking_plus : (a b : Counts) → taking_tags (plus a b) ≡ taking_tags a + taking_tags b
 taking_plus a b = omega arith
 
-
 pub body_plus : (k : Kind) (tags results : ℕ) (a b : Counts) → body_size k tags results (plus a b) ≡ body_size k tags results a + body_size k tags results b
 body_plus Within t r a b =
     joined (a.blocks) b.blocks a.returned b.returned (taking_tags a * t) (taking_tags b * t) (taking_tags (plus a b) * t) (a.tail_calls * (r + (1 + r))) (b.tail_calls * (r + (1 + r))) ((a.tail_calls + b.tail_calls) * (r + (1 + r)))

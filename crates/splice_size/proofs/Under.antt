@@ -47,7 +47,7 @@ put_same r (ReturnCall t args) tags results c = ap (λ n. (1 + n) + body_size (k
 put_same r (TryCall t sig args normal table) tags results c =
     ap₂ (λ n rest. (1 + n) + rest + 0) (length_map r.value args)
     (ap₂ (λ table_size normal_size. c.blocks + taking_tags c * tags + any_calls c * table_size + (c.calls + c.results) + (c.returns + c.tail_calls) * normal_size)
-      (ap₂ (λ x y. x + y) (length_map (entry_under r) table) (entries_same r table)) (length_map (arg_under r) normal.args))
+    (ap₂ (λ x y. x + y) (length_map (entry_under r) table) (entries_same r table)) (length_map (arg_under r) normal.args))
 put_same r (Plain x) tags results c = refl
 put_same r (Branches x) tags results c = refl
 put_same r SequencePoint tags results c = refl

@@ -56,7 +56,7 @@ abbrev pub called : Function
 called =
     calling 103 [] one_to_one 104
     (block 0
-      (with_tags (tag.User 7 ∷ []) call ∷ with_tags (tag.User 8 ∷ []) (line SequencePoint) ∷ returned 1 ∷ []) ∷ [])
+    (with_tags (tag.User 7 ∷ []) call ∷ with_tags (tag.User 8 ∷ []) (line SequencePoint) ∷ returned 1 ∷ []) ∷ [])
 
 abbrev pub ending : Function
 ending =
@@ -88,7 +88,7 @@ abbrev pub calls_each : Function
 calls_each =
     calling 103 [] one_to_one 104
     (block 0
-      (with_tags (tag.User 7 ∷ []) call ∷ with_tags (tag.User 8 ∷ []) (line SequencePoint) ∷ jump 2 1 ∷ [])
+    (with_tags (tag.User 7 ∷ []) call ∷ with_tags (tag.User 8 ∷ []) (line SequencePoint) ∷ jump 2 1 ∷ [])
     ∷ block 2 (tried 0 2 3 4 ∷ []) ∷ block 3 (returned 3 ∷ [])
     ∷ block 4 (line (ReturnCall (Direct 0) (4 ∷ [])) ∷ []) ∷ [])
 

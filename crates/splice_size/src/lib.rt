@@ -2,9 +2,9 @@
 #![tactic(auto)]
 
 mod counts;
+pub mod laws;
 mod sizes;
 mod spliced;
-pub mod laws;
 
 pub use counts::{Counts, count_within};
 pub use spliced::spliced_size;

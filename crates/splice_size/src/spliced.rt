@@ -92,11 +92,11 @@ fn plain_call(args: usize, tags: usize, results: usize, callee: &Counts) -> usiz
     ensures { result ≡ capped ((1 + args) + body_size Within tags results callee.now + (1 + results)) }
 {
     let line = results.saturating_add(1usize.saturating_add(results));
-    1usize
-        .saturating_add(args)
-        .saturating_add(callee.tagged(tags))
-        .saturating_add(callee.tail_calls.saturating_mul(line))
-        .saturating_add(1usize.saturating_add(results))
+    let calls = callee.tail_calls.saturating_mul(line);
+    let body = callee.tagged(tags).saturating_add(calls);
+    let jump = 1usize.saturating_add(args);
+    let after = 1usize.saturating_add(results);
+    jump.saturating_add(body).saturating_add(after)
 }
 
 impl Counts {
@@ -133,11 +133,13 @@ impl Counts {
     {
         let entries = self.any_calls().saturating_mul(entries_size(table));
         let jumps = self.returns.saturating_add(self.tail_calls);
+        let targets = jumps.saturating_mul(normal.args.as_slice().len());
+        let rests = self.calls.saturating_add(self.results);
         self.blocks
             .saturating_add(self.site_tags(tags))
             .saturating_add(entries)
-            .saturating_add(self.calls.saturating_add(self.results))
-            .saturating_add(jumps.saturating_mul(normal.args.as_slice().len()))
+            .saturating_add(rests)
+            .saturating_add(targets)
     }
 }
 

@@ -66,8 +66,7 @@ loop-added-preserved c =
 pub returns-clause-counts : goal.returns-clause-counts
 returns-clause-counts c =
     let xs = c.args.lines.now in
-    let all = take_all c.loop-added.added-index xs c.loop-added-test.false in
-    (
+    let all = take_all c.loop-added.added-index xs c.loop-added-test.false in (
       omega (arith, c.loop-added.invariant.left, ap (total size) all, total_map line_size line_of xs),
       c.loop-added.invariant.counts ∙ (ap (summed counted) all ∙ sym (summed_map line_counts line_of xs)),
     )

@@ -1,6 +1,6 @@
 //! The size that a function would have with a call replaced by the body of its callee.
-ghost use Rattle.std.specs.Prelude.{◌≡◌, ◌+◌, ◌*◌, length};
-ghost use Rattle.ir_core.specs.Size.{total, argument_count, sig_size, size_of, capped};
+ghost use Rattle.std.specs.Prelude.{◌≡◌, ◌+◌, ◌-◌, ◌*◌, length};
+ghost use Rattle.ir_core.specs.Size.{total, line_size, sig_size, size_of, capped};
 ghost use Rattle.ir_core.specs.Viewed.{line_of};
 ghost use Rattle.ir_semantics.specs.Splice.{Splicing, Within, Last, Tries, spliced};
 ghost use Rattle.body_import.specs.Imports.{IsImportOf};
@@ -32,7 +32,7 @@ pub fn spliced_size(
         → counts_of p.callee ≡ callee.now → length p.callee.slots ≡ slots → IsImportOf p.caller p.callee import.now
         → result ≡ capped (size_of (spliced p)) }
 {
-    let rest = take_line(caller_size, site).unwrap_or(0);
+    let rest = size_without(caller_size, site);
     let declared = slots.saturating_add(import.callees.added.as_slice().len());
     let added = declared.saturating_add(sigs_size(import.sigs.added.as_slice()));
     rest.saturating_add(put_in_place(site, callee).saturating_add(added))
@@ -160,9 +160,26 @@ fn sigs_size(sigs: &[Sig]) -> usize
 {
     let mut size: usize = 0;
     for sig in sigs {
-        let results = sig.results.as_slice().len();
-        let params = sig.params.as_slice().len();
-        size = size.saturating_add(1usize.saturating_add(params).saturating_add(results));
+        size = size.saturating_add(signature_size(sig));
     }
     size
+}
+
+/// The size of a signature.
+fn signature_size(sig: &Sig) -> usize
+    ensures { result ≡ capped (sig_size sig.now) }
+{
+    let params = sig.params.as_slice().len();
+    let results = sig.results.as_slice().len();
+    1usize.saturating_add(params).saturating_add(results)
+}
+
+/// The size of a function without one of its instructions.
+fn size_without(size: usize, site: &InstData) -> usize
+    ensures { result ≡ size - line_size (line_of site.now) }
+{
+    match take_line(size, site) {
+        Some(rest) => rest,
+        None => 0,
+    }
 }

@@ -1,13 +1,11 @@
 -- The size of the blocks of a splice.
 use Rattle.std.specs.Prelude.{⊤, if◌then◌else◌}
-use Rattle.std.proofs.Common.{◌≡◌, ℕ, suc, ◌+◌, ◌≤◌, List, [], ◌∷◌, ◌++◌, length, map, Some, inl, inr, refl, ap, ap₂, ◌∙◌, sym, arith, eq-eqb, ne_eqb}
+use Rattle.std.proofs.Common.{◌≡◌, ℕ, ◌+◌, ◌≤◌, List, [], ◌∷◌, ◌++◌, length, map, Some, inl, inr, ap, ◌∙◌, sym, arith, eq-eqb, ne_eqb}
 use Rattle.std.proofs.lemmas.Bool.{cases_eq}
-use Rattle.exn_tables.specs.declared.table.Entry.{Entry}
 use Rattle.ir_core.specs.declared.instructions.Arg.TheVariants as arg
-use Rattle.ir_core.specs.declared.instructions.BlockCall.{BlockCall}
 use Rattle.ir_core.specs.Lists.{Each}
 use Rattle.ir_core.specs.Lookup.{find_block}
-use Rattle.ir_core.specs.Module.{Line, Block}
+use Rattle.ir_core.specs.Module.{Block}
 use Rattle.ir_core.specs.Size.{block_size, line_size, total}
 use Rattle.ir_core.proofs.Sizing.{total_join}
 use Rattle.ir_semantics.specs.Renaming.{block_under, line_under}

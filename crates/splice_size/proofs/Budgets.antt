@@ -1,6 +1,6 @@
 -- Parts taken one after another out of a limit.
 use Rattle.std.specs.Prelude.{SomeIff}
-use Rattle.std.proofs.Common.{◌≡◌, ℕ, ◌+◌, ◌<◌, ◌≤◌, List, [], ◌∷◌, ◌++◌, length, take, drop, get_or, Option, None, sym, subst, ap, ◌∙◌, arith}
+use Rattle.std.proofs.Common.{◌≡◌, ℕ, ◌+◌, ◌<◌, ◌≤◌, List, length, take, drop, get_or, Option, None, sym, subst, ap, ◌∙◌, arith}
 use Rattle.std.proofs.lemmas.List.{take-append-drop}
 use Rattle.ir_core.specs.Size.{total}
 use Rattle.ir_core.proofs.Sizing.{total_join, total_more}

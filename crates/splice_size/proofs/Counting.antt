@@ -1,6 +1,6 @@
 -- Sums of counts: by parts, and no less than each thing that counts.
 use Rattle.std.specs.Prelude.{if◌then◌else◌}
-use Rattle.std.proofs.Common.{◌≡◌, ℕ, ◌+◌, ◌<◌, ◌≤◌, List, [], ◌∷◌, ◌++◌, map, length, take, drop, get_or, inl, inr, refl, sym, subst, ap, ap₂, ◌∙◌, arith, append_assoc, eq-eqb, ne_eqb}
+use Rattle.std.proofs.Common.{◌≡◌, ℕ, ◌+◌, ◌<◌, ◌≤◌, List, [], ◌∷◌, ◌++◌, map, length, take, get_or, inl, inr, refl, sym, subst, ap, ap₂, ◌∙◌, arith, append_assoc, eq-eqb, ne_eqb}
 use Rattle.std.proofs.lemmas.List.{take_more}
 use Rattle.ir_core.specs.Edits.{params_of, lines_of}
 use Rattle.ir_core.specs.Lists.{In, Different}

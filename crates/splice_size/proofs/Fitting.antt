@@ -1,7 +1,7 @@
 -- What acceptance says of the lines of the callee and of the site.
-use Rattle.std.specs.Prelude.{⊤, slice_get}
-use Rattle.std.proofs.Common.{◌≡◌, ℕ, suc, ◌+◌, List, [], ◌∷◌, ◌++◌, length, Option, Some, None, Bool, true, false, refl, ap, ◌∙◌, sym, subst, arith}
-use Rattle.ir_core.specs.Lists.{In, Each, Different}
+use Rattle.std.specs.Prelude.{slice_get}
+use Rattle.std.proofs.Common.{◌≡◌, ℕ, suc, ◌+◌, List, [], ◌∷◌, ◌++◌, length, Option, Some, None, true, refl, ap, ◌∙◌, subst, arith}
+use Rattle.ir_core.specs.Lists.{Each, Different}
 use Rattle.ir_core.specs.Lookup.{block_numbers, find_block, signature_of}
 use Rattle.ir_core.specs.Module.{call_target, Instruction, Plain, Branches, SequencePoint, Return, Call, ReturnCall, TryCall, Line, Block, Function}
 use Rattle.ir_core.specs.Uses.{table_targets}

@@ -1,18 +1,17 @@
 -- The size of what a line of the callee becomes at a site.
-use Rattle.std.proofs.Common.{◌≡◌, ℕ, zero, suc, ◌+◌, ◌*◌, List, [], ◌∷◌, ◌++◌, length, map, None, refl, ap, ap₂, ◌∙◌, sym, arith, length-append}
+use Rattle.std.proofs.Common.{◌≡◌, ℕ, zero, suc, ◌+◌, ◌*◌, List, [], ◌++◌, length, map, None, refl, ap, ap₂, ◌∙◌, sym, arith, length-append}
 use Rattle.std.specs.Prelude.{⊤}
 use Rattle.exn_tables.specs.declared.table.Entry.{Entry}
 use Rattle.debug_tags.specs.declared.tags.Tag.{Tag}
-use Rattle.ir_core.specs.declared.instructions.Arg.TheVariants as arg
 use Rattle.ir_core.specs.declared.instructions.BlockCall.{BlockCall}
-use Rattle.ir_core.specs.Module.{CallTarget, Direct, Indirect, TryTarget, TryDirect, TryIndirect, call_target, Instruction, Plain, Branches, SequencePoint, Return, Call, ReturnCall, TryCall, Line, Block}
+use Rattle.ir_core.specs.Module.{CallTarget, Direct, Indirect, TryTarget, TryDirect, TryIndirect, call_target, Instruction, Plain, Branches, SequencePoint, Return, Call, ReturnCall, TryCall, Line}
 use Rattle.ir_core.specs.Size.{argument_count, block_size, entry_count, line_size, operand_count, total}
 use Rattle.ir_core.specs.Uses.{called_used, table_targets}
 use Rattle.ir_core.proofs.Sizing.{total_join, total_targets}
-use Rattle.ir_semantics.specs.Renaming.{Renaming, arg_under, called_under, entry_under, instruction_under, line_under, tag_under, target_under, try_target_under}
-use Rattle.ir_semantics.specs.Splice.{Splicing, Kind, Within, Last, Tries, Fragment, call_as_try, callee_line, callee_names, caller_names, fragment_by, from, joined_tags, joined_try, new_results, outer_table, returned_arg, to_rest, try_target}
-use Rattle.splice_size.specs.Counts.{counts_by, line_counts}
-use Rattle.splice_size.specs.SizeAfter.{body_size, table_size, taking_tags}
+use Rattle.ir_semantics.specs.Renaming.{Renaming, arg_under, called_under, entry_under, instruction_under, tag_under, try_target_under}
+use Rattle.ir_semantics.specs.Splice.{Splicing, Fragment, callee_line, callee_names, caller_names, from, joined_tags, new_results, outer_table, try_target}
+use Rattle.splice_size.specs.Counts.{counts_by}
+use Rattle.splice_size.specs.SizeAfter.{table_size, taking_tags}
 use Rattle.inline_acceptance.proofs.KeptSizes.{line_same, total_map}
 use Rattle.inline_acceptance.proofs.KeptLists.{length_map}
 

@@ -1,11 +1,10 @@
 -- The laws of the size of a splice, from the parts.
-use Rattle.std.proofs.Common.{◌≡◌, ℕ, ◌+◌, ◌-◌, ◌≤◌, List, ◌∷◌, [], ◌++◌, length, map, refl, ap, ap₂, ◌∙◌, sym, subst, arith, length-append}
+use Rattle.std.proofs.Common.{◌≡◌, ℕ, ◌+◌, ◌-◌, ◌≤◌, List, ◌∷◌, [], ◌++◌, length, map, ap, ap₂, ◌∙◌, sym, subst, arith, length-append}
 use Rattle.ir_core.specs.declared.declarations.Callee.{Callee}
 use Rattle.ir_core.specs.declared.declarations.SlotDecl.{SlotDecl}
-use Rattle.ir_core.specs.declared.signatures.Sig.{Sig}
 use Rattle.ir_core.specs.Lists.{In, Different}
 use Rattle.ir_core.specs.Lookup.{block_numbers}
-use Rattle.ir_core.specs.Module.{Line, Block, Function}
+use Rattle.ir_core.specs.Module.{Line, Function}
 use Rattle.ir_core.specs.Size.{block_size, line_size, sig_size, size_of, total}
 use Rattle.ir_core.proofs.Sizing.{total_join}
 use Rattle.ir_semantics.specs.Import.{callees_after, sigs_after}

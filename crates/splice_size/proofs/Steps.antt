@@ -1,18 +1,17 @@
 -- What a line of the callee adds to a fragment, by the kind of the site.
-use Rattle.std.proofs.Common.{◌≡◌, ℕ, suc, ◌+◌, ◌*◌, List, [], ◌∷◌, ◌++◌, length, map, refl, ap, ap₂, ◌∙◌, sym, arith, length-append}
+use Rattle.std.proofs.Common.{◌≡◌, ℕ, suc, ◌+◌, List, [], ◌∷◌, length, map, refl, ap, ◌∙◌, sym, arith, length-append}
 use Rattle.exn_tables.specs.declared.table.Entry.{Entry}
 use Rattle.debug_tags.specs.declared.tags.Tag.{Tag}
 use Rattle.ir_core.specs.declared.instructions.Arg.TheVariants as arg
 use Rattle.ir_core.specs.declared.instructions.BlockCall.{BlockCall}
 use Rattle.ir_core.specs.Lists.{Each}
-use Rattle.ir_core.specs.Module.{CallTarget, TryTarget, call_target, Instruction, Plain, Branches, SequencePoint, Return, Call, ReturnCall, TryCall, Line, Block}
-use Rattle.ir_core.specs.Size.{argument_count, block_size, line_size, total}
-use Rattle.ir_core.specs.Uses.{called_used, table_targets}
+use Rattle.ir_core.specs.Module.{Instruction, Plain, Branches, SequencePoint, Return, Call, ReturnCall, TryCall, Line}
+use Rattle.ir_core.specs.Size.{line_size}
 use Rattle.ir_semantics.specs.Import.{sig_after}
-use Rattle.ir_semantics.specs.Renaming.{arg_under, called_under, entry_under, target_under, try_target_under}
-use Rattle.ir_semantics.specs.Splice.{Splicing, Kind, Within, Last, Tries, Fragment, call_as_try, callee_line, callee_names, caller_names, fragment, fragment_by, from, front, joined_try, kind_of, named_sig, new_results, outer_table, returned_arg, to_after, to_normal, to_rest, try_target, tries_fragment, within_fragment}
+use Rattle.ir_semantics.specs.Renaming.{arg_under, called_under, entry_under}
+use Rattle.ir_semantics.specs.Splice.{Splicing, Kind, Within, Last, Tries, Fragment, callee_line, callee_names, caller_names, fragment, fragment_by, from, front, kind_of, named_sig, new_results, outer_table, returned_arg, to_after, tries_fragment, within_fragment}
 use Rattle.splice_size.specs.Counts.{counts_by, line_counts, summed}
-use Rattle.splice_size.specs.SizeAfter.{body_size, table_size, taking_tags}
+use Rattle.splice_size.specs.SizeAfter.{body_size}
 use Rattle.inline_acceptance.proofs.KeptLists.{length_map}
 use Rattle.splice_size.proofs.Lines as lines
 use Rattle.splice_size.proofs.Lines.{Fits, fragment_size, as_try_same, call_same, entries_join, entries_same, length_from, try_same}

@@ -1,8 +1,6 @@
 -- Sums of counts, and what they come to at a site.
-use Rattle.std.proofs.Common.{◌≡◌, ℕ, zero, suc, ◌+◌, ◌*◌, List, [], ◌∷◌, length, refl, ap, ap₂, ◌∙◌, sym, arith}
+use Rattle.std.proofs.Common.{◌≡◌, ℕ, ◌+◌, ◌*◌, length, refl, ap, ◌∙◌, arith}
 use Rattle.std.proofs.Math.Nat.{add-mul}
-use Rattle.exn_tables.specs.declared.table.Entry.{Entry}
-use Rattle.ir_core.specs.declared.instructions.BlockCall.{BlockCall}
 use Rattle.ir_semantics.specs.Splice.{Kind, Within, Last, Tries}
 use Rattle.splice_size.specs.declared.counts.Counts.{Counts}
 use Rattle.splice_size.specs.Counts.{none, plus}

@@ -1,13 +1,12 @@
 -- The same under other numbers.
 use Rattle.std.proofs.Common.{◌≡◌, ℕ, ◌+◌, ◌-◌, ◌*◌, List, [], ◌∷◌, length, map, refl, ap, ap₂, ◌∙◌, arith}
-use Rattle.debug_tags.specs.declared.tags.Tag.{Tag}
 use Rattle.ir_core.specs.Module.{Instruction, Plain, Branches, SequencePoint, Return, Call, ReturnCall, TryCall, Line, Block}
-use Rattle.ir_core.specs.Size.{argument_count, block_size, line_size, total}
+use Rattle.ir_core.specs.Size.{block_size, line_size, total}
 use Rattle.ir_semantics.specs.Renaming.{Renaming, arg_under, block_under, entry_under, instruction_under, line_under, tag_under}
 use Rattle.ir_semantics.specs.Splice.{args_of, kind_of}
 use Rattle.splice_size.specs.declared.counts.Counts.{Counts}
 use Rattle.splice_size.specs.Counts.{bare_size, block_counts, counts_by, line_counts, none, plus, summed}
-use Rattle.splice_size.specs.SizeAfter.{after_size, any_calls, body_size, put_size, size_after, taking_tags}
+use Rattle.splice_size.specs.SizeAfter.{after_size, any_calls, body_size, size_after, taking_tags}
 use Rattle.splice_size.proofs.Lines.{entries_same, whole}
 use Rattle.inline_acceptance.proofs.KeptSizes.{line_same}
 use Rattle.inline_acceptance.proofs.KeptLists.{length_map}

@@ -1,19 +1,15 @@
 -- Worked sizes: of a plain call with tags whose callee calls, of one whose callee ends in a tail call, and of a
 -- `try_call` whose callee has calls of each kind.
-use Rattle.std.specs.Prelude.{◌≡◌, ℕ, List, [], ◌∷◌, None, Some}
-use Rattle.exn_tables.specs.declared.table.Entry.{Entry}
+use Rattle.std.specs.Prelude.{◌≡◌, ℕ, List, [], ◌∷◌}
 use Rattle.debug_tags.specs.declared.tags.Tag.{Tag}
 use Rattle.debug_tags.specs.declared.tags.Tag.TheVariants as tag
 use Rattle.ir_core.specs.declared.declarations.Callee.{Callee}
 use Rattle.ir_core.specs.declared.declarations.SlotDecl.{SlotDecl}
-use Rattle.ir_core.specs.declared.instructions.Arg.TheVariants as arg
-use Rattle.ir_core.specs.declared.instructions.BlockCall.{BlockCall}
 use Rattle.ir_core.specs.declared.names.FuncName.TheVariants.{Text}
 use Rattle.ir_core.specs.declared.signatures.Conv.TheVariants.{Tail}
 use Rattle.ir_core.specs.declared.signatures.Sig.{Sig}
-use Rattle.ir_core.specs.declared.signatures.Ty.TheVariants.{I64}
-use Rattle.ir_core.specs.Calling.{block, callee_named, jump, line, one_to_one, returned, to, tried}
-use Rattle.ir_core.specs.Module.{Direct, SequencePoint, Call, ReturnCall, TryCall, TryDirect, Line, Block, Function}
+use Rattle.ir_core.specs.Calling.{block, callee_named, jump, line, one_to_one, returned, tried}
+use Rattle.ir_core.specs.Module.{Direct, SequencePoint, Call, ReturnCall, Line, Block, Function}
 use Rattle.ir_core.specs.Size.{size_of}
 use Rattle.ir_semantics.specs.Splice.{Splicing, sides, spliced}
 use Rattle.splice_size.specs.Counts.{counts_of}

@@ -24,10 +24,10 @@ taking_tags c = any_calls c + c.sequence_points
 abbrev pub table_size : List (Entry BlockCall) → ℕ
 table_size table = length table + total argument_count (table_targets table)
 
--- what the callee's blocks come to by the kind of the site, its number of tags and of results. At a plain call a return
--- is a jump with its operands, and a tail call a call with new results and a jump with them. At a `try_call` a return is
--- a jump to the normal target, each call has the site's table, a plain call ends its block and its results are the
--- parameters of a new one, and a tail call goes on at the normal target.
+-- what the callee's blocks come to by the kind of the site, its number of tags and of results. At a plain call a
+-- return is a jump with its operands, and a tail call a call with new results and a jump with them. At a `try_call` a
+-- return is a jump to the normal target, each call has the site's table, a plain call ends its block and its results
+-- are the parameters of a new one, and a tail call goes on at the normal target.
 abbrev pub body_size : Kind → (tags results : ℕ) → Counts → ℕ
 body_size Within tags results c =
     (c.blocks + c.returned) + taking_tags c * tags + c.tail_calls * (results + (1 + results))

@@ -1,4 +1,4 @@
-use Rattle.std.proofs.Common.{◌≡◌, ◌+◌, ◌-◌, ◌≤◌, arith, length, map, sym, subst, ap, ap₂, ◌∙◌}
+use Rattle.std.proofs.Common.{◌≡◌, ◌+◌, ◌-◌, arith, length, map, sym, subst, ap, ap₂, ◌∙◌}
 use Rattle.ir_core.specs.Edits.{params_of}
 use Rattle.ir_core.specs.Size.{line_size, size_at, total}
 use Rattle.ir_core.specs.Viewed.{line_of}

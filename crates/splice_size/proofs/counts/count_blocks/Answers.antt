@@ -1,11 +1,8 @@
-use Rattle.std.proofs.Common.{◌≡◌, ℕ, ◌+◌, ◌<◌, ◌≤◌, List, [], ◌∷◌, length, Option, sym, subst, ap, ◌∙◌, arith}
-use Rattle.std.specs.Prelude.{SomeIff}
-use Rattle.ir_core.specs.Lists.{In, Each, Different}
+use Rattle.std.proofs.Common.{◌≡◌, ℕ, List, sym, subst, ap, ◌∙◌, arith}
+use Rattle.ir_core.specs.Lists.{In, Each}
 use Rattle.ir_core.specs.Lookup.{block_numbers}
-use Rattle.ir_core.specs.Module.{Block}
 use Rattle.ir_core.specs.Size.{block_size, size_at, total}
 use Rattle.ir_core.proofs.Sizing.{each_in}
-use Rattle.splice_size.specs.declared.counts.Counts.{Counts}
 use Rattle.splice_size.specs.Counts.{block_counts, counts_at, plus, sum_size, summed, IsSmall}
 use Rattle.splice_size.proofs.Budgets.{refused}
 use Rattle.splice_size.proofs.Counting.{all_size, counts_by_number, none_first, part_of_all, plus_assoc, plus_none, plus_small}

@@ -1,4 +1,4 @@
-use Rattle.std.proofs.Common.{◌≤◌, ◌+◌, ◌-◌, arith, length, take, ap}
+use Rattle.std.proofs.Common.{◌+◌, ◌-◌, arith, length, take, ap}
 use Rattle.ir_core.specs.Size.{argument_count, total}
 use Rattle.ir_core.specs.Uses.{table_targets}
 use Rattle.ir_core.proofs.Sizing.{total_more, total_targets}

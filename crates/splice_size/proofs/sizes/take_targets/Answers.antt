@@ -1,4 +1,4 @@
-use Rattle.std.proofs.Common.{◌≤◌, ◌+◌, ◌-◌, arith, length, take, ap}
+use Rattle.std.proofs.Common.{◌+◌, ◌-◌, arith, length, take, ap}
 use Rattle.ir_core.specs.Size.{argument_count, total}
 use Rattle.ir_core.proofs.Sizing.{total_more}
 use Rattle.splice_size.proofs.Budgets.{refused, total_part}

@@ -1,4 +1,4 @@
-use Rattle.std.proofs.Common.{◌≡◌, ◌+◌, arith, length, sym, ap, ap₂, ◌∙◌}
+use Rattle.std.proofs.Common.{◌+◌, arith, length, sym, ap, ap₂, ◌∙◌}
 use Rattle.ir_core.specs.Size.{capped, sig_size, total}
 use Rattle.ir_core.specs.Viewed.{line_of}
 use Rattle.splice_size.specs.Counts.{counts_of}

@@ -1,6 +1,8 @@
 -- There are numbers for all that a splice within the limit of sizes brings.
-use Rattle.std.proofs.Common.{◌≡◌, ℕ, suc, ◌+◌, ◌*◌, ◌≤◌, ◌<◌, inl, inr, List, [], length, take, drop, Some, refl, sym, ap, ◌∙◌, subst, arith, length-append}
+use Rattle.std.proofs.Common.{◌≡◌, ℕ, suc, ◌+◌, ◌*◌, ◌≤◌, ◌<◌, inl, inr, List, [], ◌∷◌, length, take, drop, Some, refl}
+use Rattle.std.proofs.Common.{sym, ap, ◌∙◌, subst, arith, length-append}
 use Rattle.std.specs.Prelude.{slice_get}
+use Rattle.std.proofs.Math.Nat.{mul-add}
 use Rattle.std.proofs.lemmas.List.{drop_all}
 use Rattle.std.proofs.lemmas.Option.{slice_get_within}
 use Rattle.ir_core.specs.declared.places.Point.{Point}
@@ -19,8 +21,10 @@ use Rattle.inline_ends.specs.TryCallSite.{IsTryCall, CanSpliceTry}
 use Rattle.inline_acceptance.proofs.Points.{in_numbers}
 use Rattle.inline_numbering.proofs.Places.{splice_found}
 use Rattle.splice_bounds.specs.Laws.{WithinLimit, PlainCallHasNumbers, TailCallHasNumbers, TryCallHasNumbers}
-use Rattle.splice_bounds.proofs.Counts.{line_count, block_count, blocks_sized, callees_longer, counted, plain_calls_counted, sigs_longer, sigs_sized, tail_calls_counted, total_cut, types_counted}
-use Rattle.splice_bounds.proofs.Growing.{Stays, blocks_grow, body_tails, stays_within}
+use Rattle.splice_bounds.proofs.Counts.{line_count, block_count, blocks_sized, callees_longer, counted}
+use Rattle.splice_bounds.proofs.Counts.{plain_calls_counted, sigs_longer, sigs_sized, tail_calls_counted, total_cut}
+use Rattle.splice_bounds.proofs.Counts.{types_counted}
+use Rattle.splice_bounds.proofs.Growing.{Stays, blocks_grow, body_tails, found_within, stays_within}
 use Rattle.splice_bounds.proofs.Ends.{lines_there, one_tail, plain_within, tail_is_last, try_is_last}
 
 has_block : (g : Function) → WellFormed g → 0 < length g.blocks
@@ -44,7 +48,9 @@ module _ (n : Naming) (f g : Function) (at : Point) (l : Line) (w : WithinLimit 
       }
 
   within : size_of (spliced p) ≤ 262144
-  within = subst (λ z. size_of z ≤ 262144) (splice_found n f at.block at.index g w.block l w.block_found w.line_found) w.splice_size
+  within =
+      let is = splice_found n f at.block at.index g w.block l w.block_found w.line_found in
+      subst (λ z. size_of z ≤ 262144) is w.splice_size
 
   lines_are : lines_of at.block f.blocks ≡ w.block.lines
   lines_are = lines_there f w.caller_whole w.caller_accepted at.block at.index w.block w.block_found l w.line_found
@@ -53,7 +59,10 @@ module _ (n : Naming) (f g : Function) (at : Point) (l : Line) (w : WithinLimit 
   found = ap (λ z. slice_get z at.index) lines_are ∙ w.line_found
 
   there : IsPoint f at
-  there = (in_numbers at.block f.blocks w.block w.block_found, slice_get_within (lines_of at.block f.blocks) at.index l found)
+  there = (
+    in_numbers at.block f.blocks w.block w.block_found,
+    slice_get_within (lines_of at.block f.blocks) at.index l found,
+  )
 
   -- ---- declarations
 
@@ -68,6 +77,9 @@ module _ (n : Naming) (f g : Function) (at : Point) (l : Line) (w : WithinLimit 
 
   -- ---- blocks
 
+  cut : total line_count w.block.lines ≡ total line_count p.before + line_count l + total line_count p.behind
+  cut = total_cut line_count w.block.lines at.index l w.line_found
+
   of_callee : total block_count g.blocks ≤ 262144
   of_callee = omega (arith, blocks_sized g.blocks, w.callee_size)
 
@@ -80,9 +92,12 @@ module _ (n : Naming) (f g : Function) (at : Point) (l : Line) (w : WithinLimit 
   module _ (stays : Stays p) where
     grown : total block_count f.blocks + total block_count (body p g.blocks) ≤ 262144
     grown =
-        let more = blocks_grow p f.blocks w.block w.block_found (total_cut line_count w.block.lines at.index l w.line_found) stays in
+        let more = blocks_grow p f.blocks w.block w.block_found cut stays in
         let sized = blocks_sized (spliced_blocks p f.blocks) in
         omega (arith, within, more, sized)
+
+    site_results : length l.results ≤ 262144
+    site_results = omega (arith, grown, found_within at.block f.blocks w.block w.block_found, cut)
 
     caller_types : length f.types + total block_count (body p g.blocks) ≤ 262144
     caller_types = omega (arith, grown, counted f.blocks, types_counted f w.caller_whole)
@@ -98,7 +113,9 @@ module _ (n : Naming) (f g : Function) (at : Point) (l : Line) (w : WithinLimit 
       let stays = stays_within p k in
       let types = caller_types stays in
       let blocks = caller_blocks stays in
+      let results = site_results stays in
       let tails = body_tails p k g.blocks in
+      let each = mul-add (length l.results) (tail_calls_in g.blocks) 1 in
       let calls = tail_calls_counted g.blocks in
       record {
         there = there;
@@ -110,7 +127,7 @@ module _ (n : Naming) (f g : Function) (at : Point) (l : Line) (w : WithinLimit 
         few_slots = omega (arith, slots);
         few_sigs = omega (arith, sigs);
         few_callees = omega (arith, callees);
-        few_values = omega (arith, types, callee_types, tails);
+        few_values = omega (arith, types, callee_types, results, tails, each);
         few_blocks = omega (arith, blocks, callee_blocks);
         few_lines = omega (arith, blocks, callee_blocks, calls);
       }
@@ -132,7 +149,9 @@ module _ (n : Naming) (f g : Function) (at : Point) (l : Line) (w : WithinLimit 
 
   pub tail : IsTailCall l.inst → CanSpliceTail f g at
   tail h =
-      let ends = tail_is_last f w.caller_whole w.caller_accepted at.block at.index w.block w.block_found l w.line_found h in
+      let ends =
+      tail_is_last f w.caller_whole w.caller_accepted at.block at.index w.block w.block_found l w.line_found h
+      in
       let types = types_last ends in
       let blocks = blocks_last ends in
       record {
@@ -152,7 +171,9 @@ module _ (n : Naming) (f g : Function) (at : Point) (l : Line) (w : WithinLimit 
 
   pub tries : IsTryCall l.inst → CanSpliceTry f g at
   tries h =
-      let ends = try_is_last f w.caller_whole w.caller_accepted at.block at.index w.block w.block_found l w.line_found h in
+      let ends =
+      try_is_last f w.caller_whole w.caller_accepted at.block at.index w.block w.block_found l w.line_found h
+      in
       let types = types_last ends in
       let blocks = blocks_last ends in
       let calls = plain_calls_counted g.blocks in

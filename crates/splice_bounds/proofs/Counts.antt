@@ -1,7 +1,9 @@
--- How many numbers blocks take: one for each block, each of its parameters, each line and each of its results. They are no
--- more than the size.
-use Rattle.std.proofs.Common.{◌≡◌, ℕ, zero, suc, ◌+◌, ◌≤◌, ◌<◌, List, [], ◌∷◌, ◌++◌, length, map, get_or, take, drop, Some, Bool, true, false, refl, ap, ◌∙◌, arith, length-append, length-map}
+-- How many numbers blocks take: one for each block, each of its parameters, each line and each of its results. They are
+-- no more than the size.
+use Rattle.std.proofs.Common.{◌≡◌, ℕ, zero, suc, ◌+◌, ◌≤◌, ◌<◌, List, [], ◌∷◌, ◌++◌, length, map, get_or, take, drop}
+use Rattle.std.proofs.Common.{Some, Bool, true, false, refl, ap, ◌∙◌, arith, length-append}
 use Rattle.std.specs.Prelude.{if◌then◌else◌, slice_get}
+use Rattle.std.proofs.lemmas.List.{length-map}
 use Rattle.std.proofs.lemmas.Option.{slice_get_within, slice_get-get_or}
 use Rattle.ir_core.specs.Lookup.{definitions, line_definitions}
 use Rattle.ir_core.specs.Module.{Line, Block, Function}
@@ -35,7 +37,8 @@ length_within f h [] = omega arith
 length_within f h (x ∷ xs) = omega (arith, h x, length_within f h xs)
 
 -- what stands before a place, there and behind it
-pub total_cut : {A : Type 0} (f : A → ℕ) (xs : List A) (i : ℕ) (x : A) → slice_get xs i ≡ Some x → total f xs ≡ total f (take i xs) + f x + total f (drop (suc i) xs)
+pub total_cut : {A : Type 0} (f : A → ℕ) (xs : List A) (i : ℕ) (x : A) → slice_get xs i ≡ Some x
+    → total f xs ≡ total f (take i xs) + f x + total f (drop (suc i) xs)
 total_cut f [] i x h = cc
 total_cut f (y ∷ xs) zero x h = let e = ap f (some_same h) in omega (arith, e)
 total_cut f (y ∷ xs) (suc i) x h = let e = total_cut f xs i x h in omega (arith, e)
@@ -49,7 +52,9 @@ counted_lines (l ∷ ls) = omega (arith, counted_lines ls, length-append l.resul
 pub counted : (bs : List Block) → total block_count bs ≡ length bs + instruction_count bs + length (definitions bs)
 counted [] = omega arith
 counted (b ∷ bs) =
-    omega (arith, counted bs, counted_lines b.lines, length-append b.params (line_definitions b.lines ++ definitions bs), length-append (line_definitions b.lines) (definitions bs))
+    let behind = length-append (line_definitions b.lines) (definitions bs) in
+    let all = length-append b.params (line_definitions b.lines ++ definitions bs) in
+    omega (arith, counted bs, counted_lines b.lines, behind, all)
 
 lines_sized : (ls : List Line) → total line_count ls ≤ total line_size ls
 lines_sized ls = total_within line_count line_size (λ l. omega arith) ls
@@ -62,7 +67,9 @@ sigs_sized f = length_within sig_size (λ s. omega arith) f.sigs
 
 -- each declared value is defined
 pub types_counted : (f : Function) → WellFormed f → length f.types ≤ length (definitions f.blocks)
-types_counted f w = omega (arith, length-map f.types (λ x. x.0), subset_length (declared f) (definitions f.blocks) w.declared_once w.defined)
+types_counted f w =
+    let few = subset_length (declared f) (definitions f.blocks) w.declared_once w.defined in
+    omega (arith, few, length-map f.types (λ x. x.0))
 
 -- ---- calls among lines
 
@@ -93,7 +100,7 @@ plain_calls_counted (b ∷ bs) = omega (arith, plain_calls_few b.lines, plain_ca
 -- ---- under other numbers
 
 pub lines_under : (r : Renaming) (ls : List Line) → total line_count (map (line_under r) ls) ≡ total line_count ls
-lines_under r ls = total_map (line_under r) line_count line_count (λ l. ap suc (length-map l.results r.value)) ls
+lines_under r ls = total_map (line_under r) line_count line_count (λ l. omega (arith, length-map l.results r.value)) ls
 
 pub block_same : (r : Renaming) (b : Block) → block_count (block_under r b) ≡ block_count b
 block_same r b = omega (arith, length-map b.params r.value, lines_under r b.lines)
@@ -103,12 +110,14 @@ blocks_under r bs = total_map (block_under r) block_count block_count (block_sam
 
 -- ---- declarations of both functions
 
-stays_longer : {A : Type 0} (ys zs : List A) → ((k : ℕ) (a : A) → slice_get ys k ≡ Some a → slice_get zs k ≡ Some a) → length ys ≤ length zs
+stays_longer : {A : Type 0} (ys zs : List A) → ((k : ℕ) (a : A) → slice_get ys k ≡ Some a → slice_get zs k ≡ Some a)
+    → length ys ≤ length zs
 stays_longer [] zs h = omega arith
 stays_longer (y ∷ ys) zs h =
     let last = get_or (y ∷ ys) (length ys) y in
     let low : length ys < length (y ∷ ys) = omega arith in
-    omega (arith, slice_get_within zs (length ys) last (h (length ys) last (slice_get-get_or (y ∷ ys) (length ys) y low)))
+    let there = h (length ys) last (slice_get-get_or (y ∷ ys) (length ys) y low) in
+    omega (arith, slice_get_within zs (length ys) last there)
 
 pub sigs_longer : (f g : Function) → length f.sigs ≤ length (sigs_after f g)
 sigs_longer f g = stays_longer f.sigs (sigs_after f g) (own_sig f g)

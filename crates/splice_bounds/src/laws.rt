@@ -1,7 +1,7 @@
 //! Laws of numbers that are left: functions without a body, each of which has its law as its contract.
 ghost use Rattle.splice_bounds.specs.Laws.{PlainCallHasNumbers, TailCallHasNumbers, TryCallHasNumbers};
 
-/// Where a splice at a plain call is within the limit of sizes, it can be made: there are numbers for all that comes in.
+/// A splice at a plain call that is within the limit of sizes can be made: there are numbers for all that it brings.
 pub fn plain_call_has_numbers()
     ensures { PlainCallHasNumbers }
 {}

@@ -1,18 +1,16 @@
 -- There are numbers for all that a splice within the limit of sizes brings.
-use Rattle.std.proofs.Common.{◌≡◌, ℕ, suc, ◌+◌, ◌*◌, ◌≤◌, ◌<◌, inl, inr, List, [], ◌∷◌, length, take, drop, Some, refl}
-use Rattle.std.proofs.Common.{sym, ap, ◌∙◌, subst, arith, length-append}
+use Rattle.std.proofs.Common.{◌≡◌, suc, ◌+◌, ◌≤◌, ◌<◌, List, [], ◌∷◌, length, take, drop, Some, refl}
+use Rattle.std.proofs.Common.{ap, ◌∙◌, subst, arith, length-append}
 use Rattle.std.specs.Prelude.{slice_get}
 use Rattle.std.proofs.Math.Nat.{mul-add}
 use Rattle.std.proofs.lemmas.List.{drop_all}
 use Rattle.std.proofs.lemmas.Option.{slice_get_within}
 use Rattle.ir_core.specs.declared.places.Point.{Point}
 use Rattle.ir_core.specs.Edits.{IsPoint, lines_of}
-use Rattle.ir_core.specs.Lookup.{definitions}
 use Rattle.ir_core.specs.Module.{Line, Block, Function}
-use Rattle.ir_core.specs.Size.{total, sig_size, block_size, size_of}
+use Rattle.ir_core.specs.Size.{total, size_of}
 use Rattle.ir_core.specs.Sound.{instruction_count}
 use Rattle.ir_core.specs.WellFormed.{WellFormed}
-use Rattle.ir_semantics.specs.Import.{sigs_after, callees_after}
 use Rattle.ir_semantics.specs.Splice.{Naming, Splicing, body, spliced, spliced_blocks}
 use Rattle.inline_body.specs.PlainCall.{IsPlainCall, CanSplice}
 use Rattle.inline_body.specs.Results.{tail_calls_in}

@@ -1,13 +1,13 @@
 -- How many numbers blocks take: one for each block, each of its parameters, each line and each of its results. They are
 -- no more than the size.
 use Rattle.std.proofs.Common.{◌≡◌, ℕ, zero, suc, ◌+◌, ◌≤◌, ◌<◌, List, [], ◌∷◌, ◌++◌, length, map, get_or, take, drop}
-use Rattle.std.proofs.Common.{Some, Bool, true, false, refl, ap, ◌∙◌, arith, length-append}
+use Rattle.std.proofs.Common.{Some, Bool, true, false, ap, arith, length-append}
 use Rattle.std.specs.Prelude.{if◌then◌else◌, slice_get}
 use Rattle.std.proofs.lemmas.List.{length-map}
 use Rattle.std.proofs.lemmas.Option.{slice_get_within, slice_get-get_or}
 use Rattle.ir_core.specs.Lookup.{definitions, line_definitions}
 use Rattle.ir_core.specs.Module.{Line, Block, Function}
-use Rattle.ir_core.specs.Size.{total, line_size, block_size, sig_size, size_of}
+use Rattle.ir_core.specs.Size.{total, line_size, block_size, sig_size}
 use Rattle.ir_core.specs.Sound.{instruction_count}
 use Rattle.ir_core.specs.WellFormed.{WellFormed, declared}
 use Rattle.ir_core.proofs.Counting.{subset_length}

@@ -1,5 +1,5 @@
 -- In a whole function that is accepted a line that ends its block stands last, so a block has one tail call at most.
-use Rattle.std.proofs.Common.{◌≡◌, ℕ, suc, ◌+◌, ◌≤◌, inl, inr, List, [], ◌∷◌, length, Some, None, true, refl, sym, ap}
+use Rattle.std.proofs.Common.{◌≡◌, ℕ, suc, ◌+◌, ◌≤◌, inl, inr, List, [], ◌∷◌, length, Some, None, refl, sym, ap}
 use Rattle.std.proofs.Common.{◌∙◌, subst, arith}
 use Rattle.std.specs.Prelude.{if◌then◌else◌, slice_get}
 use Rattle.std.proofs.lemmas.Option.{slice_get_cases}
@@ -24,9 +24,8 @@ use Rattle.inline_ends.specs.TryCallSite.{IsTryCall}
 use Rattle.inline_outcomes.proofs.Local.{some_same}
 use Rattle.inline_acceptance.proofs.KeptFunctions.{sound}
 use Rattle.inline_acceptance.proofs.KeptLists.{some_and, in_each}
-use Rattle.inline_acceptance.proofs.KeptPaths.{Sound}
 use Rattle.inline_acceptance.proofs.KeptSite.{rule_at}
-use Rattle.inline_acceptance.proofs.Points.{EndsWell, Ending, Stops, in_numbers, none_first}
+use Rattle.inline_acceptance.proofs.Points.{EndsWell, Stops, in_numbers, none_first}
 use Rattle.inline_acceptance.proofs.Unique.{in_find}
 
 -- ---- tail calls

@@ -1,6 +1,6 @@
 -- There are numbers for all that a splice within the limit of sizes brings.
 use Rattle.std.proofs.Common.{◌≡◌, suc, ◌+◌, ◌≤◌, ◌<◌, List, [], ◌∷◌, length, take, drop, Some, refl}
-use Rattle.std.proofs.Common.{ap, ◌∙◌, subst, arith, length-append}
+use Rattle.std.proofs.Common.{ap, ◌∙◌, arith, length-append}
 use Rattle.std.specs.Prelude.{slice_get}
 use Rattle.std.proofs.Math.Nat.{mul-add}
 use Rattle.std.proofs.lemmas.List.{drop_all}
@@ -47,8 +47,8 @@ module _ (n : Naming) (f g : Function) (at : Point) (l : Line) (w : WithinLimit 
 
   within : size_of (spliced p) ≤ 262144
   within =
-      let is = splice_found n f at.block at.index g w.block l w.block_found w.line_found in
-      subst (λ z. size_of z ≤ 262144) is w.splice_size
+      let is = ap size_of (splice_found n f at.block at.index g w.block l w.block_found w.line_found) in
+      omega (arith, w.splice_size, is)
 
   lines_are : lines_of at.block f.blocks ≡ w.block.lines
   lines_are = lines_there f w.caller_whole w.caller_accepted at.block at.index w.block w.block_found l w.line_found

@@ -1,13 +1,14 @@
 -- A module is made function by function.
 use Rattle.std.proofs.Common.{◌≡◌, ℕ, zero, suc, ◌+◌, ◌-◌, ◌<◌, ◌≤◌, ◌^◌, List, [], ◌∷◌, ◌++◌, None, refl}
-use Rattle.std.proofs.Common.{sym, ap, ◌∙◌, arith, append_assoc}
+use Rattle.std.proofs.Common.{◌≢◌, Bool, cond, sym, ap, ap₂, ◌∙◌, arith, append_assoc, eq-eqb, ne_eqb}
 use Rattle.std.proofs.lemmas.List.{append-nil}
 use Rattle.ir_core.specs.Module.{Function, Module}
 use Rattle.ir_core.specs.Lists.{Each}
 use Rattle.ir_core.specs.Lookup.{find_function}
 use Rattle.ir_core.proofs.Members.{each_more, each_join}
-use Rattle.gen_mod.specs.Shapes.{generated_name}
-use Rattle.gen_mod.specs.Generated.{Made, function, functions_from, generated}
+use Rattle.gen_mod.specs.Draws.{after, number}
+use Rattle.gen_mod.specs.Shapes.{generated_name, adding}
+use Rattle.gen_mod.specs.Generated.{Made, makes_adding, shaped, function, functions_from, generated}
 use Rattle.gen_mod.proofs.Naming.{Other, find_none, function_named}
 
 -- it has the name of a function before i
@@ -74,3 +75,25 @@ makes_all start n i state made past makes =
     let e : n - i ≡ zero = omega arith in
     let none : functions_from (n - i) i state ≡ [] = rw e refl in
     sym (append-nil made) ∙ (ap (λ fs. made ++ fs) (sym none) ∙ makes.whole)
+
+-- ---- one function, as the code makes it
+
+module _ (i state : ℕ) where
+  abbrev by_test : Bool → Made
+  by_test first = cond first (makes_adding i state) (shaped (number 4 (after state)) i (after state))
+
+  -- the first has shape 0
+  pub first_made : (constant later : ℕ) (f : Function) → i ≡ 0 → later ≡ after state → constant ≡ number 1000 later
+      → f ≡ adding i constant → (f, later) ≡ function i state
+  unfolding function
+  first_made constant later f first moved drawn is =
+      ap₂ (λ (g : Function) (s : ℕ). (g, s)) (is ∙ ap (adding i) (drawn ∙ ap (number 1000) moved)) moved
+      ∙ sym (ap by_test (eq-eqb i 0 first))
+
+  -- of any other the shape is drawn first
+  pub other_made : (shape between later : ℕ) (f : Function) → i ≢ 0 → between ≡ after state
+      → shape ≡ number 4 between → (f, later) ≡ shaped shape i between → (f, later) ≡ function i state
+  unfolding function
+  other_made shape between later f other moved drawn is =
+      is
+      ∙ (ap₂ (λ (n s : ℕ). shaped n i s) (drawn ∙ ap (number 4) moved) moved ∙ sym (ap by_test (ne_eqb i 0 other)))

@@ -140,7 +140,12 @@ trying_keeps m signed i a =
       tags = tt;
       uses = (entry_param f _ _ refl 0 (inl refl) 0 0, tt);
     } in
-    let entry : Keeps f (block 0 (0 ∷ []) (try_call 0 0 1 2 ∷ [])) = record { filled = some; counts = λ e. refl; types = λ e. refl; lines = (tries, tt) } in
+    let entry : Keeps f (block 0 (0 ∷ []) (try_call 0 0 1 2 ∷ [])) = record {
+      filled = some;
+      counts = λ e. refl;
+      types = λ e. refl;
+      lines = (tries, tt);
+    } in
     let normal : Keeps f (block 1 (1 ∷ []) (returned 1 ∷ [])) = record {
       filled = some;
       counts = behind 0;

@@ -65,7 +65,7 @@ pub fn generate(alloc: Global, number: u64, functions: u32) -> Result<Module, Al
 {
     let mut module = Module::new(alloc);
     let mut state = number;
-    'functions: for i in 0..functions {
+    'made: for i in 0..functions {
         module.push(function(alloc, i, &mut state)?)?;
     }
     Ok(module)

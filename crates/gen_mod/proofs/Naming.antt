@@ -50,15 +50,17 @@ function_named = of_function Named (record {
 others : (count i j state : ℕ) → i < j → j + count ≤ 2 ^ 64 → Each (Other i) (functions_from count j state)
 unfolding functions_from
 others zero i j state before small = tt
-others (suc count) i j state before small =
-    ( record { number = j; below = omega arith; differs = λ e. omega (arith, e); named = function_named j state }
-    , others count i (j + 1) (function j state).1 (omega arith) (omega arith))
+others (suc count) i j state before small = (
+  record { number = j; below = omega arith; differs = λ e. omega (arith, e); named = function_named j state },
+  others count i (j + 1) (function j state).1 (omega arith) (omega arith),
+)
 
 pub functions_differ : (count i state : ℕ) → i + count ≤ 2 ^ 64 → DifferentNames (functions_from count i state)
 unfolding functions_from
 functions_differ zero i state small = tt
 functions_differ (suc count) i state small =
-    let rest = functions_from count (i + 1) (function i state).1 in
-    ( ap (λ n. find_function n rest) (function_named i state)
-        ∙ find_none i (omega arith) rest (others count i (i + 1) (function i state).1 (omega arith) (omega arith))
-    , functions_differ count (i + 1) (function i state).1 (omega arith))
+    let rest = functions_from count (i + 1) (function i state).1 in (
+      ap (λ n. find_function n rest) (function_named i state)
+          ∙ find_none i (omega arith) rest (others count i (i + 1) (function i state).1 (omega arith) (omega arith)),
+      functions_differ count (i + 1) (function i state).1 (omega arith),
+    )

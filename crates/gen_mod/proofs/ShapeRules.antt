@@ -99,30 +99,40 @@ adding_keeps m i c small =
       tags = refl;
       uses = (entry_param f _ _ refl 0 (inl refl) 0 1, (result_behind f 0 0 _ refl _ refl 1 (inl refl), tt));
     } in
-    rules_hold m f tt
-    (record {
-      filled = some;
-      counts = λ e. refl;
-      types = λ e. refl;
-      lines =
-          ( iconst_keeps 1 c small tt refl
-          , ( sum
-            , (returned_keeps 2 tt (refl, refl) (refl, refl) (result_behind f 0 1 _ refl _ refl 2 (inl refl)), tt)));
-    }, tt)
+    rules_hold m f tt (
+      record {
+        filled = some;
+        counts = λ e. refl;
+        types = λ e. refl;
+        lines = (
+          iconst_keeps 1 c small tt refl,
+          (
+            sum,
+            (returned_keeps 2 tt (refl, refl) (refl, refl) (result_behind f 0 1 _ refl _ refl 2 (inl refl)), tt),
+          ),
+        );
+      },
+      tt,
+    )
 
 pub calling_two_keeps : (m : Module) → Each Signed m → (i a b : ℕ) → RulesHold m (calling_two i a b)
 calling_two_keeps m signed i a b =
     let f = calling_two i a b in
-    rules_hold m f (declared m signed f refl (generated_name a), (declared m signed f refl (generated_name b), tt))
-    (record {
-      filled = some;
-      counts = λ e. refl;
-      types = λ e. refl;
-      lines =
-          ( call_keeps 1 0 0 tt (refl, refl) (refl, tt, (refl, refl)) (entry_param f _ _ refl 0 (inl refl) 0 0)
-          , ( call_keeps 2 1 1 tt (refl, refl) (refl, tt, (refl, refl)) (result_behind f 0 0 _ refl _ refl 1 (inl refl))
-            , (returned_keeps 2 tt (refl, refl) (refl, refl) (result_behind f 0 1 _ refl _ refl 2 (inl refl)), tt)));
-    }, tt)
+    rules_hold m f (declared m signed f refl (generated_name a), (declared m signed f refl (generated_name b), tt)) (
+      record {
+        filled = some;
+        counts = λ e. refl;
+        types = λ e. refl;
+        lines = (
+          call_keeps 1 0 0 tt (refl, refl) (refl, tt, (refl, refl)) (entry_param f _ _ refl 0 (inl refl) 0 0),
+          (
+            call_keeps 2 1 1 tt (refl, refl) (refl, tt, (refl, refl)) (result_behind f 0 0 _ refl _ refl 1 (inl refl)),
+            (returned_keeps 2 tt (refl, refl) (refl, refl) (result_behind f 0 1 _ refl _ refl 2 (inl refl)), tt),
+          ),
+        );
+      },
+      tt,
+    )
 
 pub trying_keeps : (m : Module) → Each Signed m → (i a : ℕ) → RulesHold m (trying i a)
 trying_keeps m signed i a =
@@ -130,9 +140,10 @@ trying_keeps m signed i a =
     let tries : LineKeeps f 0 _ 0 (try_call 0 0 1 2) = record {
       ends = tt;
       targets = (behind 0, (behind 1, (behind 1, tt)));
-      counts =
-          ( refl
-          , (refl, ((refl, (omega arith, tt)), ((refl, (omega arith, tt)), ((refl, (omega arith, tt)), tt)))));
+      counts = (
+        refl,
+        (refl, ((refl, (omega arith, tt)), ((refl, (omega arith, tt)), ((refl, (omega arith, tt)), tt)))),
+      );
       types = (refl, tt, (refl, (refl, (refl, (refl, tt)))));
       conventions = tt;
       signatures = refl;
@@ -196,17 +207,19 @@ choosing_keeps m signed i c a small =
       filled = some;
       counts = behind 0;
       types = behind 0;
-      lines =
-          ( call_keeps 3 0 0 tt (refl, refl) (refl, tt, (refl, refl)) (entry_param f _ _ refl 0 (inl refl) 1 0)
-          , (returned_keeps 3 tt (refl, refl) (refl, refl) (result_behind f 1 0 _ refl _ refl 3 (inl refl)), tt));
+      lines = (
+        call_keeps 3 0 0 tt (refl, refl) (refl, tt, (refl, refl)) (entry_param f _ _ refl 0 (inl refl) 1 0),
+        (returned_keeps 3 tt (refl, refl) (refl, refl) (result_behind f 1 0 _ refl _ refl 3 (inl refl)), tt),
+      );
     } in
     let other : Keeps f (block 2 [] (call 4 1 0 ∷ returned 4 ∷ [])) = record {
       filled = some;
       counts = behind 1;
       types = behind 1;
-      lines =
-          ( call_keeps 4 1 0 tt (refl, refl) (refl, tt, (refl, refl)) (entry_param f _ _ refl 0 (inl refl) 2 0)
-          , (returned_keeps 4 tt (refl, refl) (refl, refl) (result_behind f 2 0 _ refl _ refl 4 (inl refl)), tt));
+      lines = (
+        call_keeps 4 1 0 tt (refl, refl) (refl, tt, (refl, refl)) (entry_param f _ _ refl 0 (inl refl) 2 0),
+        (returned_keeps 4 tt (refl, refl) (refl, refl) (result_behind f 2 0 _ refl _ refl 4 (inl refl)), tt),
+      );
     } in
     rules_hold m f (declared m signed f refl (generated_name a), (declared m signed f refl host_name, tt))
     (entry, (below, (other, tt)))

@@ -73,10 +73,13 @@ adding_whole i c = record {
   defined = λ v p. p;
   definitions_declared = λ v p. p;
   callees = tt;
-  lines =
-      ( ( iconst_whole 1 c
-        , (pure_whole ops.Iadd 2 0 1 (inl refl) (inr (inl refl)), (returned_whole 2 (inr (inr (inl refl))), tt)))
-      , tt);
+  lines = (
+    (
+      iconst_whole 1 c,
+      (pure_whole ops.Iadd 2 0 1 (inl refl) (inr (inl refl)), (returned_whole 2 (inr (inr (inl refl))), tt)),
+    ),
+    tt,
+  );
 }
 
 pub calling_two_whole : (i a b : ℕ) → WellFormed (calling_two i a b)
@@ -88,11 +91,16 @@ calling_two_whole i a b = record {
   defined = λ v p. p;
   definitions_declared = λ v p. p;
   callees = (omega arith, (omega arith, tt));
-  lines =
-      ( ( call_whole 1 0 0 (inl refl) (omega arith)
-        , ( call_whole 2 1 1 (inr (inl refl)) (omega arith)
-          , (returned_whole 2 (inr (inr (inl refl))), tt)))
-      , tt);
+  lines = (
+    (
+      call_whole 1 0 0 (inl refl) (omega arith),
+      (
+        call_whole 2 1 1 (inr (inl refl)) (omega arith),
+        (returned_whole 2 (inr (inr (inl refl))), tt),
+      ),
+    ),
+    tt,
+  );
 }
 
 pub trying_whole : (i a : ℕ) → WellFormed (trying i a)
@@ -113,10 +121,13 @@ trying_whole i a =
       defined = λ v p. p;
       definitions_declared = λ v p. p;
       callees = (omega arith, tt);
-      lines =
-          ( (tries, tt)
-          , ( (returned_whole 1 (inr (inl refl)), tt)
-            , ((returned_whole 2 (inr (inr (inl refl))), tt), tt)));
+      lines = (
+        (tries, tt),
+        (
+          (returned_whole 1 (inr (inl refl)), tt),
+          ((returned_whole 2 (inr (inr (inl refl))), tt), tt),
+        ),
+      );
     }
 
 pub choosing_whole : (i c a : ℕ) → WellFormed (choosing i c a)
@@ -137,14 +148,25 @@ choosing_whole i c a =
       defined = λ v p. p;
       definitions_declared = λ v p. p;
       callees = (omega arith, (omega arith, tt));
-      lines =
-          ( ( iconst_whole 1 c
-            , (pure_whole (ops.Icmp Ult) 2 0 1 (inl refl) (inr (inl refl)), (parts, tt)))
-          , ( ( call_whole 3 0 0 (inl refl) (omega arith)
-              , (returned_whole 3 (inr (inr (inr (inl refl)))), tt))
-            , ( ( call_whole 4 1 0 (inl refl) (omega arith)
-                , (returned_whole 4 (inr (inr (inr (inr (inl refl))))), tt))
-              , tt)));
+      lines = (
+        (
+          iconst_whole 1 c,
+          (pure_whole (ops.Icmp Ult) 2 0 1 (inl refl) (inr (inl refl)), (parts, tt)),
+        ),
+        (
+          (
+            call_whole 3 0 0 (inl refl) (omega arith),
+            (returned_whole 3 (inr (inr (inr (inl refl)))), tt),
+          ),
+          (
+            (
+              call_whole 4 1 0 (inl refl) (omega arith),
+              (returned_whole 4 (inr (inr (inr (inr (inl refl))))), tt),
+            ),
+            tt,
+          ),
+        ),
+      );
     }
 
 -- ---- what a module asks of a function that is put into it

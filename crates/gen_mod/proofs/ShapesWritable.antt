@@ -59,14 +59,21 @@ trying_writable i a here callee = record {
   name = name_writable i here;
   slots = tt;
   callees = (name_writable a callee, tt);
-  lines =
-      ( ( ( ( refl
-            , (omega arith, tt)
-            , ((omega arith, (omega arith, tt)), ((tt, (omega arith, tt)), tt))
-            , tt)
-          , tt)
-        , tt)
-      , ((((refl, tt), tt), tt), ((((refl, tt), tt), tt), tt)));
+  lines = (
+    (
+      (
+        (
+          refl,
+          (omega arith, tt),
+          ((omega arith, (omega arith, tt)), ((tt, (omega arith, tt)), tt)),
+          tt,
+        ),
+        tt,
+      ),
+      tt,
+    ),
+    ((((refl, tt), tt), tt), ((((refl, tt), tt), tt), tt)),
+  );
   size = omega arith;
 }
 
@@ -77,11 +84,18 @@ choosing_writable i c a here small callee =
       name = name_writable i here;
       slots = tt;
       callees = (name_writable a callee, (host_writable, tt));
-      lines =
-          ( ( ((refl, (range, tt), (refl, tt)), tt)
-            , (((refl, (refl, tt)), tt), (((refl, (tt, (tt, tt)), tt), tt), tt)))
-          , ( (((refl, (refl, tt)), tt), (((refl, tt), tt), tt))
-            , ( (((refl, (refl, tt)), tt), (((refl, tt), tt), tt))
-              , tt)));
+      lines = (
+        (
+          ((refl, (range, tt), (refl, tt)), tt),
+          (((refl, (refl, tt)), tt), (((refl, (tt, (tt, tt)), tt), tt), tt)),
+        ),
+        (
+          (((refl, (refl, tt)), tt), (((refl, tt), tt), tt)),
+          (
+            (((refl, (refl, tt)), tt), (((refl, tt), tt), tt)),
+            tt,
+          ),
+        ),
+      );
       size = omega arith;
     }

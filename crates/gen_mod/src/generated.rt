@@ -58,7 +58,7 @@ fn function(alloc: Global, number: u32, state: &mut u64) -> Result<Func, AllocEr
 }
 
 /// The module of so many functions that a number gives. Function I has the name `%gI`, and calls earlier functions of
-/// the module and `%host` alone. It takes time and memory in proportion to the number of functions.
+/// the module and `%host` alone. Takes time linear in the number of functions but for the logarithm of a name's place.
 pub fn generate(alloc: Global, number: u64, functions: u32) -> Result<Module, AllocError>
     ensures module { IfOk result (λ m. m ≡ spec.generated number functions) }
     ensures accepted { IfOk result (λ m. Accepted m) }

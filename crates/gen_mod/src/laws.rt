@@ -11,5 +11,4 @@ pub fn generated_is_accepted()
     ensures module { (number count : ℕ) → count ≤ 2 ^ 64 → IsModule (generated number count) }
     ensures accepted { (number count : ℕ) → Accepted (generated number count) }
     ensures writable { (number count : ℕ) → count ≤ 65536 → Writable (generated number count) }
-{
-}
+{}

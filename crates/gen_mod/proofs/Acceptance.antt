@@ -1,6 +1,5 @@
 -- A generated module is one, every rule accepts it, and it has a text.
-use Rattle.std.proofs.Common.{◌≡◌, ℕ, zero, suc, ◌+◌, ◌<◌, ◌≤◌, ◌^◌, List, length, refl, ap, arith}
-use Rattle.ir_core.specs.Module.{Function, Module}
+use Rattle.std.proofs.Common.{◌≡◌, ℕ, zero, suc, ◌+◌, ◌<◌, ◌≤◌, ◌^◌, length, refl, ap, arith}
 use Rattle.ir_core.specs.Lists.{Each}
 use Rattle.ir_core.specs.WellFormed.{WellFormed, IsModule}
 use Rattle.ir_semantics.specs.Accepted.{RulesHold, Accepted}

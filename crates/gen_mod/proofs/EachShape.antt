@@ -1,6 +1,5 @@
 -- What holds of each of the four shapes holds of every function that is made.
-use Rattle.std.proofs.Common.{◌≡◌, ℕ, zero, suc, ◌+◌, ◌*◌, ◌/◌, ◌^◌, ◌<◌, ◌==◌, arith, Bool, true, false, cond, List}
-use Rattle.std.proofs.Common.{[], ◌∷◌}
+use Rattle.std.proofs.Common.{ℕ, zero, suc, ◌+◌, ◌*◌, ◌/◌, ◌^◌, ◌<◌, ◌==◌, arith, Bool, true, false, cond}
 use Rattle.std.proofs.Math.Nat.{mod-lt, mod-le, div-le_self}
 use Rattle.ir_core.specs.Module.{Function}
 use Rattle.ir_core.specs.Lists.{Each}

@@ -11,7 +11,7 @@ use Rattle.ir_core.specs.WellFormed.{DifferentNames}
 use Rattle.ir_core.proofs.Equal.{cases_name}
 use Rattle.gen_mod.specs.Shapes.{generated_name}
 use Rattle.gen_mod.specs.Generated.{function, functions_from}
-use Rattle.gen_mod.proofs.EachShape.{OfShapes, of_function}
+use Rattle.gen_mod.proofs.EachShape.{of_function}
 
 abbrev bytes_of : FuncName → List ℕ
 bytes_of (name.Text bytes) = bytes

@@ -1,5 +1,5 @@
 -- Each of the four shapes keeps every rule, in any module whose functions all have the one signature.
-use Rattle.std.proofs.Common.{◌≡◌, ◌≢◌, ℕ, suc, ◌<◌, ◌^◌, List, [], ◌∷◌, length, Some, refl, sym, ap, ◌∙◌, arith, inl}
+use Rattle.std.proofs.Common.{◌≡◌, ◌≢◌, ℕ, suc, ◌<◌, ◌^◌, List, [], ◌∷◌, Some, refl, sym, ap, ◌∙◌, arith, inl}
 use Rattle.std.specs.Prelude.{slice_get}
 use Rattle.clk_num.specs.Rows.{row}
 use Rattle.ir_core.specs.declared.names.FuncName.{FuncName}

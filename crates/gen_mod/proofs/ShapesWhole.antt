@@ -1,12 +1,12 @@
 -- Each of the four shapes is well-formed: every number in it is that of something it has, and its values are defined in
 -- the order in which they are declared.
-use Rattle.std.proofs.Common.{◌≡◌, ℕ, zero, suc, ◌+◌, ◌<◌, ◌≤◌, List, [], ◌∷◌, length, refl, arith, inl, inr}
+use Rattle.std.proofs.Common.{ℕ, zero, suc, ◌+◌, ◌<◌, ◌≤◌, length, refl, arith, inl, inr}
 use Rattle.std.proofs.lemmas.Bool.{cases_eq}
 use Rattle.clk_num.specs.declared.op.Cc.TheVariants.{Ult}
 use Rattle.clk_num.specs.declared.op.Op.TheVariants as ops
 use Rattle.clk_num.specs.declared.op.Op.{Op}
-use Rattle.ir_core.specs.Module.{Line, Function}
-use Rattle.ir_core.specs.Lists.{In, Each, Different}
+use Rattle.ir_core.specs.Module.{Function}
+use Rattle.ir_core.specs.Lists.{In, Different}
 use Rattle.ir_core.specs.Sound.{IsWhole}
 use Rattle.ir_core.specs.WellFormed.{declared, LineWellFormed, WellFormed}
 use Rattle.ir_semantics.specs.Splice.{from}

@@ -1,16 +1,13 @@
 -- Each of the four shapes has a text, where its numbers have 64 bits: its names are letters and digits, and each
 -- instruction is of a form of the text.
-use Rattle.std.proofs.Common.{◌≡◌, ◌≢◌, ℕ, ◌+◌, ◌%◌, ◌<◌, ◌≤◌, ◌^◌, true, List, [], ◌∷◌, ◌++◌, refl, arith}
-use Rattle.std.specs.Prelude.{codes, decimal, IsTrue}
+use Rattle.std.proofs.Common.{◌≡◌, ℕ, ◌+◌, ◌%◌, ◌<◌, ◌^◌, true, List, [], ◌∷◌, refl, arith}
+use Rattle.std.specs.Prelude.{decimal, IsTrue}
 use Rattle.std.proofs.lemmas.Bool.Decides.{nat_tests}
 use Rattle.std.proofs.lemmas.Fmt.{decimal_by_steps}
-use Rattle.clk_num.specs.declared.op.Cc.TheVariants.{Ult}
-use Rattle.clk_num.specs.declared.op.Op.TheVariants as ops
-use Rattle.ir_core.specs.Module.{Function}
 use Rattle.ir_core.specs.Lists.{Each}
 use Rattle.ir_core.proofs.Members.{each_join}
 use Rattle.ir_text.specs.Writable.{is_name_byte, NameWritable, FunctionWritable}
-use Rattle.gen_mod.specs.Shapes.{generated_name, host_name, iconst, returned}
+use Rattle.gen_mod.specs.Shapes.{generated_name, host_name}
 use Rattle.gen_mod.specs.Shapes.{adding, calling_two, trying, choosing}
 
 -- ---- names

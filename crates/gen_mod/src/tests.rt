@@ -4,29 +4,35 @@ use crate::generate;
 use ir_core::{FuncName, Module};
 use std::alloc::{AllocError, Global};
 
-/// The names of the functions that each function declares, with a mark behind each and in front of each function.
-fn callees(alloc: Global, module: &Module) -> Result<Vec<u8>, AllocError> {
+/// Writes a name, and a space behind it.
+fn push_name(names: &mut Vec<u8>, name: &FuncName) -> Result<(), AllocError> {
+    if let FuncName::Text(text) = name {
+        names.extend_from_slice(text.as_slice())?;
+    }
+    names.push(b' ')?;
+    Ok(())
+}
+
+/// The name of each function and those of its callees, with a mark behind each function.
+fn all_names(alloc: Global, module: &Module) -> Result<Vec<u8>, AllocError> {
     let mut names = Vec::new(alloc);
     for i in 0..module.len() {
-        names.push(b'|')?;
-        for callee in module.func(i).callees() {
-            if let FuncName::Text(text) = &callee.name {
-                names.extend_from_slice(text.as_slice())?;
-            }
-            names.push(b' ')?;
+        let func = module.func(i);
+        push_name(&mut names, func.name())?;
+        for callee in func.callees() {
+            push_name(&mut names, &callee.name)?;
         }
+        names.push(b'|')?;
     }
     Ok(names)
 }
 
 #[test]
 fn makes_functions(rt: HostRuntime) -> Result<(), AllocError> {
-    let module = generate(rt.alloc(), 7, 12)?;
-    let names = callees(rt.alloc(), &module)?;
-    let drawn = b"||g0 host |g1 g0 ||g3 |g0 host |g4 g3 |g5 host ||g0 |g4 g0 |g7 g3 ".as_slice();
-    assert!(rt; names.as_slice() == drawn);
-    assert!(rt;
-        matches!(module.func(11).name(), FuncName::Text(text) if text.as_slice() == b"g11".as_slice())
-    );
+    let module = generate(rt.alloc(), 7, 10)?;
+    let names = all_names(rt.alloc(), &module)?;
+    let drawn =
+        b"g0 |g1 g0 host |g2 g1 g0 |g3 |g4 g3 |g5 g0 host |g6 g4 g3 |g7 g5 host |g8 |g9 g0 |".as_slice();
+    assert_eq!(rt; names.as_slice(), drawn);
     Ok(())
 }

@@ -3,6 +3,7 @@
 
 mod command;
 mod commands;
+mod inlining;
 mod pieces;
 mod reading;
 mod report;

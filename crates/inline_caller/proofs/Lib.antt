@@ -1,0 +1,4 @@
+pub mod Counted
+pub mod Kinds
+pub mod Indexed
+pub mod Definitions

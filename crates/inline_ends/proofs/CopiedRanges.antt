@@ -1,5 +1,5 @@
 -- The numbers in a copied body are those of what the caller has then.
-use Rattle.std.proofs.Common.{ℕ, ◌<◌, List, [], ◌∷◌, map, arith}
+use Rattle.std.proofs.Common.{◌<◌, List, [], ◌∷◌, map, arith}
 use Rattle.debug_tags.specs.declared.tags.Tag.{Tag}
 use Rattle.ir_core.specs.Module.{Line, Block}
 use Rattle.ir_core.specs.Lists.{Each, Below}

@@ -97,12 +97,12 @@ module _ (p : Splicing) (n : Names) (s : OuterTry) (is : TryNumbers p n s) where
 
   -- ---- calls
 
-  try_is : (l : Line) (i : Instruction) (t : CallTarget) (args : List ℕ) (normal own : BlockCall) → copied_tags n s.tags i l.tags ≡ s.tags ++ map (tag_under (names_of n)) l.tags → l.inst ≡ i → normal ≡ own → call_as_try p l t args normal (outer_table p s.table) ≡ try_line n s l (try_of n s t args own)
-  try_is l i t args normal own tags e g =
+  try_is : (l : Line) (i : Instruction) (t : CallTarget) (args : List ℕ) (normal target : BlockCall) → copied_tags n s.tags i l.tags ≡ s.tags ++ map (tag_under (names_of n)) l.tags → l.inst ≡ i → normal ≡ target → call_as_try p l t args normal (outer_table p s.table) ≡ try_line n s l (try_of n s t args target)
+  try_is l i t args normal target tags e g =
       ap (λ (z : Instruction). record { inst = TryCall (try_target (called_under (callee_names p) t)) (named_sig p (called_under (callee_names p) t)) (map p.naming.callee_value args) normal (outer_table p s.table); ty = l.ty; results = []; tags = joined_tags p z l.tags }) e
       ∙ (ap₂ (λ (x : CallTarget) (y : List ℕ). record { inst = TryCall (try_target x) (named_sig p x) y normal (outer_table p s.table); ty = l.ty; results = []; tags = joined_tags p i l.tags }) (called_are p n own t) (values_are p n own args)
       ∙ (ap₂ (λ (x : ℕ) (y : BlockCall). record { inst = TryCall (try_target (called_under (names_of n) t)) x (map (names_of n).value args) y (outer_table p s.table); ty = l.ty; results = []; tags = joined_tags p i l.tags }) (sig_is (called_under (names_of n) t)) g
-      ∙ ap₂ (λ (x : List (Entry BlockCall)) (y : List Tag). record { inst = TryCall (try_target (called_under (names_of n) t)) (sig_called s.callees (called_under (names_of n) t)) (map (names_of n).value args) own x; ty = l.ty; results = []; tags = y }) outer_is (tags_are i l.tags ∙ tags)))
+      ∙ ap₂ (λ (x : List (Entry BlockCall)) (y : List Tag). record { inst = TryCall (try_target (called_under (names_of n) t)) (sig_called s.callees (called_under (names_of n) t)) (map (names_of n).value args) target x; ty = l.ty; results = []; tags = y }) outer_is (tags_are i l.tags ∙ tags)))
 
   abbrev Step : ℕ → ℕ → ℕ → Line → Instruction → Fragment → Type 0
   Step c j next l i q = tries_fragment p s.normal s.table c j l i q ≡ with_line n next l (tried_line n s next l i) (is_plain_call i) q

@@ -1,6 +1,6 @@
 -- The numbers in a body at a `try_call` are those of what the caller has then.
 use Rattle.std.proofs.Common.{◌≡◌, ℕ, zero, suc, ◌+◌, ◌<◌, ◌≤◌, List, [], ◌∷◌, ◌++◌, map, length, get_or, Bool, true, false, Option, Some, None, refl, sym, ap, ◌∙◌, subst, arith, append_assoc}
-use Rattle.std.specs.Prelude.{if◌then◌else◌, slice_get}
+use Rattle.std.specs.Prelude.{slice_get}
 use Rattle.exn_tables.specs.declared.table.Entry.{Entry}
 use Rattle.ir_core.specs.declared.declarations.Callee.{Callee}
 use Rattle.ir_core.specs.declared.instructions.Arg.{Arg}
@@ -13,13 +13,13 @@ use Rattle.ir_core.specs.Uses.{values_used, operands, called_used, called_callee
 use Rattle.ir_core.specs.Sound.{Counts, LineInRange, BlockInRange}
 use Rattle.ir_core.proofs.Members.{below_join, below_left, below_right, each_join}
 use Rattle.ir_semantics.specs.Renaming.{instruction_under, target_under, entry_under}
-use Rattle.ir_semantics.specs.Splice.{from, or_ret, Fragment}
+use Rattle.ir_semantics.specs.Splice.{from, or_ret}
 use Rattle.inline_body.specs.declared.names.Names.{Names}
 use Rattle.inline_body.specs.Named.{names_of}
 use Rattle.inline_body.proofs.BodyRanges.{NamesInRange, below_mapped, both_shown, copied_in_range}
 use Rattle.inline_body.proofs.BodyDefinitions.{counted}
 use Rattle.inline_body.proofs.UsesUnder.{values_under, blocks_under, callees_under}
-use Rattle.inline_ends.specs.Tried.{OuterTry, is_plain_call, plain_calls, plain_calls_in, numbered_with_calls, returned_arg, sig_called, try_of, try_line, to_next, tried_line, with_line, tried_lines, tried_block, tried_blocks}
+use Rattle.inline_ends.specs.Tried.{OuterTry, is_plain_call, plain_calls, plain_calls_in, numbered_with_calls, returned_arg, sig_called, try_of, try_line, to_next, tried_line, tried_lines, tried_block, tried_blocks}
 use Rattle.inline_ends.proofs.TriedShape.{rest_of, made_of}
 
 -- ---- lists

@@ -1,4 +1,4 @@
 pub mod Counted
-pub mod Kinds
+pub mod ReplacedCalls
 pub mod Indexed
 pub mod Definitions

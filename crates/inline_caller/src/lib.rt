@@ -4,9 +4,9 @@
 mod caller;
 mod kinds;
 pub mod laws;
+mod one_call;
 mod putting;
-mod splice;
 
 pub use caller::Caller;
 pub use kinds::{CallKind, call_kind};
-pub use splice::splice;
+pub use one_call::splice;

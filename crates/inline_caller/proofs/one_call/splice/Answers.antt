@@ -1,5 +1,5 @@
-use Rattle.inline_caller.proofs.Kinds.{replaced, can_plain, can_tail, can_try}
-use Rattle.inline_caller.proofs.splice.splice.Goals as goal
+use Rattle.inline_caller.proofs.ReplacedCalls.{replaced, can_plain, can_tail, can_try}
+use Rattle.inline_caller.proofs.one_call.splice.Goals as goal
 
 pub inst-requires : goal.inst-requires
 inst-requires c = (replaced c.args.caller.now.function c.args.callee.now.function c.args.site c.requires).there

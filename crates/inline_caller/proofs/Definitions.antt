@@ -1,19 +1,17 @@
 -- A splice under the code's numbers is that of the definition up to numbering.
-use Rattle.std.proofs.Common.{◌≡◌, suc, ◌∷◌, List, Some, take, drop, sym, ap, ◌∙◌, subst}
-use Rattle.ir_core.specs.declared.places.Point.{Point}
-use Rattle.ir_core.specs.Module.{Function, Line}
+use Rattle.std.proofs.Common.{◌≡◌, sym, ◌∙◌, subst}
+use Rattle.ir_core.specs.Module.{Function}
 use Rattle.ir_core.specs.Sound.{IsSound, IsWhole}
 use Rattle.ir_core.specs.Edits.{lines_of}
-use Rattle.ir_core.specs.WellFormed.{WellFormed}
 use Rattle.ir_semantics.specs.Canon.{SameFunction}
-use Rattle.ir_semantics.specs.Splice.{Splicing, sides, splice_with, spliced}
+use Rattle.ir_semantics.specs.Splice.{Splicing, sides, spliced}
 use Rattle.avail_flow.proofs.Blocks.{line_found, found_parts}
-use Rattle.inline_acceptance.specs.Alone.{AcceptedAlone, CallSite, AloneParts}
+use Rattle.inline_acceptance.specs.Alone.{CallSite, AloneParts}
 use Rattle.inline_numbering.proofs.AnyNumbers.{splice_of_any_numbers}
-use Rattle.inline_body.specs.PlainCall.{splicing_at, IsSplice}
+use Rattle.inline_body.specs.PlainCall.{splicing_at}
 use Rattle.inline_body.proofs.Ready.{spliced_at}
 use Rattle.inline_body.proofs.SiteOpening.{cut_list}
-use Rattle.inline_caller.specs.Laws.{CallsAt, SpliceIsDefinitions}
+use Rattle.inline_caller.specs.Laws.{SpliceIsDefinitions}
 
 pub splice_is_definitions : SpliceIsDefinitions
 splice_is_definitions f g h at calls wf wg af ag is sound =

@@ -1,6 +1,6 @@
 -- A call of any kind, and when its callee's body can come in its place.
 use Rattle.ir_core.specs.declared.places.Point.{Point}
-use Rattle.ir_core.specs.Module.{Instruction, Call, ReturnCall, TryCall, Function}
+use Rattle.ir_core.specs.Module.{Instruction, ReturnCall, TryCall, Function}
 use Rattle.inline_body.specs.PlainCall.{CanSplice}
 use Rattle.inline_ends.specs.TailCall.{CanSpliceTail}
 use Rattle.inline_ends.specs.TryCallSite.{CanSpliceTry}

@@ -1,4 +1,4 @@
-use Rattle.inline_caller.proofs.ReplacedCalls.{replaced, can_plain, can_tail, can_try}
+use Rattle.inline_caller.proofs.ReplacedCalls.{replaced}
 use Rattle.inline_caller.proofs.putting.put_callee.Goals as goal
 
 pub inst-requires : goal.inst-requires

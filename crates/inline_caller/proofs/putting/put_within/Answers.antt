@@ -1,4 +1,4 @@
-use Rattle.std.proofs.Common.{◌≡◌, ℕ, ◌+◌, ◌<◌, length, sym, ap, subst, arith}
+use Rattle.std.proofs.Common.{length, sym, ap, subst, arith}
 use Rattle.ir_core.specs.Module.{Function}
 use Rattle.inline_body.specs.Prepared.{IsReady}
 use Rattle.inline_body.proofs.Preparing.{is_splice}
@@ -15,5 +15,5 @@ pub returns-clause-counted : goal.returns-clause-counted
 returns-clause-counted c = λ g i made.
     let e = within_count c.args.func.now.function g c.reserve.new.self.function c.put_piece.new.caller.function c.args.site i c.args.body made c.reserve.ensures.same c.put_piece.ensures.spliced in
     let n = c.requires.counted in
-    let k = ap length c.as_slice.ensures.value in
+    let k = ap length c.as_slice.ensures in
     omega (arith, e, n, k)

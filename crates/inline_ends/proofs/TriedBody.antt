@@ -120,8 +120,8 @@ module _ (p : Splicing) (n : Names) (s : OuterTry) (is : TryNumbers p n s) where
       (try_is l (Call t args) t args (to_rest p c j l) (to_next next l) refl e (ap (λ (z : ℕ). to_next z l) g))
       (ap₂ (λ (x : ℕ) (y : List ℕ). record { number = x; params = y; lines = q.lines }) g (values_are p n numbering l.results))
   step c j next l (ReturnCall t args) q e g = ap (λ (z : Line). fronted z q) (try_is l (ReturnCall t args) t args (target_under (caller_names p) s.normal) s.normal refl e normal_is)
-  step c j next l (TryCall t sig args target inner) q e g =
-      let i = TryCall t sig args target inner in
+  step c j next l (TryCall t sig args own inner) q e g =
+      let i = TryCall t sig args own inner in
       ap (λ (z : Line). fronted z q)
       (ap (λ (z : Instruction). record { inst = table_behind (outer_table p s.table) (instruction_under (callee_names p) i); ty = l.ty; results = []; tags = joined_tags p z l.tags }) e
       ∙ (ap₂ (λ (x : Instruction) (y : List (Entry BlockCall)). record { inst = table_behind y x; ty = l.ty; results = []; tags = joined_tags p i l.tags }) (instructions_are p n numbering i) outer_is

@@ -1,14 +1,13 @@
 -- How the runs of `inline` end.
-use Rattle.std.proofs.Common.{◌≡◌, ◌≤◌, List, ℕ, absurd, subst}
+use Rattle.std.proofs.Common.{◌≡◌, ◌≤◌, List, ℕ, subst}
 use Rattle.clif_check.specs.Faults.{IsAccepted}
 use Rattle.ir_core.specs.Module.{Module}
-use Rattle.inline_pass.specs.Policy.{Policy}
-use Rattle.inlined_reads.specs.Laws.{IsKept, InlinedIsKept, inlined_text}
+use Rattle.inlined_reads.specs.Laws.{InlinedIsKept, inlined_text}
 use Rattle.settings.specs.Settings.{InlineSettings}
 use Rattle.clifinl.specs.declared.status.Status.{Status}
 use Rattle.clifinl.specs.declared.status.Status.TheVariants.{Done, NoMemory}
 use Rattle.clifinl.specs.InlineCommand.{HasInlined, IsInlineRun, policy_of}
-use Rattle.clifinl.specs.Runs.{IsFirstFault, IsRun, Outside, HasCause}
+use Rattle.clifinl.specs.Runs.{IsFirstFault, IsRun, Outside}
 use Rattle.clifinl.proofs.Runs as runs
 
 pub out_of_memory : (s : InlineSettings) (before after : Outside) → IsInlineRun s before after NoMemory

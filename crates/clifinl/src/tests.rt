@@ -104,20 +104,7 @@ fn each_fault_of_the_outside(rt: HostRuntime) -> Result<(), AllocError> {
 }
 
 #[test]
-fn refused_texts_and_words(rt: HostRuntime) -> Result<(), AllocError> {
-    let start = Place { line: 1, column: 1 };
-    let refused = Status::Refused(Refusal::Text(TextKind::Syntax, start));
-    for text in [
-        b"function %f() {\nblock0:\n    v1 = iadd v2, v2\n    v2 = iconst.i64 1\n    return\n}\n".as_slice(),
-        b"function %f() {\nblock0:\n    return\n    return\n}\n".as_slice(),
-        b"function %f() {\nblock0:\n    return\n}\nfunction %f() {\nblock0:\n    return\n}\n".as_slice(),
-        b"#".as_slice(),
-    ] {
-        let ran = run(&rt, rt.alloc(), text, 99, 1000)?;
-        assert!(rt; ran.status == refused);
-        assert!(rt; ran.out.bytes().is_empty());
-        assert!(rt; ran.err.bytes() == b"error 1:1 Syntax\n".as_slice());
-    }
+fn refused_words(rt: HostRuntime) -> Result<(), AllocError> {
     for (words, told) in [
         (
             ["run"].as_slice(),
@@ -138,19 +125,44 @@ fn refused_texts_and_words(rt: HostRuntime) -> Result<(), AllocError> {
     Ok(())
 }
 
+/// A function of two blocks, and one that calls it.
+const CALLED: &[u8] = b"function %g() {\nblock0:\n    jump block7\nblock7:\n    return\n}\n\
+    function %h() {\n    fn3 = %g()\nblock0:\n    call fn3()\n    return\n}\n";
+
+const PRINTED: &[u8] =
+    b"function %g() fast {\nblock0:\n    jump block1\n\nblock1:\n    return\n}\n\n\
+    function %h() fast {\n    sig0 = () fast\n    fn0 = %g sig0\n\n\
+    block0:\n    call fn0()\n    return\n}\n";
+
+const INLINED: &[u8] =
+    b"function %g() fast {\nblock0:\n    jump block1\n\nblock1:\n    return\n}\n\n\
+    function %h() fast {\n    sig0 = () fast\n    fn0 = %g sig0\n\n\
+    block0:\n    jump block1\n\nblock1:\n    jump block2\n\nblock2:\n    jump block3\n\nblock3:\n    return\n}\n";
+
+#[test]
+fn calls_are_inlined(rt: HostRuntime) -> Result<(), AllocError> {
+    for (words, text) in [
+        (["inline"].as_slice(), INLINED),
+        (
+            ["inline", "--callee-size=3", "--workers=1"].as_slice(),
+            PRINTED,
+        ),
+        (["inline", "--caller-size=9"].as_slice(), PRINTED),
+    ] {
+        let ran = run_command(&rt, rt.alloc(), words, CALLED, 99, 1000)?;
+        assert!(rt; ran.status == Status::Done);
+        assert!(rt; ran.out.bytes() == text);
+        assert!(rt; ran.err.bytes().is_empty());
+    }
+    Ok(())
+}
+
 #[test]
 fn accepted_texts_are_counted_and_printed(rt: HostRuntime) -> Result<(), AllocError> {
-    let two_blocks = b"function %g() {\nblock0:\n    jump block7\nblock7:\n    return\n}\n\
-        function %h() {\n    fn3 = %g()\nblock0:\n    call fn3()\n    return\n}\n"
-        .as_slice();
-    let printed = b"function %g() fast {\nblock0:\n    jump block1\n\nblock1:\n    return\n}\n\n\
-        function %h() fast {\n    sig0 = () fast\n    fn0 = %g sig0\n\n\
-        block0:\n    call fn0()\n    return\n}\n"
-        .as_slice();
     for (input, count, text) in [
         (b"".as_slice(), "ok 0\n", b"".as_slice()),
         (INPUT, "ok 1\n", OUTPUT),
-        (two_blocks, "ok 2\n", printed),
+        (CALLED, "ok 2\n", PRINTED),
     ] {
         let checked = run_command(&rt, rt.alloc(), ["check"].as_slice(), input, 99, 1000)?;
         assert!(rt; checked.status == Status::Done);
@@ -191,7 +203,7 @@ fn the_first_fault_of_each_stage(rt: HostRuntime) -> Result<(), AllocError> {
             "error 4:6 NotAvailable\n",
         ),
     ] {
-        for word in ["check", "print"] {
+        for word in ["check", "print", "inline"] {
             let bytes = input.as_bytes();
             let ran = run_command(&rt, rt.alloc(), [word].as_slice(), bytes, 99, 1000)?;
             assert!(rt; ran.status.code() == 1, "at {told}");

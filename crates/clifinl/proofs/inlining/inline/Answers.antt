@@ -1,6 +1,6 @@
 use Rattle.clifinl.proofs.InlineEnds.{inline_run}
 use Rattle.clifinl.proofs.Runs.{honest, stopped, written}
-use Rattle.clifinl.proofs.commands.inline.Goals as goal
+use Rattle.clifinl.proofs.inlining.inline.Goals as goal
 
 pub returns-in-Ok-clause-run : goal.returns-in-Ok-clause-run
 returns-in-Ok-clause-run g c =

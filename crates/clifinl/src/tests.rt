@@ -1,7 +1,6 @@
 //! What no clause says: that memory suffices for small texts, one outside row, what `clap` says of words, and each call
 //! of the outside failing in turn.
-use crate::{Refusal, Status, command};
-use clif_lex::{Place, TextKind};
+use crate::{Status, command};
 use clk_flow::{MemSink, MemSource, NoGate};
 use std::alloc::{AllocError, Global};
 use std::sync::Wait;

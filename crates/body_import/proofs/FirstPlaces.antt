@@ -1,11 +1,11 @@
 -- The first place of an item that stands in a list.
-use Rattle.std.proofs.Common.{◌≡◌, ℕ, zero, suc, ◌+◌, ◌<◌, List, [], ◌∷◌, ◌++◌, map, length, Bool, true, false, Option, Some, None, refl, sym, ap, ap₂, ◌∙◌, arith, eq-eqb, ne_eqb, get_or, subst}
+use Rattle.std.proofs.Common.{◌≡◌, ℕ, zero, suc, ◌+◌, ◌<◌, List, [], ◌∷◌, ◌++◌, map, length, Bool, true, false, Some, refl, sym, ap, ◌∙◌, arith, eq-eqb, ne_eqb, get_or}
 use Rattle.std.specs.Prelude.{if◌then◌else◌, slice_get, nat_eq}
 use Rattle.ir_core.specs.Lookup.{same_bytes}
 use Rattle.ir_core.specs.Lists.{Each}
 use Rattle.ir_core.proofs.Indexing.{same_bytes_self, same_bytes_is}
-use Rattle.ir_semantics.specs.Import.{with_item, with_items, first_place, new_place}
-use Rattle.body_import.specs.Merged.{is_new, news, keep}
+use Rattle.ir_semantics.specs.Import.{with_item, with_items, first_place}
+use Rattle.body_import.specs.Merged.{is_new, keep}
 use Rattle.body_import.proofs.Lists.{old_left, longer}
 
 -- ---- lists of numbers

@@ -9,7 +9,7 @@ use Rattle.ir_core.specs.Lists.{Each, Below}
 use Rattle.ir_core.specs.Signatures.{same_sig}
 use Rattle.ir_core.specs.Lookup.{same_bytes}
 use Rattle.ir_core.proofs.Members.{each_right}
-use Rattle.ir_semantics.specs.Import.{with_item, with_items, first_place, new_place, same_callee, sigs_after, sig_after, callee_with, callees_with, callees_after, callee_after}
+use Rattle.ir_semantics.specs.Import.{with_item, with_items, first_place, new_place, same_callee, sigs_after, sig_after, callees_with}
 use Rattle.body_import.specs.declared.declarations.Index.{Index}
 use Rattle.body_import.specs.declared.places.Places.{Places}
 use Rattle.body_import.specs.declared.declarations.Import.{Import}
@@ -21,8 +21,9 @@ use Rattle.body_import.proofs.SigsDecided.{sigs_decide}
 use Rattle.body_import.proofs.CalleesDecided.{callees_decide}
 use Rattle.body_import.proofs.Decided.{place_by_key}
 use Rattle.body_import.proofs.Lists.{found_place, no_place, place_not_new}
-use Rattle.body_import.proofs.FirstPlaces.{place_below, get_mapped, get_in_front}
+use Rattle.body_import.proofs.FirstPlaces.{place_below, get_mapped, get_in_front, each_at}
 use Rattle.body_import.proofs.Imported.{table_at, within, in_front, again}
+use Rattle.body_import.proofs.NewItems.{each_new}
 
 pub place_known : (sigs : List Sig) (s : Sig) (key key' : List ℕ) (place : ℕ) → key ≡ sig_key s → key' ≡ key → key_place 0 (map sig_key sigs) key' ≡ Some place → place ≡ first_place same_sig sigs s
 place_known sigs s key key' place ek ek' e =
@@ -127,6 +128,7 @@ module _ (f g : Function) where
         sigs_below = below;
         callees_below = subst (λ (z : ℕ). Below z i.callees.table) cn (subst (λ (z : List ℕ). Below (length (with_items same f.callees cs)) z) (sym ct) (each_map (λ k. k < length (with_items same f.callees cs)) (first_place same (with_items same f.callees cs)) cs (λ k x at. within same (key_among all) (callees_decide all) f.callees cs k x at)));
         in_range = each_right P f.callees i.callees.added (subst (λ (z : List Callee). Each P z) ca (each_items P same f.callees cs (wider f.callees fr) (renumbered_below i.sigs.table (length f.sigs + length i.sigs.added) g.callees below cr)));
+        first = subst (λ (z : List Sig). Each (λ (c : Callee). first_sig z c.sig ≡ c.sig) i.callees.added) sa (each_new (λ (c : Callee). first_sig all c.sig ≡ c.sig) same f.callees cs i.callees.added (renumbered_first i.sigs.table g.callees (are_first f.sigs g.sigs i.sigs.table st) cr) ca);
         fewer_sigs = sf;
         fewer_callees = cf;
       }
@@ -143,6 +145,10 @@ module _ (f g : Function) where
       renumbered_below : (table : List ℕ) (m : ℕ) (xs : List Callee) → Below m table → Each (λ (c : Callee). c.sig < length table) xs → Each (λ (c : Callee). c.sig < m) (map (renumbered table) xs)
       renumbered_below table m [] b h = tt
       renumbered_below table m (c ∷ xs) b h = (at_below table c.sig m b h.0, renumbered_below table m xs b h.1)
+
+      renumbered_first : (table : List ℕ) (xs : List Callee) → AreFirst (sigs_after f g) table → Each (λ (c : Callee). c.sig < length table) xs → Each (λ (c : Callee). first_sig (sigs_after f g) c.sig ≡ c.sig) (map (renumbered table) xs)
+      renumbered_first table [] first h = tt
+      renumbered_first table (c ∷ xs) first h = (each_at (λ n. first_sig (sigs_after f g) n ≡ n) table c.sig 0 first h.0, renumbered_first table xs first h.1)
 
 pub indexed : (f : Function) (sp cp : Places) (ss ss' : List Sig) (cs : List Callee) (table table' : List ℕ) → ss ≡ f.sigs → ss' ≡ f.sigs → cs ≡ f.callees → table' ≡ table → Each (λ (c : Callee). c.sig < length f.sigs) f.callees
     → Knows 0 (map sig_key ss) sp → (Knows 0 (map sig_key ss') sp → table ≡ map (first_place same_sig ss') ss') → Knows 0 (map (λ (c : Callee). callee_key (get_or table' c.sig 0) c) cs) cp → IsIndexOf f (record { sigs = sp; callees = cp })

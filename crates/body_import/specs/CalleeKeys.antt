@@ -1,6 +1,6 @@
 -- A callee declaration as a list of numbers: two are the same where the numbers are. The first is the first place of
 -- its signature.
-use Rattle.std.specs.Prelude.{◌≡◌, ℕ, List, [], ◌∷◌, length, map, get_or, Bool, true, false, slice_get}
+use Rattle.std.specs.Prelude.{◌≡◌, ℕ, List, [], ◌∷◌, get_or, Bool, true, false, slice_get}
 use Rattle.ir_core.specs.declared.names.FuncName.{FuncName}
 use Rattle.ir_core.specs.declared.names.FuncName.TheVariants as name
 use Rattle.ir_core.specs.declared.signatures.Sig.{Sig}
@@ -27,6 +27,10 @@ first_sig sigs k = new_place same_sig sigs (slice_get sigs k)
 -- the key of a declaration whose signature stands in the list
 abbrev pub key_among : List Sig → Callee → List ℕ
 key_among sigs c = callee_key (first_sig sigs c.sig) c
+
+-- the key of a declaration whose signature's number is its first place
+abbrev pub own_key : Callee → List ℕ
+own_key c = callee_key c.sig c
 
 -- a declaration under new numbers of signatures
 abbrev pub renumbered : List ℕ → Callee → Callee

@@ -1,5 +1,6 @@
 -- The index of a function's declarations, and what a caller takes over from a callee.
 use Rattle.std.specs.Prelude.{◌≡◌, ℕ, ◌+◌, ◌<◌, ◌≤◌, List, ◌++◌, length, map, get_or}
+use Rattle.ir_core.specs.declared.signatures.Sig.{Sig}
 use Rattle.ir_core.specs.declared.declarations.Callee.{Callee}
 use Rattle.ir_core.specs.Module.{Function}
 use Rattle.ir_core.specs.Lists.{Each, Below}
@@ -8,12 +9,21 @@ use Rattle.body_import.specs.declared.declarations.Index.{Index}
 use Rattle.body_import.specs.declared.declarations.Import.{Import}
 use Rattle.body_import.specs.Keys.{Knows}
 use Rattle.body_import.specs.SigKeys.{sig_key}
-use Rattle.body_import.specs.CalleeKeys.{key_among}
+use Rattle.body_import.specs.CalleeKeys.{first_sig, key_among}
 
 -- the index has the first place of each signature and of each callee declaration of the function
 pub record IsIndexOf (f : Function) (i : Index) : Type 0 where
   pub sigs : Knows 0 (map sig_key f.sigs) i.sigs
   pub callees : Knows 0 (map (key_among f.sigs) f.callees) i.callees
+
+-- f with further declarations behind its own
+abbrev pub with_declarations : Function → List Sig → List Callee → Function
+with_declarations f ss cs = record f { sigs = f.sigs ++ ss; callees = f.callees ++ cs }
+
+-- f's own callee declarations name its signatures, and each further one the first place of its own
+pub record CanExtend (f : Function) (ss : List Sig) (cs : List Callee) : Type 0 where
+  pub in_range : Each (λ (c : Callee). c.sig < length f.sigs) f.callees
+  pub first : Each (λ (c : Callee). first_sig (f.sigs ++ ss) c.sig ≡ c.sig) cs
 
 -- how many signatures and callee declarations the caller has then
 abbrev pub sig_count : Function → Import → ℕ
@@ -33,5 +43,6 @@ pub record IsImportOf (f g : Function) (i : Import) : Type 0 where
   pub sigs_below : Below (sig_count f i) i.sigs.table
   pub callees_below : Below (callee_count f i) i.callees.table
   pub in_range : Each (λ (c : Callee). c.sig < sig_count f i) i.callees.added
+  pub first : Each (λ (c : Callee). first_sig (f.sigs ++ i.sigs.added) c.sig ≡ c.sig) i.callees.added
   pub fewer_sigs : length i.sigs.added ≤ length g.sigs
   pub fewer_callees : length i.callees.added ≤ length g.callees

@@ -59,7 +59,7 @@ fn number_of_colocated(colocated: bool) -> u32
 }
 
 /// The numbers of a declaration whose signature stands first at `sig`.
-fn callee_key(alloc: Global, callee: &Callee, sig: u32) -> Result<Vec<u32>, AllocError>
+pub(crate) fn callee_key(alloc: Global, callee: &Callee, sig: u32) -> Result<Vec<u32>, AllocError>
     ensures { IfOk result (λ key. key.items ≡ key_of_callee sig callee.now) }
 {
     let mut key = Vec::new(alloc);

@@ -32,17 +32,32 @@ fn sig_keys(alloc: Global, sigs: &[Sig]) -> Result<Vec<Vec<u32>>, AllocError>
     Ok(keys)
 }
 
+/// Puts signatures into the index of `count` others, behind which they stand.
+pub(crate) fn add_sigs(
+    alloc: Global,
+    places: &mut Places,
+    count: u32,
+    sigs: &[Sig],
+) -> Result<(), AllocError>
+    requires { count + length sigs.now < 2 ^ 32 - 1 }
+    ensures { OnOk result ((keys : List (List ℕ)) → Knows 0 keys places.old → count ≡ length keys
+        → Knows 0 (keys ++ map key_of_sig sigs.now) places.new) }
+{
+    let mut place = count;
+    for sig in sigs {
+        places.put(sig_key(alloc, sig)?, place)?;
+        place += 1;
+    }
+    Ok(())
+}
+
 /// The index of a function's signatures.
 pub fn sig_places(alloc: Global, sigs: &[Sig]) -> Result<Places, AllocError>
     requires { length sigs.now < 2 ^ 32 - 1 }
     ensures { IfOk result (λ places. Knows 0 (map key_of_sig sigs.now) places) }
 {
     let mut places = Places::new(alloc);
-    let mut place = 0;
-    for sig in sigs {
-        places.put(sig_key(alloc, sig)?, place)?;
-        place += 1;
-    }
+    add_sigs(alloc, &mut places, 0, sigs)?;
     Ok(places)
 }
 

@@ -1,35 +1,14 @@
 -- Lists of words and of numbers.
-use Rattle.std.proofs.Common.{◌≡◌, ℕ, zero, suc, ◌+◌, ◌<◌, ◌≤◌, List, [], ◌∷◌, ◌++◌, map, length, slice_get, Some, refl, sym, ap, ap₂, subst, ◌∙◌, arith, inl, inr}
-use Rattle.std.specs.Prelude.{flat_map}
+use Rattle.std.proofs.Common.{◌≡◌, ℕ, zero, suc, ◌+◌, ◌<◌, ◌≤◌, List, [], ◌∷◌, ◌++◌, map, length, refl, sym, ap, subst, ◌∙◌, arith, inl, inr}
 use Rattle.std.specs.List.{range_with_len}
 use Rattle.std.proofs.lemmas.Bool.{cases_eq}
-use Rattle.std.proofs.lemmas.List.{map-append}
 use Rattle.ir_core.specs.Lists.{In, Each}
 use Rattle.clif_insts.specs.declared.raw.RawName.{RawName}
 use Rattle.clif_names.specs.Words.{IsDefined}
 use Rattle.text_read_back.specs.Bare as bare
 use Rattle.text_read_back.specs.Defining.{number_of}
 
--- what is given by elements without their spots is what they give, without its spots
-pub flat_bare : {A B : Type 0} (f : A → List B) (own : A → A) (given : B → B) → ((x : A) → f (own x) ≡ map given (f x)) → (xs : List A) → flat_map f (map own xs) ≡ map given (flat_map f xs)
-flat_bare f own given same [] = refl
-flat_bare {A} {B} f own given same (x ∷ xs) =
-    ap₂ (λ (ys zs : List B). ys ++ zs) (same x) (flat_bare f own given same xs) ∙ sym (map-append given (f x) (flat_map f xs))
-
-pub map_bare : {A B : Type 0} (f : A → B) (own : A → A) (given : B → B) → ((x : A) → f (own x) ≡ given (f x)) → (xs : List A) → map f (map own xs) ≡ map given (map f xs)
-map_bare f own given same [] = refl
-map_bare {A} {B} f own given same (x ∷ xs) = ap₂ (λ (y : B) (ys : List B). y ∷ ys) (same x) (map_bare f own given same xs)
-
-pub each_got : {A : Type 0} (P : A → Type 0) (xs : List A) → Each P xs → (i : ℕ) (x : A) → slice_get xs i ≡ Some x → P x
-each_got P [] h i x e = absurd cc
-each_got P (y ∷ ys) h zero x e = let same : y ≡ x = cc in subst P same h.0
-each_got P (y ∷ ys) h (suc i) x e = each_got P ys h.1 i x e
-
--- what holds of the results, where the function keeps it
-pub each_of : {A B : Type 0} (P : A → Type 0) (Q : B → Type 0) (f : A → B) → ((x : A) → P x → Q (f x)) → (xs : List A) → Each P xs → Each Q (map f xs)
-each_of P Q f keeps [] h = tt
-each_of P Q f keeps (x ∷ xs) h = (keeps x h.0, each_of P Q f keeps xs h.1)
-
+-- what holds of the results, where they have it from the elements
 pub each_from : {A B : Type 0} (P : A → Type 0) (Q : B → Type 0) (f : A → B) → ((x : A) → Q (f x) → P x) → (xs : List A) → Each Q (map f xs) → Each P xs
 each_from P Q f back [] h = tt
 each_from P Q f back (x ∷ xs) h = (back x h.0, each_from P Q f back xs h.1)
@@ -55,11 +34,6 @@ in_range a (suc k) v low high = elim (cases_eq v a) [ inl e ↦ inl e | inr e �
 range_below : (a k : ℕ) → Each (λ (v : ℕ). v < a + k) (range_with_len a k)
 range_below a zero = tt
 range_below a (suc k) = (omega arith, subst (λ (b : ℕ). Each (λ (v : ℕ). v < b) (range_with_len (a + 1) k)) (let e : a + 1 + k ≡ a + suc k = omega arith in e) (range_below (a + 1) k))
-
-pub word_defined : (ws : List RawName) (v : ℕ) → In v (map number_of ws) → IsDefined ws v
-word_defined [] v h = absurd h
-word_defined (w ∷ ws) v (inl e) = (0, w, refl, sym e)
-word_defined (w ∷ ws) v (inr h) = let d = word_defined ws v h in (suc d.0, d.1, d.2, d.3)
 
 -- words that are numbered in order are below their count
 pub counted_within : (ws : List RawName) (k : ℕ) → map number_of ws ≡ range_with_len 0 k → Within k ws

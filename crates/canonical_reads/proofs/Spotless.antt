@@ -1,5 +1,5 @@
 -- A raw function without its spots defines and uses the same words, and has the same numbers.
-use Rattle.std.proofs.Common.{◌≡◌, List, [], ◌∷◌, ◌++◌, map, Option, None, Some, refl, sym, ap, ap₂, ◌∙◌}
+use Rattle.std.proofs.Common.{◌≡◌, List, ◌∷◌, ◌++◌, map, Option, None, Some, refl, sym, ap, ap₂, ◌∙◌}
 use Rattle.std.specs.Prelude.{flat_map}
 use Rattle.std.proofs.lemmas.List.{map-append}
 use Rattle.ir_core.specs.declared.signatures.Ty.{Ty}
@@ -15,7 +15,6 @@ use Rattle.clif_insts.specs.declared.raw.RawTarget.{RawTarget}
 use Rattle.clif_insts.specs.declared.raw.RawTrap.{RawTrap}
 use Rattle.clif_insts.specs.declared.raw.RawTrap.TheVariants as traps
 use Rattle.clif_read.specs.declared.raw.RawBlock.{RawBlock}
-use Rattle.clif_read.specs.declared.raw.RawBlockParam.{RawBlockParam}
 use Rattle.clif_read.specs.declared.raw.RawCalleeSig.TheVariants as callee_sigs
 use Rattle.clif_read.specs.declared.raw.RawDecl.{RawDecl}
 use Rattle.clif_read.specs.declared.raw.RawDecl.TheVariants as decls
@@ -30,12 +29,13 @@ use Rattle.clif_names.specs.declared.firsts.Def.{Def}
 use Rattle.clif_names.specs.declared.limits.Limit.{Limit}
 use Rattle.clif_names.specs.declared.limits.Limit.TheVariants.{Offset}
 use Rattle.clif_names.specs.declared.limits.Limited.{Limited}
-use Rattle.clif_names.specs.Definitions.{Kind, Slots, Sigs, Callees, Blocks, Values, Step, Param, Line, slot_names, sig_names, callee_names, value_def, step_defs, block_steps, steps, value_defs, definitions, lines}
+use Rattle.clif_names.specs.Definitions.{Kind, Slots, Sigs, Callees, Blocks, Values, slot_names, sig_names, callee_names, value_defs, definitions, lines}
 use Rattle.clif_names.specs.Limits.{name_limits, maybe_number, decl_limits, arg_limits, target_limits, entry_limits, trap_limits, constant_limits, operand_limits, tag_limits, line_limits}
 use Rattle.clif_names.specs.Typing.{gives_type, asks}
 use Rattle.clif_names.specs.Uses.{operand_values, operand_targets, operand_slots, operand_callees, operand_sigs, arg_values, target_values, tag_slots, line_uses, decl_uses, uses}
 use Rattle.text_read_back.specs.Bare as bare
-use Rattle.canonical_reads.proofs.Lists.{flat_bare, map_bare}
+use Rattle.text_read_back.proofs.Lists.{flat_bare, map_bare}
+use Rattle.names_read_back.proofs.TextMeans.{bare_def, defs_bare}
 
 -- ---- operands
 
@@ -116,43 +116,6 @@ uses_bare r k =
     ∙ sym (map-append bare.bare_name (flat_map (decl_uses k) r.decls) (flat_map (line_uses k) (lines r)))
 
 -- ---- definitions
-
-abbrev pub bare_def : Def → Def
-bare_def d = record { name = bare.bare_name d.name; target = bare.bare_option bare.bare_name d.target }
-
-abbrev pub bare_step : Step → Step
-bare_step (Param p) = Param (bare.bare_block_param p)
-bare_step (Line l) = Line (bare.bare_line l)
-
-abbrev both_steps : List Step → List Step → List Step
-both_steps xs ys = xs ++ ys
-
-block_steps_bare : (b : RawBlock) → block_steps (bare.bare_block b) ≡ map bare_step (block_steps b)
-block_steps_bare b =
-    ap₂ both_steps (map_bare' b.params) (map_line b.lines) ∙ sym (map-append bare_step (map Param b.params) (map Line b.lines))
-  where
-    map_bare' : (ps : List RawBlockParam) → map Param (map bare.bare_block_param ps) ≡ map bare_step (map Param ps)
-    map_bare' [] = refl
-    map_bare' (p ∷ ps) = ap (λ (ss : List Step). Param (bare.bare_block_param p) ∷ ss) (map_bare' ps)
-
-    map_line : (ls : List RawLine) → map Line (map bare.bare_line ls) ≡ map bare_step (map Line ls)
-    map_line [] = refl
-    map_line (l ∷ ls) = ap (λ (ss : List Step). Line (bare.bare_line l) ∷ ss) (map_line ls)
-
-pub steps_bare : (r : RawFunction) → steps (bare.bare_function r) ≡ map bare_step (steps r)
-steps_bare r = flat_bare block_steps bare.bare_block bare_step block_steps_bare r.blocks
-
-pub step_defs_bare : (s : Step) → step_defs (bare_step s) ≡ map bare_def (step_defs s)
-step_defs_bare (Param p) = refl
-step_defs_bare (Line (raw_lines.Alias location x y)) = refl
-step_defs_bare (Line (raw_lines.Inst location ts rs i)) = results rs
-  where
-    results : (rs : List RawName) → map value_def (map bare.bare_name rs) ≡ map bare_def (map value_def rs)
-    results [] = refl
-    results (r ∷ rs) = ap (λ (ds : List Def). bare_def (value_def r) ∷ ds) (results rs)
-
-pub defs_bare : (r : RawFunction) → value_defs (bare.bare_function r) ≡ map bare_def (value_defs r)
-defs_bare r = ap (flat_map step_defs) (steps_bare r) ∙ flat_bare step_defs bare_step bare_def step_defs_bare (steps r)
 
 slot_bare : (d : RawDecl) → slot_names (bare.bare_decl d) ≡ map bare.bare_name (slot_names d)
 slot_bare (decls.Slot x size align) = refl

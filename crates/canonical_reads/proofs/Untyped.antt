@@ -26,9 +26,12 @@ use Rattle.text_read_back.specs.Bare as bare
 use Rattle.text_read_back.specs.Defining.{number_of}
 use Rattle.text_read_back.specs.RawOf as raws
 use Rattle.canonical_reads.proofs.Lists.{Within, front_defined}
-use Rattle.canonical_reads.proofs.Spotless.{bare_step, steps_bare, step_defs_bare, asks_bare}
-use Rattle.canonical_reads.proofs.Counted.{def_at, params_defs, block_defs, count}
-use Rattle.canonical_reads.proofs.Undefined.{IsNoAlias, found_is, no_aliases, counted_here}
+use Rattle.names_read_back.proofs.Names.{IsNoAlias, found_is}
+use Rattle.names_read_back.proofs.Numbers.{def_at, params_defs, block_defs}
+use Rattle.names_read_back.proofs.TextMeans.{bare_step, steps_bare, step_defs_bare, no_aliases}
+use Rattle.canonical_reads.proofs.Spotless.{asks_bare}
+use Rattle.canonical_reads.proofs.Counted.{count}
+use Rattle.canonical_reads.proofs.Undefined.{counted_here}
 use Rattle.canonical_reads.proofs.Typed.{listed, asks_within}
 
 -- ---- steps of the text, where the next definition has the number next
@@ -146,11 +149,11 @@ module _ (f : Function) (is : WellFormed f) (w : FunctionWritable f) (r : RawFun
       ∙ ap (map number_of) (sym (map-append (λ (d : Def). d.name) (defs_of front) (defs_of back)))
       ∙ ap (λ (ds : List Def). map number_of (names_of ds)) (sym (flat_map-append step_defs front back))
       ∙ ap (λ (ss : List Step). map number_of (names_of (defs_of ss))) (take-append-drop i (steps r))
-      ∙ counted_here f is r says Values
+      ∙ counted_here f is w r says Values
 
   pub nothing_untyped : (spot : ℕ) → FunctionFault r Untyped spot → ⊥
   nothing_untyped spot (i, step, inst, x, e, at, has, here, asks, (d, found, (k, comes)), late) =
-      let plain = found_is (value_defs r) x.number d (no_aliases f is r says) found in
+      let plain = found_is (value_defs r) x.number d (no_aliases f is w r says) found in
       let end = end_is (value_defs r) k d e plain.1 comes in
       let below = asks_this (0 + length (defs_of (take i (steps r)))) step inst x has asks (asked_at 0 (steps r) in_order i step at) in
       let named : e.name.number ≡ x.number = sym (ap (λ (y : Def). y.name.number) end) ∙ plain.0 in

@@ -32,7 +32,8 @@ use Rattle.clif_names.specs.Definitions.{Kind, Slots, Sigs, Callees, Blocks, Val
 use Rattle.clif_names.specs.Uses.{operand_values, operand_targets, operand_slots, operand_callees, operand_sigs, target_values, arg_values, tag_slots, line_uses, decl_uses, uses}
 use Rattle.text_read_back.specs.RawOf as raws
 use Rattle.text_read_back.proofs.Lists.{below_length}
-use Rattle.canonical_reads.proofs.Lists.{Within, each_of}
+use Rattle.inline_acceptance.proofs.KeptLists.{each_map}
+use Rattle.canonical_reads.proofs.Lists.{Within}
 use Rattle.canonical_reads.proofs.Counted.{count}
 use Rattle.canonical_reads.proofs.Shapes.{by_operands, by_immediate}
 
@@ -47,7 +48,7 @@ module _ (n : Numbering) where
 
   module _ (m : ℕ) where
     values_within : (vs : List ℕ) → Below m vs → Within m (raws.values n vs)
-    values_within vs h = each_of (λ (v : ℕ). number_in n.values v < m) (λ (w : RawName). w.number < m) (raws.value n) (λ v k. k) vs h
+    values_within vs h = each_map (λ (v : ℕ). number_in n.values v < m) (λ (w : RawName). w.number < m) (raws.value n) (λ v k. k) vs h
 
     simple_within : (s : Option Ty) (i : Simple) → Below m (core.simple_used i) → Within m (operand_values (raws.simple n s i).operands)
     simple_within s insts.Nop h = tt

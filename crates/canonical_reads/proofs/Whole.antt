@@ -29,24 +29,29 @@ use Rattle.names_read_back.specs.Canonical.{ReadsAsNothingElse}
 use Rattle.text_read_back.specs.Bare as bare
 use Rattle.text_read_back.specs.RawOf as raws
 use Rattle.text_read_back.specs.ReadsBack.{ReadsBack}
-use Rattle.canonical_reads.proofs.Lists.{Within, each_got, each_of, each_from, flat_bare}
+use Rattle.inline_acceptance.proofs.KeptLists.{each_map}
+use Rattle.clif_meaning.proofs.LimitLaws.{Kept, AllKept}
+use Rattle.clif_meaning.proofs.Lists.{each_got}
+use Rattle.text_read_back.proofs.Lists.{flat_bare}
+use Rattle.names_read_back.proofs.TextMeans.{functions_say}
+use Rattle.canonical_reads.proofs.Lists.{Within, each_from}
 use Rattle.canonical_reads.proofs.Spotless.{bare_limited, name_limits_bare, decl_limits_bare, line_limits_bare, lines_bare}
 use Rattle.canonical_reads.proofs.Counted.{count, few}
 use Rattle.canonical_reads.proofs.Undefined.{defined_below, used_below, nothing_undefined}
 use Rattle.canonical_reads.proofs.Untyped.{nothing_untyped}
-use Rattle.canonical_reads.proofs.Kept.{Kept, AllKept, entity, name_kept, decl_numbers, line_numbers}
+use Rattle.canonical_reads.proofs.Kept.{entity, name_kept, decl_numbers, line_numbers}
 use Rattle.canonical_reads.specs.Laws.{HasNone, OneTextUpToNumbering}
 
 -- ---- numbers of a function
 
 module _ (f : Function) (is : WellFormed f) (w : FunctionWritable f) (r : RawFunction) (says : bare.bare_function r ≡ raws.raw_function f) where
   words_within : (k : Kind) → Within (count f k) (words r k)
-  words_within k = each_join (λ (x : RawName). x.number < count f k) (definitions r k) (uses r k) (defined_below f is r says k) (used_below f is r says k)
+  words_within k = each_join (λ (x : RawName). x.number < count f k) (definitions r k) (uses r k) (defined_below f is w r says k) (used_below f is w r says k)
 
   words_kept : (k : Kind) → AllKept (map (of_word Entity) (words r k))
   words_kept k =
       let less = few f k in let most = w.size in
-      each_of (λ (x : RawName). x.number < count f k) Kept (of_word Entity) (λ x h. entity x.number (omega (arith, h, less, most))) (words r k) (words_within k)
+      each_map (λ (x : RawName). x.number < count f k) Kept (of_word Entity) (λ x h. entity x.number (omega (arith, h, less, most))) (words r k) (words_within k)
 
   all_words_kept : AllKept (map (of_word Entity) (all_words r))
   all_words_kept = kinds all_kinds
@@ -98,9 +103,6 @@ says_at (x ∷ rs) (f ∷ fs) e P each is w (suc i) r at =
     let rest : map bare.bare_function rs ≡ map raws.raw_function fs = cc in
     says_at rs fs rest P each is.1 w.1 i r at
 
-functions_say : (m : Module) → ReadsBack m → (raw : RawModule) → IsModuleText (text_of m) raw → map bare.bare_function raw.functions ≡ map raws.raw_function m
-functions_say m back raw text = ap (λ (x : RawModule). map bare.bare_function x.functions) (back.only raw text) ∙ ap (λ (x : RawModule). x.functions) back.says
-
 module _ (m : Module) (is : IsModule m) (w : Writable m) (back : ReadsBack m) (raw : RawModule) (text : IsModuleText (text_of m) raw) where
   each_function : (P : RawFunction → Type 0) → ((f : Function) → WellFormed f → FunctionWritable f → (r : RawFunction) → bare.bare_function r ≡ raws.raw_function f → P r)
       → (i : ℕ) (r : RawFunction) → slice_get raw.functions i ≡ Some r → P r
@@ -108,7 +110,7 @@ module _ (m : Module) (is : IsModule m) (w : Writable m) (back : ReadsBack m) (r
 
   pub none_undefined : HasNone Undefined raw
   none_undefined spot (inl h) = absurd h
-  none_undefined spot (inr (i, r, at, h)) = each_function (λ r. (FunctionFault r Undefined spot → ⊥)) (λ f is w r says. nothing_undefined f is r says spot) i r at h
+  none_undefined spot (inr (i, r, at, h)) = each_function (λ r. (FunctionFault r Undefined spot → ⊥)) (λ f is w r says. nothing_undefined f is w r says spot) i r at h
 
   pub none_outside : HasNone NumberRange raw
   none_outside spot (inl h) = absurd h

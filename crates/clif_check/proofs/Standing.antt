@@ -11,6 +11,8 @@ use Rattle.ir_core.specs.Module.{Line, Block, Function, Module}
 use Rattle.ir_core.specs.Lookup.{find_block}
 use Rattle.ir_semantics.specs.Accepted.{Rule, Holds, HoldsAtCallee, HoldsAtBlock, HoldsAtLine}
 use Rattle.ir_core.specs.declared.declarations.Callee.{Callee}
+use Rattle.ir_semantics.proofs.SafetyTypes.{some_same}
+use Rattle.body_import.proofs.FirstPlaces.{get_mapped}
 use Rattle.ir_check.specs.Faults.{FirstFault}
 use Rattle.ir_check.proofs.Firsts.{fault_is_real}
 use Rattle.clif_insts.specs.declared.raw.RawName.{RawName}
@@ -25,11 +27,6 @@ use Rattle.clif_meaning.specs.Spots.{line_spots, word_spots, function_spots, spo
 use Rattle.clif_meaning.proofs.BoundLaws.{callees_long}
 
 -- ---- lists
-
-get_mapped : {A B : Type 0} (f : A → B) (xs : List A) (k : ℕ) (x : A) → slice_get xs k ≡ Some x → slice_get (map f xs) k ≡ Some (f x)
-get_mapped f [] k x e = absurd cc
-get_mapped f (y ∷ xs) zero x e = let same : y ≡ x = cc in ap (λ z. Some (f z)) same
-get_mapped f (y ∷ xs) (suc k) x e = get_mapped f xs k x e
 
 -- what one list has at a place, another as long as it has there too
 as_long : {A B : Type 0} (xs : List A) (ys : List B) (k : ℕ) (x : A) → length xs ≡ length ys → slice_get xs k ≡ Some x → (y : B) × (slice_get ys k ≡ Some y)
@@ -106,16 +103,13 @@ module _ (m : Module) (r : RawFunction) (f : Function) (means : FunctionMeans r 
       (λ good. bad (λ block l e d. good block e l d)) in
       let l = there (λ (l : Line). HoldsAtLine f at.block found.0 at.index l rule) (slice_get found.0.lines at.index)
       (λ good. bad (λ block l e d.
-      let same : found.0 ≡ block = injected (sym found.1 ∙ e) in
+      let same : found.0 ≡ block = some_same (sym found.1 ∙ e) in
       subst (λ (x : Block). (l : Line) → slice_get x.lines at.index ≡ Some l → HoldsAtLine f at.block x at.index l rule) same good l d)) in
       let raw = found_at at.block found.0 found.1 in
       let own : slice_get (flat_map (lines_with r means.value f.types) raw.0.lines) at.index ≡ Some l.0 = subst (λ (x : Block). slice_get x.lines at.index ≡ Some l.0) raw.2 l.1 in
       let stands = as_long (flat_map (lines_with r means.value f.types) raw.0.lines) (flat_map line_spots raw.0.lines) at.index l.0 (lines_long r means.value f.types raw.0.lines) own in
       let block : slice_get (map (λ (b : RawBlock). flat_map line_spots b.lines) r.blocks) at.block ≡ Some (flat_map line_spots raw.0.lines) = get_mapped (λ (b : RawBlock). flat_map line_spots b.lines) r.blocks at.block raw.0 raw.1 in
       (stands.0, rw block stands.1)
-    where
-      injected : {A : Type 0} {a b : A} → Some a ≡ Some b → a ≡ b
-      injected {A} {a} {b} e = cc
 
 -- ---- in a module
 

@@ -1,4 +1,7 @@
 pub mod Examples
+pub mod Lists
+pub mod LimitLaws
+pub mod NumberLaws
 pub mod OneMeaning
 pub mod SizeLaws
 pub mod RangeLaws

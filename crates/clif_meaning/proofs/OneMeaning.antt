@@ -1,5 +1,5 @@
 -- A raw module without a fault means at most one module.
-use Rattle.std.proofs.Common.{◌≡◌, ℕ, zero, suc, ◌<◌, ◌≤◌, inl, inr, Bool, true, false, List, [], ◌∷◌, ◌++◌, length, slice_get, Option, None, Some, map, refl, sym, ap, subst, ◌∙◌, arith, append_assoc, length-append}
+use Rattle.std.proofs.Common.{◌≡◌, ℕ, suc, ◌<◌, ◌≤◌, inl, inr, Bool, true, false, List, [], ◌∷◌, ◌++◌, length, slice_get, Option, None, Some, map, refl, sym, ap, subst, ◌∙◌, arith, append_assoc, length-append}
 use Rattle.std.specs.Prelude.{flat_map}
 use Rattle.std.specs.List.{enumerate_from}
 use Rattle.std.proofs.Math.Seq.{take-append_seam}
@@ -25,6 +25,7 @@ use Rattle.clif_names.specs.Typing.{asks, gives_type, step_inst, IsUntyped}
 use Rattle.clif_meaning.specs.Instructions.{operand_type, known, line_of, value_at}
 use Rattle.clif_meaning.specs.Meaning.{numbers, function_with, inst_type, step_types, value_types, types_for, form_types, FunctionMeans, FunctionsMean}
 use Rattle.clif_meaning.specs.Meaning.{OneMeaning}
+use Rattle.clif_meaning.proofs.Lists.{get_left, get_seam}
 use Rattle.clif_names.specs.Listed as listed
 use Rattle.clif_names.proofs.ListedLaws.{one_end, undefined}
 use Rattle.clif_names.proofs.Numberings.{end_first, place_front}
@@ -52,20 +53,11 @@ look_front (x ∷ xs) ys n e d h = elim (eqb_tells n x.name.number) [
 
 -- ---- lists
 
-get_left : {A : Type 0} (xs ys : List A) (i : ℕ) → i < length xs → slice_get (xs ++ ys) i ≡ slice_get xs i
-get_left [] ys i h = absurd (omega (arith, h))
-get_left (x ∷ xs) ys zero h = refl
-get_left (x ∷ xs) ys (suc i) h = get_left xs ys i (omega (arith, h))
-
-get_seam : {A : Type 0} (xs : List A) (y : A) (ys : List A) → slice_get (xs ++ y ∷ ys) (length xs) ≡ Some y
-get_seam [] y ys = refl
-get_seam (x ∷ xs) y ys = get_seam xs y ys
-
 pub map_names : (rs : List RawName) → numbered (map value_def rs) ≡ rs
 map_names [] = refl
 map_names (r ∷ rs) = ap (λ xs. r ∷ xs) (map_names rs)
 
-types_for_length : (rs : List RawName) (ts : List Ty) → length (types_for rs ts) ≡ length rs
+pub types_for_length : (rs : List RawName) (ts : List Ty) → length (types_for rs ts) ≡ length rs
 types_for_length [] ts = refl
 types_for_length (r ∷ rs) [] = ap suc (types_for_length rs [])
 types_for_length (r ∷ rs) (t ∷ ts) = ap suc (types_for_length rs ts)
@@ -78,23 +70,25 @@ type_by p q at (Some t) o same = refl
 type_by p q at None None same = refl
 type_by p q at None (Some x) same = same x refl
 
+-- a step has as many types as values, whatever the types of values are
+module _ (raw : RawFunction) (value : ℕ → ℕ) (types : List (ℕ × Ty)) where
+  pub count : (s : Step) → length (step_types raw value types s) ≡ length (numbered (step_defs s))
+  count (Param p) = refl
+  count (Line (line.Alias location n m)) = refl
+  count (Line (line.Inst location tags results inst)) =
+      types_for_length results (form_types (function_with raw value types) (line_of (numbers raw value) (inst_type raw value types inst) tags results inst).inst (inst_type raw value types inst))
+      ∙ ap length (sym (map_names results))
+
+  pub counts : (ss : List Step) → length (flat_map (step_types raw value types) ss) ≡ length (numbered (defs_of ss))
+  counts [] = refl
+  counts (s ∷ ss) =
+      length-append (step_types raw value types s) (flat_map (step_types raw value types) ss)
+      ∙ (let a = count s in let b = counts ss in omega (arith, a, b, length-append (numbered (step_defs s)) (numbered (defs_of ss))))
+      ∙ ap length (sym (flat_map-append own_name (step_defs s) (defs_of ss)))
+
 module _ (raw : RawFunction) (value : ℕ → ℕ) (numbering : IsNumbering (value_defs raw) value) (free : (spot : ℕ) → IsUntyped raw spot → ⊥) where
   abbrev types_at : List Ty → Step → List Ty
   types_at ts s = step_types raw value (enumerate_from 0 ts) s
-
-  pub count : (ts : List Ty) (s : Step) → length (types_at ts s) ≡ length (numbered (step_defs s))
-  count ts (Param p) = refl
-  count ts (Line (line.Alias location n m)) = refl
-  count ts (Line (line.Inst location tags results inst)) =
-      types_for_length results (form_types (function_with raw value (enumerate_from 0 ts)) (line_of (numbers raw value) (inst_type raw value (enumerate_from 0 ts) inst) tags results inst).inst (inst_type raw value (enumerate_from 0 ts) inst))
-      ∙ ap length (sym (map_names results))
-
-  pub counts : (ts : List Ty) (ss : List Step) → length (flat_map (types_at ts) ss) ≡ length (numbered (defs_of ss))
-  counts ts [] = refl
-  counts ts (s ∷ ss) =
-      length-append (types_at ts s) (flat_map (types_at ts) ss)
-      ∙ (let a = count ts s in let b = counts ts ss in omega (arith, a, b, length-append (numbered (step_defs s)) (numbered (defs_of ss))))
-      ∙ ap length (sym (flat_map-append own_name (step_defs s) (defs_of ss)))
 
   pub total : ℕ
   total = length (numbered (value_defs raw))
@@ -161,7 +155,7 @@ module _ (raw : RawFunction) (value : ℕ → ℕ) (numbering : IsNumbering (val
         → (xs : List Ty) → xs ≡ flat_map (types_at xs) (steps raw) → slice_get xs p ≡ slice_get (flat_map (types_at xs) before) p
     front before rest p whole lt xs is_x =
         ap (λ ys. slice_get ys p) (is_x ∙ ap (flat_map (types_at xs)) (sym whole) ∙ flat_map-append (types_at xs) before rest)
-        ∙ get_left (flat_map (types_at xs) before) (flat_map (types_at xs) rest) p (rw (counts xs before) lt)
+        ∙ get_left (flat_map (types_at xs) before) (flat_map (types_at xs) rest) p (rw (counts raw value (enumerate_from 0 xs) before) lt)
 
     within_same : (before rest : List Step) → before ++ rest ≡ steps raw → SameBefore before → (p : ℕ) → p < length (numbered (defs_of before)) → type_t ts us p ≡ type_u ts us p
     unfolding type_t type_u
@@ -171,7 +165,7 @@ module _ (raw : RawFunction) (value : ℕ → ℕ) (numbering : IsNumbering (val
 
     all_long : (xs : List Ty) → xs ≡ flat_map (types_at xs) (steps raw) → length xs ≤ total
     unfolding total
-    all_long xs is_x = let e = ap length is_x ∙ counts xs (steps raw) in omega (arith, e)
+    all_long xs is_x = let e = ap length is_x ∙ counts raw value (enumerate_from 0 xs) (steps raw) in omega (arith, e)
 
     step_same : (before : List Step) (s : Step) (ss : List Step) → before ++ s ∷ ss ≡ steps raw → SameBefore before → types_at ts s ≡ types_at us s
     unfolding type_t type_u
@@ -231,12 +225,12 @@ module _ (raw : RawFunction) (value : ℕ → ℕ) (numbering : IsNumbering (val
   types_from before (s ∷ ss) whole ts is_t = types_from (before ++ s ∷ []) ss (append_assoc before (s ∷ []) ss ∙ whole) (ts ++ types_at ts s) next
     where
       long : length ts ≡ length (numbered (defs_of before))
-      long = ap length is_t ∙ counts ts before
+      long = ap length is_t ∙ counts raw value (enumerate_from 0 ts) before
 
       few : length (ts ++ types_at ts s) ≤ total
       few =
           let a = length-append ts (types_at ts s) in
-          let b = count ts s in
+          let b = count raw value (enumerate_from 0 ts) s in
           let c = shorter (before ++ s ∷ []) ss (append_assoc before (s ∷ []) ss ∙ whole) in
           let d = ap (λ ds. length (numbered ds)) (flat_map-append step_defs before (s ∷ [])) in
           let e = ap length (flat_map-append own_name (defs_of before) (defs_of (s ∷ []))) in

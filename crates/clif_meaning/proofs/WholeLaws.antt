@@ -30,6 +30,7 @@ use Rattle.clif_names.specs.Chains.{numbered}
 use Rattle.clif_names.specs.Sizes.{raw_size}
 use Rattle.clif_names.specs.Typing.{IsUntyped}
 use Rattle.clif_meaning.specs.Meaning.{numbers, inst_type, decl_sigs, block_with, lines_with, function_with, value_types, FunctionMeans}
+use Rattle.clif_meaning.proofs.Lists.{each_in, in_flat_in, in_map, numbered_long}
 use Rattle.clif_meaning.proofs.OneMeaning.{counts}
 use Rattle.clif_meaning.proofs.SizeLaws.{same_size}
 use Rattle.clif_meaning.proofs.RangeLaws.{WordsInRange, line_in_range}
@@ -37,20 +38,6 @@ use Rattle.clif_meaning.proofs.BoundLaws.{place_below, value_below, slots_long, 
 use Rattle.clif_names.proofs.Numberings.{NoRepeats, no_repeats_behind, not_behind}
 
 -- ---- lists
-
-pub each_in : {A : Type 0} (P : A → Type 0) (xs : List A) → ((x : A) → In x xs → P x) → Each P xs
-each_in P [] go = tt
-each_in P (x ∷ xs) go = (go x (inl refl), each_in P xs (λ y i. go y (inr i)))
-
-pub in_flat_in : {A B : Type 0} (f : A → List B) (xs : List A) (x : A) (b : B) → In x xs → In b (f x) → In b (flat_map f xs)
-in_flat_in f [] x b i j = absurd i
-in_flat_in f (y ∷ ys) x b (inl e) j = in_left b (f y) (flat_map f ys) (rw (sym e) j)
-in_flat_in f (y ∷ ys) x b (inr i) j = in_right b (f y) (flat_map f ys) (in_flat_in f ys x b i j)
-
-in_map : {A B : Type 0} (f : A → B) (xs : List A) (x : A) → In x xs → In (f x) (map f xs)
-in_map f [] x i = absurd i
-in_map f (y ∷ ys) x (inl e) = inl (ap f e)
-in_map f (y ∷ ys) x (inr i) = inr (in_map f ys x i)
 
 map_on : {A B : Type 0} (f g : A → B) (xs : List A) → ((x : A) → In x xs → f x ≡ g x) → map f xs ≡ map g xs
 map_on f g [] go = refl
@@ -114,8 +101,7 @@ places pre (x ∷ xs) d =
 words : List RawName → List ℕ
 words ns = map (λ (n : RawName). n.number) ns
 
-word_in : (ns : List RawName) (v : ℕ) → In v (words ns) → IsDefined ns v
-unfolding words
+pub word_in : (ns : List RawName) (v : ℕ) → In v (map (λ (n : RawName). n.number) ns) → IsDefined ns v
 word_in [] v i = absurd i
 word_in (n ∷ ns) v (inl e) = (0, n, refl, sym e)
 word_in (n ∷ ns) v (inr i) = let p = word_in ns v i in (suc p.0, p.1, p.2, p.3)
@@ -143,11 +129,11 @@ own_differ (d ∷ ds) none = by d.target (own_differ ds (no_repeats_behind d.nam
 
 -- ---- sizes
 
-each_counts : (ss : List Sig) → length ss ≤ total sig_size ss
-each_counts [] = omega arith
-each_counts (s ∷ ss) = let a = each_counts ss in omega (arith, a)
+pub sigs_count : (ss : List Sig) → length ss ≤ total sig_size ss
+sigs_count [] = omega arith
+sigs_count (s ∷ ss) = let a = sigs_count ss in omega (arith, a)
 
-blocks_count : (bs : List Block) → length bs ≤ total block_size bs
+pub blocks_count : (bs : List Block) → length bs ≤ total block_size bs
 blocks_count [] = omega arith
 blocks_count (b ∷ bs) = let a = blocks_count bs in omega (arith, a)
 
@@ -159,7 +145,7 @@ insts_count : (bs : List Block) → instruction_count bs ≤ total block_size bs
 insts_count [] = omega arith
 insts_count (b ∷ bs) = let a = insts_count bs in let p = (lines_count b.lines).0 in omega (arith, a, p)
 
-values_count : (bs : List Block) → length (defined_values bs) ≤ total block_size bs
+pub values_count : (bs : List Block) → length (defined_values bs) ≤ total block_size bs
 values_count [] = omega arith
 values_count (b ∷ bs) =
     let a = values_count bs in let p = (lines_count b.lines).1 in
@@ -168,7 +154,7 @@ values_count (b ∷ bs) =
 small : (f : Function) → size_of f ≤ 262144 → length f.types ≡ length (defined_values f.blocks) → IsSmall f
 small f le same = record {
   slots = omega (arith, le);
-  sigs = let a = each_counts f.sigs in omega (arith, le, a);
+  sigs = let a = sigs_count f.sigs in omega (arith, le, a);
   callees = omega (arith, le);
   values = let a = values_count f.blocks in omega (arith, le, a, same);
   blocks = let a = blocks_count f.blocks in omega (arith, le, a);
@@ -191,7 +177,7 @@ module _ (raw : RawFunction) (f : Function) (mf : FunctionMeans raw f)
 
   value_count : length f.types ≡ length own
   unfolding own
-  value_count = ap length mf.types ∙ length_numbered 0 ts ∙ ap (λ xs. length (value_types raw mf.value xs)) mf.types ∙ counts raw mf.value mf.numbering free ts (steps raw)
+  value_count = ap length mf.types ∙ length_numbered 0 ts ∙ counts raw mf.value f.types (steps raw)
 
   -- the values that are defined are those from 0 on
   values_in_order : defined_values F.blocks ≡ numbers_from 0 (words own)
@@ -230,12 +216,8 @@ module _ (raw : RawFunction) (f : Function) (mf : FunctionMeans raw f)
   unfolding own
   value_there u h = let a = value_below (value_defs raw) mf.value mf.numbering u.number h in omega (arith, a, value_count)
 
-  blocks_long : (k : ℕ) (bs : List RawBlock) → length (map (block_with raw mf.value f.types) (enumerate_from k bs)) ≡ length bs
-  blocks_long k [] = refl
-  blocks_long k (b ∷ bs) = ap suc (blocks_long (k + 1) bs)
-
   block_there : (u : RawName) → IsDefined (definitions raw Blocks) u.number → place_in (definitions raw Blocks) u.number < length F.blocks
-  block_there u h = let a = place_below (definitions raw Blocks) u.number h in omega (arith, a, length-map raw.blocks (λ (b : RawBlock). b.block), blocks_long 0 raw.blocks)
+  block_there u h = let a = place_below (definitions raw Blocks) u.number h in omega (arith, a, length-map raw.blocks (λ (b : RawBlock). b.block), numbered_long (block_with raw mf.value f.types) 0 raw.blocks)
 
   slot_there : (u : RawName) → IsDefined (definitions raw Slots) u.number → place_in (definitions raw Slots) u.number < length F.slots
   slot_there u h = let a = place_below (definitions raw Slots) u.number h in omega (arith, a, slots_long raw.decls)
@@ -308,7 +290,7 @@ module _ (raw : RawFunction) (f : Function) (mf : FunctionMeans raw f)
     blocks = blocks_there 0 raw.blocks (λ b i. i);
     numbered = mf.types ∙ ap (enumerate_from 0) (sym (types_numbered 0 ts)) ∙ ap (λ xs. enumerate_from 0 (map (λ typed. typed.1) xs)) (sym mf.types);
     defined_once = is_whole.once;
-    block_range = subst (Below (length F.blocks)) (sym (block_numbers_are 0 raw.blocks)) (from_below 0 (length F.blocks) raw.blocks (omega (arith, blocks_long 0 raw.blocks)));
+    block_range = subst (Below (length F.blocks)) (sym (block_numbers_are 0 raw.blocks)) (from_below 0 (length F.blocks) raw.blocks (omega (arith, numbered_long (block_with raw mf.value f.types) 0 raw.blocks)));
     blocks_differ = subst Different (sym (block_numbers_are 0 raw.blocks)) (from_differ 0 raw.blocks);
     small = small F (let a = same_size raw f mf in let b = ap size_of mf.function in omega (arith, le, a, b)) (let a = ap length values_in_order in omega (arith, a, own_long, from_long 0 (words own)));
   }

@@ -15,8 +15,6 @@ mod repeated;
 mod sizes;
 mod spots;
 mod tables;
-#[cfg(test)]
-mod tests;
 mod uses;
 mod words;
 

@@ -1,34 +1,3 @@
-mod BackConstants
-mod BackDecimals
-mod BackFronts
-mod BackNumbers
-mod BackStretches
-mod BackRanges
-mod BackSimple
-mod BackSimpleClear
-mod BackSimpleFunctions
-mod BackSimpleLexemes
-mod BackSimpleMeaning
-mod BackSimpleNames
-mod BackSimpleRules
-mod BackSimpleSmall
-mod BackSimpleText
-mod BackSimpleTold
-mod BackSimpleWhole
-mod Examples
-mod SimpleDigits
-mod SimpleDrafts
-mod SimpleLoops
-mod SimpleNames
-mod SimpleStretches
-mod SimplePreamble
-mod SimplePush
-mod SimpleRest
-mod SimpleRight
-mod SimpleRules
-mod SimpleSeen
-mod SimpleText
-mod SimpleWhole
 pub mod AttributeLaws
 pub mod SignatureLaws
 pub mod DeclarationLaws

@@ -1,13 +1,3 @@
-pub mod SimpleAdding
-pub mod SimpleBack
-pub mod SimpleClasses
-pub mod SimpleDrafts
-pub mod SimpleGrammar
-pub mod SimpleModule
-pub mod SimpleNumbers
-pub mod SimpleStretches
-pub mod SimpleReading
-pub mod SimpleWords
 pub mod ModuleGrammar
 pub mod DeclarationValues
 pub mod Attributes

@@ -1,14 +1,9 @@
 //! Laws that speak of the definitions alone. Each is a function that does nothing, so that a caller has the law by a
 //! call.
 
-ghost use Rattle.std.specs.Prelude.{◌≡◌, ℕ, List, Ok};
+ghost use Rattle.std.specs.Prelude.{◌≡◌, List};
 ghost use Rattle.grammar.specs.Rules.{Lexeme, Answers, read, read_all};
-ghost use Rattle.clif_lex.specs.declared.spans.Token.{Token};
-ghost use Rattle.clif_lex.specs.Lexing.{tokens_of};
-ghost use Rattle.ir_core.specs.Module.{Module};
 ghost use Rattle.clif_insts.specs.Values.{seen};
-ghost use Rattle.clif_read.specs.SimpleModule.{Means};
-ghost use Rattle.clif_read.specs.SimpleBack.{ReadsBack};
 ghost use Rattle.clif_read.specs.Alike.{Alike};
 ghost use Rattle.clif_read.specs.ModuleGrammar.{lines, module_rule};
 ghost use Rattle.clif_read.specs.LineValues.{lines_value};
@@ -17,12 +12,6 @@ ghost use Rattle.clif_read.specs.Modules.{module_at};
 ghost use Rattle.clif_read.specs.LetterAttributes.{SameAttributes};
 ghost use Rattle.clif_read.specs.LetterLines.{letter_lines, letter_lines_value};
 ghost use Rattle.clif_read.specs.LetterModule.{letter_module, letter_module_value};
-
-/// The canonical text of a module that a simple text means is a simple text, and means that module alone.
-pub fn simple_text_reads_back()
-    ensures { (text : List ℕ) (tokens : List Token) (m : Module) → tokens_of text ≡ Ok tokens → Means text tokens m
-        → ReadsBack m }
-{}
 
 /// The lines of a block are those of the EBNF, to the letter: the same texts, which mean the same, and the same
 /// beginnings. The grammar reads the values of a `return` behind it, and takes what begins with a value as one rule, so

@@ -2,11 +2,7 @@
 #![tactic(auto)]
 
 mod attributes;
-#[cfg(test)]
-mod declaration_tests;
 mod declarations;
-#[cfg(test)]
-mod form_tests;
 mod heads;
 pub mod laws;
 mod lines;
@@ -17,20 +13,16 @@ mod room;
 mod shares;
 mod sharing;
 mod signatures;
-mod simple;
-#[cfg(test)]
-mod stretch_tests;
 mod stretches;
 mod tags;
-#[cfg(test)]
-mod tests;
 mod texts;
 
+pub use ranges::{PIECE, stretch_end};
 pub use raw::{
     RawAttribute, RawBlock, RawBlockParam, RawCalleeSig, RawDecl, RawFuncName, RawFunction,
     RawLine, RawModule, RawParam, RawSignature, RawTag,
 };
-pub use shares::read_raw;
-pub use simple::{SimpleErr, read_simple, read_simple_text};
-pub use stretches::{read_text, read_text_alone};
+pub use room::make_room;
+pub use shares::{read_in_shares, read_raw, read_raw_by};
+pub use stretches::{read_in_stretches, read_text, read_text_alone, read_text_by};
 pub use texts::read_raw_alone;

@@ -6,10 +6,10 @@ ghost use Rattle.clif_read.specs.Stretches.{IsRange};
 use clif_lex::next_line_with;
 
 /// How many bytes a stretch takes at least. The tokens of so few bytes stay in a processor's own memory.
-pub(crate) const PIECE: usize = 65_536;
+pub const PIECE: usize = 65_536;
 
 /// Where a stretch of a range ends: behind so many bytes the next line that begins with `function`, or the range's end.
-pub(crate) fn stretch_end(text: &[u8], from: usize, end: usize, size: usize) -> usize
+pub fn stretch_end(text: &[u8], from: usize, end: usize, size: usize) -> usize
     requires { IsRange text.now from end }
     ensures stretch { IsRange text.now from result }
     ensures rest { IsRange text.now result end }

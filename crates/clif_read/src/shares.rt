@@ -90,7 +90,7 @@ fn read_front(alloc: Global, text: &[u8], tokens: &Tokens, end: usize) -> Option
 
 /// The module that a text is, from the text's tokens, read by so many workers at once. None where it is none, or cannot
 /// be read so.
-pub(crate) fn read_in_shares<R: Threads + Sync>(
+pub fn read_in_shares<R: Threads + Sync>(
     rt: &R,
     alloc: Global,
     text: &[u8],
@@ -110,7 +110,7 @@ pub(crate) fn read_in_shares<R: Threads + Sync>(
 }
 
 /// As `read_raw`, by stretches of so many tokens.
-pub(crate) fn read_raw_by<R: Threads + Sync>(
+pub fn read_raw_by<R: Threads + Sync>(
     rt: &R,
     alloc: Global,
     text: &[u8],

@@ -97,7 +97,7 @@ pub(crate) fn extended(front: RawModule, more: Vec<RawFunction>) -> Option<RawMo
 }
 
 /// The module that a text is, read by so many workers at once. None where it is none, or cannot be read so.
-pub(crate) fn read_in_stretches<R: Threads + Sync>(
+pub fn read_in_stretches<R: Threads + Sync>(
     rt: &R,
     alloc: Global,
     text: &[u8],
@@ -129,7 +129,7 @@ pub fn read_text_alone(alloc: Global, text: &[u8]) -> Result<RawModule, TextErr>
 }
 
 /// As `read_text`, by stretches of this size.
-pub(crate) fn read_text_by<R: Threads + Sync>(
+pub fn read_text_by<R: Threads + Sync>(
     rt: &R,
     alloc: Global,
     text: &[u8],

@@ -1,7 +1,8 @@
 -- A function with its declarations, and then its values and empty blocks.
-use Rattle.std.proofs.Common.{◌≡◌, ℕ, suc, ◌+◌, ◌-◌, ◌<◌, ◌^◌, List, [], ◌∷◌, ◌++◌, length, map, slice_get, Some, take, refl, sym, ap, subst, ◌∙◌, arith}
+use Rattle.std.proofs.Common.{◌≡◌, ℕ, ◌+◌, ◌-◌, ◌<◌, ◌^◌, List, [], ◌∷◌, ◌++◌, length, map, slice_get, Some, take, sym, ap, subst, ◌∙◌, arith}
 use Rattle.std.specs.Prelude.{flat_map}
 use Rattle.std.specs.List.{enumerate_from}
+use Rattle.std.proofs.Math.Numerals.{add-one}
 use Rattle.ir_core.specs.declared.declarations.Callee.{Callee}
 use Rattle.ir_core.specs.declared.declarations.SlotDecl.{SlotDecl}
 use Rattle.ir_core.specs.declared.names.FuncName.{FuncName}
@@ -15,6 +16,7 @@ use Rattle.clif_read.specs.declared.raw.RawBlock.{RawBlock}
 use Rattle.clif_read.specs.declared.raw.RawFunction.{RawFunction}
 use Rattle.clif_names.specs.FunctionNames.{NoFunctionFault}
 use Rattle.clif_meaning.specs.Meaning.{block_with, callees_from, decl_slots, function_with, name_of, numbers, sig_of}
+use Rattle.clif_meaning.proofs.Lists.{numbered_long}
 use Rattle.clif_resolve.specs.Declaring.{AreFew, declared, sigs_of}
 use Rattle.clif_resolve.specs.Filling.{empty_block, filled, IsReady}
 use Rattle.clif_resolve.proofs.DeclaringLaws.{sigs_whole}
@@ -49,10 +51,6 @@ module _ (raw : RawFunction) (at : Renaming) (words : at ≡ numbers raw at.valu
 
 -- ---- empty blocks
 
-pub empties_long : (k : ℕ) (bs : List RawBlock) → length (map empty_block (enumerate_from k bs)) ≡ length bs
-empties_long k [] = refl
-empties_long k (b ∷ bs) = ap suc (empties_long (k + 1) bs)
-
 pub block_added : (start f g : Function) (bs : List RawBlock) (i : ℕ) (b : RawBlock) → slice_get bs i ≡ Some b → (n : ℕ)
     → f ≡ record start { blocks = map empty_block (enumerate_from 0 (take i bs)) } → n ≡ length f.blocks
     → g ≡ record f { blocks = f.blocks ++ record { number = n; params = []; lines = [] } ∷ [] }
@@ -60,16 +58,13 @@ pub block_added : (start f g : Function) (bs : List RawBlock) (i : ℕ) (b : Raw
 block_added start f g bs i b at n is numbered next =
     next
     ∙ ap (λ m. record f { blocks = f.blocks ++ record { number = m; params = []; lines = [] } ∷ [] })
-    (numbered ∙ ap (λ (x : Function). length x.blocks) is ∙ empties_long 0 (take i bs) ∙ parted_long bs i b at)
+    (numbered ∙ ap (λ (x : Function). length x.blocks) is ∙ numbered_long empty_block 0 (take i bs) ∙ parted_long bs i b at)
     ∙ ap (λ (x : Function). record x { blocks = x.blocks ++ record { number = i; params = []; lines = [] } ∷ [] }) is
     ∙ ap (λ xs. record start { blocks = xs }) (sym more)
   where
-    one : (n : ℕ) → n + 1 ≡ suc n
-    one n = omega arith
-
     more : map empty_block (enumerate_from 0 (take (i + 1) bs)) ≡ map empty_block (enumerate_from 0 (take i bs)) ++ record { number = i; params = []; lines = [] } ∷ []
     more =
-        ap (λ n. map empty_block (enumerate_from 0 (take n bs))) (one i)
+        ap (λ n. map empty_block (enumerate_from 0 (take n bs))) (add-one i)
         ∙ ap (λ xs. map empty_block (enumerate_from 0 xs)) (parted_next bs i b at)
         ∙ ap (map empty_block) (enumerate_begun (take i bs) (b ∷ []))
         ∙ map_append empty_block (enumerate_from 0 (take i bs)) (enumerate_from (length (take i bs)) (b ∷ []))
@@ -86,12 +81,8 @@ module _ (raw : RawFunction) (at : Renaming) (types : List Ty) where
       (next ∙ ap (λ (x : Function). record x { types = enumerate_from 0 types }) is)
 
   module _ (ready : IsReady raw at types) where
-    blocks_long : (k : ℕ) (bs : List RawBlock) → length (map (block_with raw at.value (enumerate_from 0 types)) (enumerate_from k bs)) ≡ length bs
-    blocks_long k [] = refl
-    blocks_long k (b ∷ bs) = ap suc (blocks_long (k + 1) bs)
-
     pub few_blocks : length raw.blocks < 2 ^ 32 - 1
-    few_blocks = let s = ready.sound.small.blocks in let e = blocks_long 0 raw.blocks in omega (arith, s, e)
+    few_blocks = let s = ready.sound.small.blocks in let e = numbered_long (block_with raw at.value (enumerate_from 0 types)) 0 raw.blocks in omega (arith, s, e)
 
     pub few_values : length types < 2 ^ 32 - 1
     few_values = let s = ready.sound.small.values in let e = length_numbered 0 types in omega (arith, s, e)

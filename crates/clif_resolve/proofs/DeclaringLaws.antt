@@ -1,6 +1,7 @@
 -- Declarations, one more after the other.
 use Rattle.std.proofs.Common.{◌≡◌, ℕ, suc, ◌+◌, ◌<◌, ◌≤◌, List, [], ◌∷◌, ◌++◌, length, map, take, drop, get_or, Option, refl, sym, ap, ◌∙◌, arith, length-append}
 use Rattle.std.specs.Prelude.{flat_map}
+use Rattle.std.proofs.Math.Nat.{zero-add}
 use Rattle.std.proofs.lemmas.Grind.{flat_map-append}
 use Rattle.std.proofs.lemmas.List.{take_more, take-append-drop}
 use Rattle.ir_core.specs.declared.signatures.Sig.{Sig}
@@ -40,20 +41,17 @@ callees_push sig k (decl.Callee n colocated name (callee_sig.Inline signature) �
     (callees_push sig (suc k) xs d
     ∙ ap (λ m. callees_from sig (suc k) xs ++ callees_from sig m (d ∷ [])) (let e : suc k + length (flat_map decl_sigs xs) ≡ k + suc (length (flat_map decl_sigs xs)) = omega arith in e))
 
-pub none_more : (n : ℕ) → 0 + n ≡ n
-none_more n = omega arith
-
 pub numbers_more : (ds : List RawDecl) (i : ℕ) (d : RawDecl) → i < length ds → d ≡ get_or ds i d
     → sig_numbers 0 (take (i + 1) ds) ≡ sig_numbers 0 (take i ds) ++ own_sig_numbers (length (flat_map own_sigs (take i ds))) d
 numbers_more ds i d lt is =
     rw (take_more ds i d lt, ← is)
-    (numbers_push 0 (take i ds) d ∙ ap (λ n. sig_numbers 0 (take i ds) ++ own_sig_numbers n d) (none_more (length (flat_map own_sigs (take i ds)))))
+    (numbers_push 0 (take i ds) d ∙ ap (λ n. sig_numbers 0 (take i ds) ++ own_sig_numbers n d) (zero-add (length (flat_map own_sigs (take i ds)))))
 
 pub callees_more : (sig : ℕ → ℕ) (ds : List RawDecl) (i : ℕ) (d : RawDecl) → i < length ds → d ≡ get_or ds i d
     → callees_from sig 0 (take (i + 1) ds) ≡ callees_from sig 0 (take i ds) ++ callees_from sig (length (flat_map decl_sigs (take i ds))) (d ∷ [])
 callees_more sig ds i d lt is =
     rw (take_more ds i d lt, ← is)
-    (callees_push sig 0 (take i ds) d ∙ ap (λ n. callees_from sig 0 (take i ds) ++ callees_from sig n (d ∷ [])) (none_more (length (flat_map decl_sigs (take i ds)))))
+    (callees_push sig 0 (take i ds) d ∙ ap (λ n. callees_from sig 0 (take i ds) ++ callees_from sig n (d ∷ [])) (zero-add (length (flat_map decl_sigs (take i ds)))))
 
 pub part_short : {A B : Type 0} (g : A → List B) (xs : List A) (i : ℕ) → length (flat_map g (take i xs)) ≤ length (flat_map g xs)
 part_short g xs i =

@@ -2,6 +2,8 @@
 use Rattle.std.proofs.Common.{◌≡◌, ℕ, suc, ◌+◌, ◌<◌, inl, List, [], ◌∷◌, ◌++◌, length, map, take, drop, get_or, slice_get, Option, Some, refl, sym, ap, ap₂, subst, ◌∙◌, arith, append_assoc, length-append}
 use Rattle.std.specs.Prelude.{flat_map}
 use Rattle.std.specs.List.{enumerate_from}
+use Rattle.std.proofs.Math.Numerals.{add-one}
+use Rattle.std.proofs.Math.Seq.{drop-length, take-length}
 use Rattle.std.proofs.lemmas.Grind.{flat_map-append}
 use Rattle.std.proofs.lemmas.List.{append-nil}
 use Rattle.ir_core.specs.declared.signatures.Ty.{Ty}
@@ -32,17 +34,6 @@ use Rattle.clif_resolve.specs.FormTypes.{type_after}
 use Rattle.clif_meaning.specs.Meaning.{block_with, lines_with}
 use Rattle.clif_resolve.proofs.Opening.{at_middle, count_middle, defined_middle, differ, enumerate_begun, fresh, in_middle, number_range, split_lines, split_params}
 use Rattle.clif_lines.proofs.Parting.{each_all, each_at, each_part, got, got_or, parted, parted_long, parted_next, parted_one}
-
-take_all : {A : Type 0} (xs : List A) → take (length xs) xs ≡ xs
-take_all [] = refl
-take_all (x ∷ xs) = ap (λ ys. x ∷ ys) (take_all xs)
-
-drop_all : {A : Type 0} (xs : List A) → drop (length xs) xs ≡ []
-drop_all [] = refl
-drop_all (x ∷ xs) = drop_all xs
-
-more_one : (n : ℕ) → n + 1 ≡ suc n
-more_one n = omega arith
 
 -- ---- empty blocks
 
@@ -81,7 +72,7 @@ module _ (raw : RawFunction) (at : Renaming) (types : List Ty) where
   pub filled_all : filled raw at types (length raw.blocks) ≡ meant raw at types
   filled_all =
       ap (λ bs. record (meant raw at types) { blocks = bs })
-      (ap₂ (λ xs ys. map with_block (enumerate_from 0 xs) ++ map empty_block (enumerate_from (length raw.blocks) ys)) (take_all raw.blocks) (drop_all raw.blocks)
+      (ap₂ (λ xs ys. map with_block (enumerate_from 0 xs) ++ map empty_block (enumerate_from (length raw.blocks) ys)) (take-length raw.blocks) (drop-length raw.blocks)
       ∙ append-nil (map with_block (enumerate_from 0 raw.blocks)))
 
   module _ (place : ℕ) (b : RawBlock) (got : slice_get raw.blocks place ≡ Some b) where
@@ -110,16 +101,16 @@ module _ (raw : RawFunction) (at : Renaming) (types : List Ty) where
     pub opened_begins : opened raw at types place 0 0 ≡ filled raw at types place
     opened_begins =
         opened_blocks 0 0
-        ∙ ap (λ n. record (meant raw at types) { blocks = done ++ part 0 0 ∷ map empty_block (enumerate_from n (drop (suc place) raw.blocks)) }) (sym (more_one place))
+        ∙ ap (λ n. record (meant raw at types) { blocks = done ++ part 0 0 ∷ map empty_block (enumerate_from n (drop (suc place) raw.blocks)) }) (sym (add-one place))
         ∙ ap (λ bs. record (meant raw at types) { blocks = done ++ map empty_block (enumerate_from place bs) }) (sym (parted_one raw.blocks place b got))
 
     part_whole : part (length b.params) (length b.lines) ≡ whole
     part_whole =
-        ap₂ (λ ps ls. record { number = place; params = map (λ (p : RawBlockParam). at.value p.value.number) ps; lines = flat_map written ls }) (take_all b.params) (take_all b.lines)
+        ap₂ (λ ps ls. record { number = place; params = map (λ (p : RawBlockParam). at.value p.value.number) ps; lines = flat_map written ls }) (take-length b.params) (take-length b.lines)
 
     whole_next : whole_before raw at types (place + 1) ≡ done ++ whole ∷ []
     whole_next =
-        ap (λ n. map with_block (enumerate_from 0 (take n raw.blocks))) (more_one place)
+        ap (λ n. map with_block (enumerate_from 0 (take n raw.blocks))) (add-one place)
         ∙ ap (λ bs. map with_block (enumerate_from 0 bs)) (parted_next raw.blocks place b got)
         ∙ ap (map with_block) (enumerate_begun (take place raw.blocks) (b ∷ []))
         ∙ map_append with_block (enumerate_from 0 (take place raw.blocks)) (enumerate_from (length (take place raw.blocks)) (b ∷ []))
@@ -132,7 +123,7 @@ module _ (raw : RawFunction) (at : Renaming) (types : List Ty) where
         ∙ ap (λ bs. record (meant raw at types) { blocks = bs })
         (sym (append_assoc done (whole ∷ []) empties)
         ∙ ap (λ xs. xs ++ empties) (sym whole_next)
-        ∙ ap (λ n. whole_before raw at types (place + 1) ++ map empty_block (enumerate_from n (drop n raw.blocks))) (sym (more_one place)))
+        ∙ ap (λ n. whole_before raw at types (place + 1) ++ map empty_block (enumerate_from n (drop n raw.blocks))) (sym (add-one place)))
 
     -- ---- the whole function
 
@@ -142,7 +133,7 @@ module _ (raw : RawFunction) (at : Renaming) (types : List Ty) where
         ∙ ap (map with_block) (enumerate_begun (take place raw.blocks) (b ∷ drop (suc place) raw.blocks))
         ∙ map_append with_block (enumerate_from 0 (take place raw.blocks)) (enumerate_from (length (take place raw.blocks)) (b ∷ drop (suc place) raw.blocks))
         ∙ ap (λ n. done ++ map with_block (enumerate_from n (b ∷ drop (suc place) raw.blocks))) (parted_long raw.blocks place b got)
-        ∙ ap (λ n. done ++ whole ∷ map with_block (enumerate_from n (drop (suc place) raw.blocks))) (more_one place)
+        ∙ ap (λ n. done ++ whole ∷ map with_block (enumerate_from n (drop (suc place) raw.blocks))) (add-one place)
 
     not_before : In place (block_numbers done) → ⊥
     not_before i =
@@ -202,7 +193,7 @@ module _ (raw : RawFunction) (at : Renaming) (types : List Ty) where
         number p = at.value p.value.number
 
         params_next : map number (take (i + 1) b.params) ≡ map number (take i b.params) ++ number p ∷ []
-        params_next = ap (λ n. map number (take n b.params)) (more_one i) ∙ ap (map number) (parted_next b.params i p here) ∙ map_append number (take i b.params) (p ∷ [])
+        params_next = ap (λ n. map number (take n b.params)) (add-one i) ∙ ap (map number) (parted_next b.params i p here) ∙ map_append number (take i b.params) (p ∷ [])
 
         params_whole : whole.params ≡ map number (take i b.params) ++ number p ∷ map number (drop (suc i) b.params)
         params_whole = ap (map number) (parted b.params i p here) ∙ map_append number (take i b.params) (p ∷ drop (suc i) b.params)
@@ -233,7 +224,7 @@ module _ (raw : RawFunction) (at : Renaming) (types : List Ty) where
 
         lines_next : flat_map written (take (i + 1) b.lines) ≡ before ++ written l
         lines_next =
-            ap (λ n. flat_map written (take n b.lines)) (more_one i) ∙ ap (flat_map written) (parted_next b.lines i l here)
+            ap (λ n. flat_map written (take n b.lines)) (add-one i) ∙ ap (flat_map written) (parted_next b.lines i l here)
             ∙ flat_map-append written (take i b.lines) (l ∷ []) ∙ ap (λ xs. before ++ xs) (append-nil (written l))
 
         lines_whole : whole.lines ≡ before ++ (written l ++ behind)
@@ -273,7 +264,7 @@ module _ (raw : RawFunction) (at : Renaming) (types : List Ty) where
           line_fresh v j k =
               fresh done rest whole once (whole.params ++ line_definitions before) x.results (line_definitions behind) parts v j
               (subst (In v) (defined_there (length b.params) i
-              ∙ ap (λ ps. definitions done ++ (map (λ (p : RawBlockParam). at.value p.value.number) ps ++ line_definitions before)) (take_all b.params)) k)
+              ∙ ap (λ ps. definitions done ++ (map (λ (p : RawBlockParam). at.value p.value.number) ps ++ line_definitions before)) (take-length b.params)) k)
 
           pub line_few : CanAdd (instruction_count (opened raw at types place (length b.params) i).blocks)
           line_few =

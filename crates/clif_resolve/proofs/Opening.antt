@@ -2,6 +2,7 @@
 use Rattle.std.proofs.Common.{◌≡◌, ℕ, ◌+◌, ◌<◌, ◌≤◌, inl, inr, List, [], ◌∷◌, ◌++◌, length, map, refl, sym, ap, ap₂, ◌∙◌, subst, arith, append_assoc, eq-eqb, ne_eqb}
 use Rattle.std.specs.Prelude.{if◌then◌else◌}
 use Rattle.std.specs.List.{enumerate_from}
+use Rattle.std.proofs.Math.Nat.{zero-add}
 use Rattle.std.proofs.lemmas.List.{append-nil}
 use Rattle.ir_core.specs.Module.{Block, Line}
 use Rattle.ir_core.specs.Lookup.{definitions, line_definitions, block_numbers}
@@ -18,10 +19,7 @@ enumerate_join k [] ys = ap (λ n. enumerate_from n ys) (omega arith)
 enumerate_join k (x ∷ xs) ys = ap (λ zs. (k, x) ∷ zs) (enumerate_join (k + 1) xs ys ∙ ap (λ n. enumerate_from (k + 1) xs ++ enumerate_from n ys) (omega arith))
 
 pub enumerate_begun : {A : Type 0} (xs ys : List A) → enumerate_from 0 (xs ++ ys) ≡ enumerate_from 0 xs ++ enumerate_from (length xs) ys
-enumerate_begun xs ys = enumerate_join 0 xs ys ∙ ap (λ n. enumerate_from 0 xs ++ enumerate_from n ys) (none (length xs))
-  where
-    none : (n : ℕ) → 0 + n ≡ n
-    none n = omega arith
+enumerate_begun xs ys = enumerate_join 0 xs ys ∙ ap (λ n. enumerate_from 0 xs ++ enumerate_from n ys) (zero-add (length xs))
 
 module _ {A : Type 0} (f : ℕ × A → Block) (own : (p : ℕ × A) → (f p).number ≡ p.0) where
   pub number_range : (k : ℕ) (xs : List A) (v : ℕ) → In v (block_numbers (map f (enumerate_from k xs))) → (k ≤ v) × (v < k + length xs)

@@ -1,58 +1,37 @@
 -- A function without a fault is ready to be filled.
-use Rattle.std.proofs.Common.{◌≡◌, ◌≢◌, ℕ, suc, ◌+◌, ◌<◌, ◌^◌, Bool, true, false, List, [], ◌∷◌, ◌++◌, length, map, slice_get, Some, refl, sym, ap, subst, ◌∙◌, arith}
+use Rattle.std.proofs.Common.{◌≡◌, ◌≢◌, ℕ, ◌<◌, ◌^◌, List, [], length, refl, sym, ap, subst, ◌∙◌, arith}
 use Rattle.std.specs.List.{enumerate_from}
 use Rattle.std.specs.Prelude.{flat_map}
 use Rattle.std.proofs.lemmas.List.{length-map}
 use Rattle.ir_core.proofs.Keeping.{length_numbered}
-use Rattle.ir_core.proofs.Members.{each_left, each_right, in_left}
+use Rattle.ir_core.proofs.Members.{in_left}
 use Rattle.ir_core.specs.Module.{Function}
 use Rattle.ir_core.specs.Sound.{IsSound, IsWhole}
 use Rattle.ir_core.specs.declared.signatures.Ty.{Ty}
 use Rattle.ir_semantics.specs.Renaming.{Renaming}
-use Rattle.clif_lex.specs.declared.faults.TextKind.TheVariants.{Duplicate, NumberRange, Untyped}
+use Rattle.clif_lex.specs.declared.faults.TextKind.TheVariants.{Duplicate, Untyped}
 use Rattle.clif_read.specs.declared.raw.RawBlock.{RawBlock}
 use Rattle.clif_read.specs.declared.raw.RawFunction.{RawFunction}
-use Rattle.clif_names.specs.declared.limits.Limit.TheVariants.{Entity}
-use Rattle.clif_names.specs.declared.limits.Limited.{Limited}
 use Rattle.clif_names.specs.Chains.{IsNumbering, look, numbered}
 use Rattle.clif_names.specs.Definitions.{Blocks, Callees, Sigs, Slots, Values, definitions, lines, steps, value_defs}
 use Rattle.clif_names.specs.FunctionNames.{NoFunctionFault}
-use Rattle.clif_names.specs.Limits.{all_words, decl_limits, keeps, limits, line_limits, name_limits, of_word}
 use Rattle.clif_names.specs.Uses.{decl_uses, line_uses}
-use Rattle.clif_names.proofs.Numberings.{in_place}
 use Rattle.clif_resolve.specs.Declaring.{AreFew, declared, sigs_of}
 use Rattle.clif_resolve.specs.Filling.{IsReady, meant}
 use Rattle.clif_resolve.specs.FormTypes.{types_along}
-use Rattle.clif_lines.specs.Keeping.{AllKeep, Keeps}
 use Rattle.clif_lines.specs.WordNumbers.{AreSmall}
 use Rattle.clif_meaning.specs.Meaning.{block_with, callees_from, decl_sigs, decl_slots, function_with, FunctionMeans, numbers}
 use Rattle.clif_meaning.proofs.BoundLaws.{callees_below, callees_long, sig_below, slots_long}
+use Rattle.clif_meaning.proofs.LimitLaws.{all_kept}
+use Rattle.clif_meaning.proofs.Lists.{numbered_long}
 use Rattle.clif_meaning.proofs.ModuleLaws.{size, used}
 use Rattle.clif_meaning.proofs.OneMeaning.{counts}
-use Rattle.clif_meaning.proofs.WholeLaws.{each_in, is_whole, sound}
+use Rattle.clif_meaning.proofs.WholeLaws.{is_whole, sound}
 use Rattle.clif_resolve.proofs.DeclaringLaws.{callees_count, sigs_count, sigs_whole, slots_count}
 use Rattle.clif_resolve.proofs.TypesAlong.{along_is}
 use Rattle.clif_resolve.proofs.WordLaws.{place_le, sig_le, value_le}
 
 module _ (raw : RawFunction) (free : NoFunctionFault raw) where
-  pub all_keep : AllKeep (limits raw)
-  all_keep = each_in Keeps (limits raw) (λ n i. by n (keeps n.limit n.value) refl (in_place (limits raw) n i))
-    where
-      by : (n : Limited) (b : Bool) → keeps n.limit n.value ≡ b → (i : ℕ) × (slice_get (limits raw) i ≡ Some n) → Keeps n
-      by n true t p = t
-      by n false t (i, at) = absurd (free NumberRange n.spot (i, n, at, refl, t))
-
-  abbrev front : List Limited
-  front = map (of_word Entity) (all_words raw) ++ name_limits raw.name
-
-  pub decls_keep : AllKeep (flat_map decl_limits raw.decls)
-  decls_keep = each_right Keeps front (flat_map decl_limits raw.decls) (each_left Keeps (front ++ flat_map decl_limits raw.decls) (flat_map line_limits (lines raw)) all_keep)
-
-  pub name_keeps : AllKeep (name_limits raw.name)
-  name_keeps =
-      each_right Keeps (map (of_word Entity) (all_words raw)) (name_limits raw.name)
-      (each_left Keeps front (flat_map decl_limits raw.decls) (each_left Keeps (front ++ flat_map decl_limits raw.decls) (flat_map line_limits (lines raw)) all_keep))
-
   sigs_long : length (sigs_of raw) ≡ length (flat_map decl_sigs raw.decls)
   sigs_long = ap length (sigs_whole raw.decls) ∙ length-map (flat_map decl_sigs raw.decls) (λ s. s.1)
 
@@ -92,11 +71,7 @@ module _ (raw : RawFunction) (free : NoFunctionFault raw) where
     made_whole = is_whole raw made means (used raw free) (λ spot h. free Duplicate spot (Values, h)) (λ spot h. free Untyped spot h) (size raw free) begins
 
     values_long : length types ≡ length (numbered (value_defs raw))
-    values_long = ap length (along_is raw value numbering (λ spot u. free Untyped spot u)) ∙ counts raw value numbering (λ spot u. free Untyped spot u) types (steps raw)
-
-    blocks_long : (k : ℕ) (bs : List RawBlock) → length (map (block_with raw value (enumerate_from 0 types)) (enumerate_from k bs)) ≡ length bs
-    blocks_long k [] = refl
-    blocks_long k (b ∷ bs) = ap suc (blocks_long (k + 1) bs)
+    values_long = ap length (along_is raw value numbering (λ spot u. free Untyped spot u)) ∙ counts raw value (enumerate_from 0 types) (steps raw)
 
     pub all_small : AreSmall (numbers raw value)
     all_small = record {
@@ -109,7 +84,7 @@ module _ (raw : RawFunction) (free : NoFunctionFault raw) where
           let a = place_le (definitions raw Blocks) n in
           let b = made_sound.small.blocks in
           let c = length-map raw.blocks (λ (b : RawBlock). b.block) in
-          let d = blocks_long 0 raw.blocks in
+          let d = numbered_long (block_with raw value (enumerate_from 0 types)) 0 raw.blocks in
           omega (arith, a, b, c, d));
       slot = λ n. (
           let a = place_le (definitions raw Slots) n in
@@ -129,7 +104,7 @@ module _ (raw : RawFunction) (free : NoFunctionFault raw) where
     }
 
     ready : IsReady raw (numbers raw value) types
-    ready = record { words = refl; limits = all_keep; sound = made_sound }
+    ready = record { words = refl; limits = all_kept raw free; sound = made_sound }
 
   pub ready_by : (begins : raw.blocks ≢ []) (at : Renaming) → at ≡ numbers raw at.value → IsNumbering (value_defs raw) at.value
       → IsReady raw at (types_along (declared raw at.value) at (steps raw))

@@ -2,6 +2,7 @@
 use Rattle.std.proofs.Common.{◌≡◌, ℕ, zero, suc, ◌+◌, ◌<◌, List, [], ◌∷◌, ◌++◌, length, take, slice_get, Option, None, Some, refl, sym, ap, ◌∙◌, arith, append_assoc}
 use Rattle.std.specs.Prelude.{fold, map}
 use Rattle.std.specs.List.{enumerate_from}
+use Rattle.std.proofs.Math.Numerals.{add-one}
 use Rattle.std.proofs.lemmas.Grind.{fold-append}
 use Rattle.std.proofs.lemmas.List.{append-nil}
 use Rattle.ir_core.specs.declared.signatures.Ty.{Ty}
@@ -37,11 +38,8 @@ type_given at ts inst x bare gives =
 
 -- one more result
 pub types_more : (rs : List RawName) (ts : List Ty) (i : ℕ) → i < length rs → types_for (take (i + 1) rs) ts ≡ types_for (take i rs) ts ++ known (slice_get ts i) ∷ []
-types_more rs ts i lt = ap (λ n. types_for (take n rs) ts) (one i) ∙ more rs ts i lt
+types_more rs ts i lt = ap (λ n. types_for (take n rs) ts) (add-one i) ∙ more rs ts i lt
   where
-    one : (i : ℕ) → i + 1 ≡ suc i
-    one i = omega arith
-
     more : (rs : List RawName) (ts : List Ty) (i : ℕ) → i < length rs → types_for (take (suc i) rs) ts ≡ types_for (take i rs) ts ++ known (slice_get ts i) ∷ []
     more [] ts i lt = absurd (omega (arith, lt))
     more (r ∷ rs) [] zero lt = refl

@@ -1,6 +1,7 @@
 -- In a function without a fault the tables give each word the number that it has in the module that is meant.
 use Rattle.std.proofs.Common.{◌≡◌, ℕ, suc, ◌+◌, ◌≤◌, inl, inr, List, [], ◌∷◌, ◌++◌, length, get_or, Option, None, Some, refl, sym, ap, ◌∙◌, arith}
 use Rattle.std.specs.Prelude.{flat_map}
+use Rattle.std.proofs.Math.Nat.{zero-add}
 use Rattle.std.proofs.lemmas.Bool.Decides.{eqb_tells}
 use Rattle.ir_core.specs.declared.signatures.Sig.{Sig}
 use Rattle.ir_semantics.specs.Renaming.{Renaming}
@@ -20,7 +21,9 @@ use Rattle.clif_names.proofs.Numberings.{place_here, place_there}
 use Rattle.clif_meaning.specs.Meaning.{decl_sigs, numbers, sig_place}
 use Rattle.clif_resolve.specs.Parts.{own_sigs}
 use Rattle.clif_lines.specs.WordNumbers.{numbers_in, sig_numbers}
-use Rattle.clif_resolve.proofs.DeclaringLaws.{none_more}
+
+more : (k c : ℕ) → k + suc c ≡ suc k + c
+more k c = omega arith
 
 -- the numbers of declared signatures by their place among these, and at last how many signatures there are
 pub sig_numbered : (k : ℕ) (ds : List RawDecl) (n : ℕ)
@@ -33,16 +36,10 @@ sig_numbered k (decl.Sig m signature ∷ ds) n = elim (eqb_tells n m.number) [
       (ap (λ c. get_or (sig_numbers (suc k) ds ++ c ∷ []) (place_in (flat_map sig_names ds) n) 0) (more k (length (flat_map own_sigs ds)))
       ∙ sig_numbered (suc k) ds n ∙ sym (more k (sig_place (flat_map decl_sigs ds) n)))
 ]
-  where
-    more : (k c : ℕ) → k + suc c ≡ suc k + c
-    more k c = omega arith
 sig_numbered k (decl.Callee m colocated name (callee_sig.Declared s) ∷ ds) n = sig_numbered k ds n
 sig_numbered k (decl.Callee m colocated name (callee_sig.Inline signature) ∷ ds) n =
     ap (λ c. get_or (sig_numbers (suc k) ds ++ c ∷ []) (place_in (flat_map sig_names ds) n) 0) (more k (length (flat_map own_sigs ds)))
     ∙ sig_numbered (suc k) ds n ∙ sym (more k (sig_place (flat_map decl_sigs ds) n))
-  where
-    more : (k c : ℕ) → k + suc c ≡ suc k + c
-    more k c = omega arith
 
 renaming_of : (value block slot sig callee : ℕ → ℕ) → Renaming
 renaming_of value block slot sig callee = record { value = value; block = block; slot = slot; sig = sig; callee = callee }
@@ -62,8 +59,8 @@ module _ (placed : WordsPlaced) (f : RawFunction) (names : FunctionNames) (free 
       sig_right : (n : ℕ) → sigs n ≡ sig_place (flat_map decl_sigs f.decls) n
       sig_right n =
           ap (λ p. get_or (sig_numbers 0 f.decls ++ length (flat_map own_sigs f.decls) ∷ []) p 0) (placed f names free are Sigs n)
-          ∙ ap (λ m. get_or (sig_numbers 0 f.decls ++ m ∷ []) (place_in (definitions f Sigs) n) 0) (sym (none_more (length (flat_map own_sigs f.decls))))
-          ∙ sig_numbered 0 f.decls n ∙ none_more (sig_place (flat_map decl_sigs f.decls) n)
+          ∙ ap (λ m. get_or (sig_numbers 0 f.decls ++ m ∷ []) (place_in (definitions f Sigs) n) 0) (sym (zero-add (length (flat_map own_sigs f.decls))))
+          ∙ sig_numbered 0 f.decls n ∙ zero-add (sig_place (flat_map decl_sigs f.decls) n)
 
 -- ---- all of them are small
 

@@ -1,6 +1,6 @@
 -- The run of the command that the settings ask for.
 use Rattle.clif_check.specs.Faults.{IsAccepted}
-use Rattle.clif_read.specs.SimpleModule as simple
+use Rattle.simple_read.specs.SimpleModule as simple
 use Rattle.ir_text.specs.Text.{text_of}
 use Rattle.settings.specs.Settings.{Settings, Check, Print, Inline, Run}
 use Rattle.clifinl.specs.declared.status.Status.{Status}

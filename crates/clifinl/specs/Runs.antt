@@ -7,7 +7,7 @@ use Rattle.clif_lex.specs.declared.faults.Place.{Place}
 use Rattle.clif_lex.specs.declared.faults.TextKind.{TextKind}
 use Rattle.clif_lex.specs.declared.faults.TextKind.TheVariants as kind
 use Rattle.clif_lex.specs.Places.{line_at, column_at}
-use Rattle.clif_read.specs.SimpleModule as simple
+use Rattle.simple_read.specs.SimpleModule as simple
 use Rattle.clif_check.specs.Faults.{FirstFault}
 use Rattle.ir_core.specs.Module.{Module}
 use Rattle.clifinl.specs.declared.status.Status.{Status}

@@ -1,7 +1,7 @@
 //! The commands.
 ghost use Rattle.std.specs.Prelude.{◌≡◌, ◌<◌, ◌⊎◌, IfErr, IfOk};
 ghost use Rattle.clif_check.specs.Faults.{IsAccepted};
-ghost use Rattle.clif_read.specs.SimpleModule.{Reads};
+ghost use Rattle.simple_read.specs.SimpleModule.{Reads};
 ghost use Rattle.ir_text.specs.Text.{text_of};
 ghost use Rattle.clifinl.specs.Runs.{IsFirstFault, IsNotSimple, IsRun, Stopped, Took, count_line, outside};
 
@@ -9,9 +9,9 @@ use crate::reading::{read_input, read_module};
 use crate::status::{Refusal, Status};
 use crate::writing::{write_count, write_text};
 use clif_lex::{Place, TextKind};
-use clif_read::{SimpleErr, read_simple_text};
 use clk_flow::{Sink, Source};
 use ir_core::Module;
+use simple_read::{SimpleErr, read_simple_text};
 use std::alloc::Global;
 use std::mem::forget;
 use std::sync::Wait;

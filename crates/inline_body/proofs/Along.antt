@@ -1,9 +1,13 @@
 -- Numbers in list order.
-use Rattle.std.proofs.Common.{◌≡◌, ℕ, ◌+◌, ◌<◌, List, [], ◌∷◌, length, refl, ap, ◌∙◌, arith, eq-eqb, ne_eqb}
+use Rattle.std.proofs.Common.{◌≡◌, ℕ, suc, ◌+◌, ◌<◌, List, [], ◌∷◌, length, refl, ap, ◌∙◌, arith, eq-eqb, ne_eqb}
 use Rattle.std.specs.Prelude.{if◌then◌else◌}
 use Rattle.ir_core.specs.Lookup.{block_numbers}
 use Rattle.inline_body.specs.Dense.{after_number, numbers_along}
 use Rattle.inline_body.specs.WithBody.{empty_from}
+
+pub along_length : (first n : ℕ) (ks : List ℕ) → length (numbers_along first n ks) ≡ length ks
+along_length first n [] = refl
+along_length first n (k ∷ ks) = ap suc (along_length first (after_number first n) ks)
 
 along : (first m : ℕ) (ks : List ℕ) (block_params : List (List ℕ)) → first < m → length ks ≡ length block_params → numbers_along first m ks ≡ block_numbers (empty_from m block_params)
 along first m [] [] h e = refl

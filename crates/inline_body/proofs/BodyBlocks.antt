@@ -10,16 +10,14 @@ use Rattle.ir_core.specs.Viewed.{line_of}
 use Rattle.ir_core.proofs.Members.{in_left, in_right, in_cases, below_in}
 use Rattle.ir_core.proofs.Splitting.{Split, split, at_block_none, numbers_split, count_join, definitions_join, line_definitions_join}
 use Rattle.inline_body.specs.Opened.{taken, parted, with_more}
+use Rattle.inline_body.proofs.Found.{in_middle}
 use Rattle.inline_body.proofs.SiteBlocks.{taken_at, numbers_join}
+use Rattle.inline_body.proofs.SiteOpening.{cut_list}
 use Rattle.inline_body.specs.declared.blocks.BlockLines.{BlockLines}
 use Rattle.inline_body.specs.Inlined.{blocks_from}
 use Rattle.inline_body.specs.WithBody.{with_body, empty_from, behind, blocks_with_lines, all_of, numbers_of}
 
-in_middle : (P : List Block) (h : Block) (Q : List Block) → In h.number (block_numbers (P ++ (h ∷ Q)))
-in_middle [] h Q = inl refl
-in_middle (b ∷ P) h Q = inr (in_middle P h Q)
-
-other_number : (b : Block) (P : List Block) (h : Block) (Q : List Block) → Different (block_numbers (b ∷ (P ++ (h ∷ Q)))) → b.number ≡ h.number → ⊥
+pub other_number : (b : Block) (P : List Block) (h : Block) (Q : List Block) → Different (block_numbers (b ∷ (P ++ (h ∷ Q)))) → b.number ≡ h.number → ⊥
 other_number b P h Q d e = d.0 (subst (λ z. In z (block_numbers (P ++ (h ∷ Q)))) (sym e) (in_middle P h Q))
 
 -- an edit of a block between others
@@ -41,18 +39,18 @@ parted_two n m rs (b ∷ P) h f Q e off o =
     ap (λ c. if c then record b { lines = [] } ∷ (record { number = m; params = rs; lines = b.lines } ∷ (P ++ (h ∷ (f ∷ Q)))) else b ∷ parted n m rs (P ++ (h ∷ (f ∷ Q)))) (ne_eqb b.number n (λ q. off (inl (sym q))))
     ∙ ap (λ z. b ∷ z) (parted_two n m rs P h f Q e (λ j. off (inr j)) o)
 
-behind_two : (n : ℕ) (more : List Block) (P : List Block) (h f : Block) (Q : List Block) → f.number ≡ n → (In n (block_numbers P) → ⊥) → (h.number ≡ n → ⊥) → behind n more (P ++ (h ∷ (f ∷ Q))) ≡ P ++ (h ∷ (f ∷ (more ++ Q)))
+pub behind_two : (n : ℕ) (more : List Block) (P : List Block) (h f : Block) (Q : List Block) → f.number ≡ n → (In n (block_numbers P) → ⊥) → (h.number ≡ n → ⊥) → behind n more (P ++ (h ∷ (f ∷ Q))) ≡ P ++ (h ∷ (f ∷ (more ++ Q)))
 behind_two n more [] h f Q e off o = ap (λ c. if c then h ∷ (more ++ (f ∷ Q)) else h ∷ behind n more (f ∷ Q)) (ne_eqb h.number n o) ∙ ap (λ c. h ∷ (if c then f ∷ (more ++ Q) else f ∷ behind n more Q)) (eq-eqb f.number n e)
 behind_two n more (b ∷ P) h f Q e off o = ap (λ c. if c then b ∷ (more ++ (P ++ (h ∷ (f ∷ Q)))) else b ∷ behind n more (P ++ (h ∷ (f ∷ Q)))) (ne_eqb b.number n (λ q. off (inl (sym q)))) ∙ ap (λ z. b ∷ z) (behind_two n more P h f Q e (λ j. off (inr j)) o)
 
 -- ---- blocks blocks_with_lines
 
-abbrev empties : List (List ℕ) → List BlockLines → List Block
+abbrev pub empties : List (List ℕ) → List BlockLines → List Block
 empties [] xs = []
 empties (ps ∷ pss) [] = []
 empties (ps ∷ pss) (x ∷ xs) = record { number = x.block; params = ps; lines = [] } ∷ empties pss xs
 
-empties_are : (m : ℕ) (pss : List (List ℕ)) (xs : List BlockLines) → numbers_of xs ≡ block_numbers (empty_from m pss) → empties pss xs ≡ empty_from m pss
+pub empties_are : (m : ℕ) (pss : List (List ℕ)) (xs : List BlockLines) → numbers_of xs ≡ block_numbers (empty_from m pss) → empties pss xs ≡ empty_from m pss
 empties_are m [] xs e = refl
 empties_are m (ps ∷ pss) [] e = absurd (let q = ap length e in omega (arith, q))
 empties_are m (ps ∷ pss) (x ∷ xs) e =
@@ -60,13 +58,13 @@ empties_are m (ps ∷ pss) (x ∷ xs) e =
     let r : numbers_of xs ≡ block_numbers (empty_from (m + 1) pss) = cc in
     ap₂ (λ (k : ℕ) (z : List Block). record { number = k; params = ps; lines = [] } ∷ z) n (empties_are (m + 1) pss xs r)
 
-as_many_numbers : (m : ℕ) (pss : List (List ℕ)) (xs : List BlockLines) → numbers_of xs ≡ block_numbers (empty_from m pss) → length pss ≡ length xs
+pub as_many_numbers : (m : ℕ) (pss : List (List ℕ)) (xs : List BlockLines) → numbers_of xs ≡ block_numbers (empty_from m pss) → length pss ≡ length xs
 as_many_numbers m [] [] e = refl
 as_many_numbers m [] (x ∷ xs) e = absurd (let q = ap length e in omega (arith, q))
 as_many_numbers m (ps ∷ pss) [] e = absurd (let q = ap length e in omega (arith, q))
 as_many_numbers m (ps ∷ pss) (x ∷ xs) e = let r : numbers_of xs ≡ block_numbers (empty_from (m + 1) pss) = cc in ap suc (as_many_numbers (m + 1) pss xs r)
 
-filled_body : (P Q : List Block) (pss : List (List ℕ)) (xs : List BlockLines) → length pss ≡ length xs → Different (block_numbers (P ++ (empties pss xs ++ Q))) → blocks_with_lines xs (P ++ (empties pss xs ++ Q)) ≡ P ++ (blocks_from pss xs ++ Q)
+pub filled_body : (P Q : List Block) (pss : List (List ℕ)) (xs : List BlockLines) → length pss ≡ length xs → Different (block_numbers (P ++ (empties pss xs ++ Q))) → blocks_with_lines xs (P ++ (empties pss xs ++ Q)) ≡ P ++ (blocks_from pss xs ++ Q)
 filled_body P Q [] [] e d = refl
 filled_body P Q [] (x ∷ xs) e d = absurd (omega (arith, e))
 filled_body P Q (ps ∷ pss) [] e d = absurd (omega (arith, e))
@@ -82,11 +80,6 @@ filled_body P Q (ps ∷ pss) (x ∷ xs) e d =
     ∙ append_assoc P (new ∷ []) (blocks_from pss xs ++ Q))
 
 -- ---- the site's blocks with a list of blocks E behind the body's first
-
-cut_list : (ls : List Line) (i : ℕ) (l : Line) → slice_get ls i ≡ Some l → ls ≡ take i ls ++ (l ∷ drop (suc i) ls)
-cut_list [] i l e = cc
-cut_list (x ∷ ls) zero l e = let q : x ≡ l = cc in ap (λ z. z ∷ ls) q
-cut_list (x ∷ ls) (suc i) l e = ap (λ z. x ∷ z) (cut_list ls i l e)
 
 abbrev pub front_of : ℕ → Block → Block
 front_of i h = record h { lines = take i h.lines }

@@ -17,7 +17,7 @@ use Rattle.inline_body.specs.Inlined.{inlined_line, inlined_lines, results_from,
 use Rattle.inline_body.specs.WithBody.{all_of, lines_in, numbers_of}
 use Rattle.inline_body.specs.Results.{is_tail_call, tail_calls, tail_calls_in, starts_along, OneTail}
 
-map_in : (h : ℕ → ℕ) (v : ℕ) (xs : List ℕ) → In v (map h xs) → (u : ℕ) × In u xs × (v ≡ h u)
+pub map_in : (h : ℕ → ℕ) (v : ℕ) (xs : List ℕ) → In v (map h xs) → (u : ℕ) × In u xs × (v ≡ h u)
 map_in h v [] i = elim i [ ]
 map_in h v (x ∷ xs) (inl e) = (x, inl refl, e)
 map_in h v (x ∷ xs) (inr i) = let m = map_in h v xs i in (m.0, inr m.1, m.2)
@@ -31,13 +31,17 @@ from_differ : (k n : ℕ) → Different (from k n)
 from_differ k zero = tt
 from_differ k (suc n) = (λ i. let h = (from_in (suc k) n k i).0 in omega (arith, h), from_differ (suc k) n)
 
-shifted_differ : (base : ℕ) (xs : List ℕ) → Different xs → Different (map (λ v. base + v) xs)
+pub shifted_differ : (base : ℕ) (xs : List ℕ) → Different xs → Different (map (λ v. base + v) xs)
 shifted_differ base [] d = tt
 shifted_differ base (x ∷ xs) d =
     (λ i. let m = map_in (λ v. base + v) (base + x) xs i in let e = m.2 in let q : m.0 ≡ x = omega (arith, e) in d.0 (subst (λ z. In z xs) q m.1), shifted_differ base xs d.1)
 
 pub results_in : (s count v : ℕ) → In v (map (λ i. s + i) (from 0 count)) → (s ≤ v) × (v < s + count)
 results_in s count v i = let m = map_in (λ j. s + j) v (from 0 count) i in let f = (from_in 0 count m.0 m.1).1 in let e = m.2 in (omega (arith, e), omega (arith, e, f))
+
+-- how often a line counts that is of a kind, or is not
+abbrev pub counted : Bool → ℕ
+counted b = if b then 1 else 0
 
 module _ (n : Names) (outer : List Tag) (after : ℕ) where
   abbrev up : ℕ → ℕ
@@ -55,9 +59,6 @@ module _ (n : Names) (outer : List Tag) (after : ℕ) where
   line_defines rs l (Call t args) = inl (refl, inl (append-nil (map up l.results)))
   line_defines rs l (ReturnCall t args) = inr (refl, append-nil rs)
   line_defines rs l (TryCall t sig args normal table) = inl (refl, inl (append-nil (map up l.results)))
-
-  abbrev counted : Bool → ℕ
-  counted b = if b then 1 else 0
 
   abbrev Old : ℕ → List ℕ → Type 0
   Old v ds = (u : ℕ) × In u ds × (v ≡ up u)

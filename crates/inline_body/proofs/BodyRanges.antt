@@ -16,11 +16,11 @@ use Rattle.inline_body.specs.Inlined.{takes_tags, copied_tags, copied_line, jump
 use Rattle.inline_body.specs.Results.{is_tail_call, tail_calls}
 use Rattle.inline_body.proofs.UsesUnder.{values_under, blocks_under, slots_under, callees_under, sigs_under, shown_under}
 
-below_mapped : (h : ℕ → ℕ) (m k : ℕ) → ((v : ℕ) → v < m → h v < k) → (xs : List ℕ) → Below m xs → Below k (map h xs)
+pub below_mapped : (h : ℕ → ℕ) (m k : ℕ) → ((v : ℕ) → v < m → h v < k) → (xs : List ℕ) → Below m xs → Below k (map h xs)
 below_mapped h m k f [] b = tt
 below_mapped h m k f (x ∷ xs) b = (f x b.0, below_mapped h m k f xs b.1)
 
-each_below : (P : ℕ → Type 0) (m : ℕ) → ((v : ℕ) → v < m → P v) → (xs : List ℕ) → Below m xs → Each P xs
+pub each_below : (P : ℕ → Type 0) (m : ℕ) → ((v : ℕ) → v < m → P v) → (xs : List ℕ) → Below m xs → Each P xs
 each_below P m f [] b = tt
 each_below P m f (x ∷ xs) b = (f x b.0, each_below P m f xs b.1)
 
@@ -44,11 +44,11 @@ pub record NamesInRange (n : Names) (G N : Counts) : Type 0 where
 pub jump_in_range : (N : Counts) (b : ℕ) (vs : List ℕ) → b < N.blocks → Below N.values vs → LineInRange N (jump_line b vs)
 jump_in_range N b vs hb hv = record { values = subst (Below N.values) (sym (value_args_used vs)) hv; blocks = (hb, tt); slots = tt; shown = tt; callees = tt; sigs = tt; results = tt }
 
-module _ (n : Names) (G N : Counts) (fit : NamesInRange n G N) (outer : List Tag) (shown : Below N.slots (slots_shown outer)) (after : ℕ) (after_there : after < N.blocks) where
+module _ (n : Names) (G N : Counts) (fit : NamesInRange n G N) (outer : List Tag) (shown : Below N.slots (slots_shown outer)) where
   inner_shown : (ts : List Tag) → Below G.slots (slots_shown ts) → Below N.slots (slots_shown (map (tag_under (names_of n)) ts))
   inner_shown ts h = subst (Below N.slots) (sym (shown_under (names_of n) ts)) (below_mapped (names_of n).slot G.slots N.slots fit.slots (slots_shown ts) h)
 
-  both_shown : (ts : List Tag) → Below G.slots (slots_shown ts) → Below N.slots (slots_shown (outer ++ map (tag_under (names_of n)) ts))
+  pub both_shown : (ts : List Tag) → Below G.slots (slots_shown ts) → Below N.slots (slots_shown (outer ++ map (tag_under (names_of n)) ts))
   both_shown ts h = subst (Below N.slots) (sym (shown_join outer (map (tag_under (names_of n)) ts))) (below_join N.slots (slots_shown outer) (slots_shown (map (tag_under (names_of n)) ts)) shown (inner_shown ts h))
 
   line_with_tags : (l : Line) (ts : List Tag) → Below N.slots (slots_shown ts) → (rs : List ℕ) → Below N.values rs → LineInRange G l → LineInRange N (record { inst = instruction_under (names_of n) l.inst; ty = l.ty; results = rs; tags = ts })
@@ -63,36 +63,38 @@ module _ (n : Names) (G N : Counts) (fit : NamesInRange n G N) (outer : List Tag
         results = hr;
       }
 
-  copied_in_range : (l : Line) → LineInRange G l → LineInRange N (copied_line n outer l)
+  pub copied_in_range : (l : Line) → LineInRange G l → LineInRange N (copied_line n outer l)
   copied_in_range l h = line_with_tags l (copied_tags n outer l.inst l.tags) (go (takes_tags l.inst)) (map (names_of n).value l.results) (below_mapped (names_of n).value G.values N.values fit.values l.results h.results) h
     where
       go : (b : Bool) → Below N.slots (slots_shown (if b then outer ++ map (tag_under (names_of n)) l.tags else map (tag_under (names_of n)) l.tags))
       go true = both_shown l.tags h.shown
       go false = inner_shown l.tags h.shown
 
-  line_in_range : (rs : List ℕ) (l : Line) (i : Instruction) → (is_tail_call i ≡ true → Below N.values rs) → l.inst ≡ i → LineInRange G l → Each (LineInRange N) (inlined_line n outer after rs l i)
-  line_in_range rs l (Plain p) hr e h = (copied_in_range l h, tt)
-  line_in_range rs l (Branches b) hr e h = (copied_in_range l h, tt)
-  line_in_range rs l SequencePoint hr e h = (copied_in_range l h, tt)
-  line_in_range rs l (Return vs) hr e h =
-      let used : Below G.values (vs ++ []) = subst (λ (z : Instruction). Below G.values (values_used z)) e h.values in
-      (jump_in_range N after (map (names_of n).value vs) after_there (below_mapped (names_of n).value G.values N.values fit.values vs (below_left G.values vs [] used)), tt)
-  line_in_range rs l (Call t args) hr e h = (copied_in_range l h, tt)
-  line_in_range rs l (ReturnCall t args) hr e h =
-      let whole = line_with_tags l (outer ++ map (tag_under (names_of n)) l.tags) (both_shown l.tags h.shown) rs (hr refl) h in
-      let z : LineInRange N (record { inst = instruction_under (names_of n) (ReturnCall t args); ty = l.ty; results = rs; tags = outer ++ map (tag_under (names_of n)) l.tags }) = subst (λ (z : Instruction). LineInRange N (record { inst = instruction_under (names_of n) z; ty = l.ty; results = rs; tags = outer ++ map (tag_under (names_of n)) l.tags })) e whole in
-      (record { values = z.values; blocks = z.blocks; slots = z.slots; shown = z.shown; callees = z.callees; sigs = z.sigs; results = z.results }, (jump_in_range N after rs after_there (hr refl), tt))
-  line_in_range rs l (TryCall t sig args normal table) hr e h = (copied_in_range l h, tt)
+  -- the block behind the body, to which it returns
+  module _ (after : ℕ) (after_there : after < N.blocks) where
+    line_in_range : (rs : List ℕ) (l : Line) (i : Instruction) → (is_tail_call i ≡ true → Below N.values rs) → l.inst ≡ i → LineInRange G l → Each (LineInRange N) (inlined_line n outer after rs l i)
+    line_in_range rs l (Plain p) hr e h = (copied_in_range l h, tt)
+    line_in_range rs l (Branches b) hr e h = (copied_in_range l h, tt)
+    line_in_range rs l SequencePoint hr e h = (copied_in_range l h, tt)
+    line_in_range rs l (Return vs) hr e h =
+        let used : Below G.values (vs ++ []) = subst (λ (z : Instruction). Below G.values (values_used z)) e h.values in
+        (jump_in_range N after (map (names_of n).value vs) after_there (below_mapped (names_of n).value G.values N.values fit.values vs (below_left G.values vs [] used)), tt)
+    line_in_range rs l (Call t args) hr e h = (copied_in_range l h, tt)
+    line_in_range rs l (ReturnCall t args) hr e h =
+        let whole = line_with_tags l (outer ++ map (tag_under (names_of n)) l.tags) (both_shown l.tags h.shown) rs (hr refl) h in
+        let z : LineInRange N (record { inst = instruction_under (names_of n) (ReturnCall t args); ty = l.ty; results = rs; tags = outer ++ map (tag_under (names_of n)) l.tags }) = subst (λ (z : Instruction). LineInRange N (record { inst = instruction_under (names_of n) z; ty = l.ty; results = rs; tags = outer ++ map (tag_under (names_of n)) l.tags })) e whole in
+        (record { values = z.values; blocks = z.blocks; slots = z.slots; shown = z.shown; callees = z.callees; sigs = z.sigs; results = z.results }, (jump_in_range N after rs after_there (hr refl), tt))
+    line_in_range rs l (TryCall t sig args normal table) hr e h = (copied_in_range l h, tt)
 
-  lines_in_range : (rs : List ℕ) (ls : List Line) → (0 < tail_calls ls → Below N.values rs) → Each (LineInRange G) ls → Each (LineInRange N) (inlined_lines n outer after rs ls)
-  lines_in_range rs [] hr h = tt
-  lines_in_range rs (l ∷ ls) hr h =
-      each_join (LineInRange N) (inlined_line n outer after rs l l.inst) (inlined_lines n outer after rs ls) (line_in_range rs l l.inst (λ t. hr (let one : Bool → ℕ = λ b. if b then 1 else 0 in let c : one (is_tail_call l.inst) ≡ one true = ap one t in omega (arith, c))) refl h.0) (lines_in_range rs ls (λ k. hr (omega (arith, k))) h.1)
+    lines_in_range : (rs : List ℕ) (ls : List Line) → (0 < tail_calls ls → Below N.values rs) → Each (LineInRange G) ls → Each (LineInRange N) (inlined_lines n outer after rs ls)
+    lines_in_range rs [] hr h = tt
+    lines_in_range rs (l ∷ ls) hr h =
+        each_join (LineInRange N) (inlined_line n outer after rs l l.inst) (inlined_lines n outer after rs ls) (line_in_range rs l l.inst (λ t. hr (let one : Bool → ℕ = λ b. if b then 1 else 0 in let c : one (is_tail_call l.inst) ≡ one true = ap one t in omega (arith, c))) refl h.0) (lines_in_range rs ls (λ k. hr (omega (arith, k))) h.1)
 
-  pub blocks_in_range : (starts : List ℕ) (count : ℕ) → (bs : List Block) → Each (λ b. 0 < tail_calls b.lines → Below N.values (results_from starts count b.number)) bs → Each (BlockInRange G) bs → Each (BlockInRange N) (map (inlined_block n outer after starts count) bs)
-  blocks_in_range starts count [] hr h = tt
-  blocks_in_range starts count (b ∷ bs) hr h =
-      (record { params = below_mapped (names_of n).value G.values N.values fit.values b.params (h.0).params; lines = lines_in_range (results_from starts count b.number) b.lines hr.0 (h.0).lines }, blocks_in_range starts count bs hr.1 h.1)
+    pub blocks_in_range : (starts : List ℕ) (count : ℕ) → (bs : List Block) → Each (λ b. 0 < tail_calls b.lines → Below N.values (results_from starts count b.number)) bs → Each (BlockInRange G) bs → Each (BlockInRange N) (map (inlined_block n outer after starts count) bs)
+    blocks_in_range starts count [] hr h = tt
+    blocks_in_range starts count (b ∷ bs) hr h =
+        (record { params = below_mapped (names_of n).value G.values N.values fit.values b.params (h.0).params; lines = lines_in_range (results_from starts count b.number) b.lines hr.0 (h.0).lines }, blocks_in_range starts count bs hr.1 h.1)
 
 -- what the copies ask of the callee's lines
 pub record NamesReach (n : Names) (G : Counts) : Type 0 where
@@ -103,7 +105,7 @@ pub record NamesReach (n : Names) (G : Counts) : Type 0 where
   pub sigs : length n.sigs ≡ G.sigs
 
 module _ (n : Names) (G : Counts) (reach : NamesReach n G) where
-  value_moves : (v : ℕ) → v < G.values → Moves n.values v
+  pub value_moves : (v : ℕ) → v < G.values → Moves n.values v
   value_moves v h = let r = reach.values in omega (arith, r, h)
 
   slot_moves : (k : ℕ) → k < G.slots → Moves n.slots k
@@ -121,7 +123,7 @@ module _ (n : Names) (G : Counts) (reach : NamesReach n G) where
         results = each_below (Moves n.values) G.values value_moves l.results h.results;
       }
 
-  lines_reached : (ls : List Line) → Each (LineInRange G) ls → Each (Reached n) ls
+  pub lines_reached : (ls : List Line) → Each (LineInRange G) ls → Each (Reached n) ls
   lines_reached [] h = tt
   lines_reached (l ∷ ls) h = (line_reached l h.0, lines_reached ls h.1)
 

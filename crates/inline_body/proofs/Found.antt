@@ -1,7 +1,7 @@
 -- Blocks by their numbers, and blocks from two lists.
 use Rattle.std.proofs.Common.{◌≡◌, ℕ, List, [], ◌∷◌, ◌++◌, map, length, refl, sym, ap, ap₂, ◌∙◌, subst, arith, eq-eqb, ne_eqb, append_assoc, inl, inr}
 use Rattle.std.specs.Prelude.{if◌then◌else◌}
-use Rattle.ir_core.specs.Module.{Block}
+use Rattle.ir_core.specs.Module.{Block, Line}
 use Rattle.ir_core.specs.Lookup.{block_numbers}
 use Rattle.ir_core.specs.Lists.{In, Different}
 use Rattle.ir_core.specs.Edits.{params_of, lines_of}
@@ -9,17 +9,23 @@ use Rattle.ir_core.specs.Viewed.{line_of}
 use Rattle.inline_body.specs.declared.blocks.BlockLines.{BlockLines}
 use Rattle.inline_body.specs.Inlined.{block_at, blocks_from}
 
-found_at : (bs : List Block) (b : Block) → Different (block_numbers bs) → (pre post : List Block) → bs ≡ pre ++ (b ∷ post) → block_at bs b.number ≡ b
+-- a block by its parts
+pub block_is : (n n' : ℕ) (ps ps' : List ℕ) (ls ls' : List Line) → n ≡ n' → ps ≡ ps' → ls ≡ ls'
+    → (let b : Block = record { number = n; params = ps; lines = ls } in b)
+    ≡ record { number = n'; params = ps'; lines = ls' }
+block_is n n' ps ps' ls ls' e g h = cc
+
+pub in_middle : (P : List Block) (h : Block) (Q : List Block) → In h.number (block_numbers (P ++ (h ∷ Q)))
+in_middle [] h Q = inl refl
+in_middle (b ∷ P) h Q = inr (in_middle P h Q)
+
+pub found_at : (bs : List Block) (b : Block) → Different (block_numbers bs) → (pre post : List Block) → bs ≡ pre ++ (b ∷ post) → block_at bs b.number ≡ b
 found_at bs b d pre post e = ap (λ z. block_at z b.number) e ∙ go pre (subst (λ z. Different (block_numbers z)) e d)
   where
-    in_behind : (pre : List Block) → In b.number (block_numbers (pre ++ (b ∷ post)))
-    in_behind [] = inl refl
-    in_behind (x ∷ pre) = inr (in_behind pre)
-
     go : (pre : List Block) → Different (block_numbers (pre ++ (b ∷ post))) → block_at (pre ++ (b ∷ post)) b.number ≡ b
     go [] d = ap₂ (λ p q. record { number = b.number; params = p; lines = q }) (ap (λ c. if c then b.params else params_of b.number post) (eq-eqb b.number b.number refl)) (ap (λ c. if c then b.lines else lines_of b.number post) (eq-eqb b.number b.number refl))
     go (x ∷ pre) d =
-        let other : x.number ≡ b.number → ⊥ = λ q. d.0 (subst (λ z. In z (block_numbers (pre ++ (b ∷ post)))) (sym q) (in_behind pre)) in
+        let other : x.number ≡ b.number → ⊥ = λ q. d.0 (subst (λ z. In z (block_numbers (pre ++ (b ∷ post)))) (sym q) (in_middle pre b post)) in
         ap₂ (λ p q. record { number = b.number; params = p; lines = q }) (ap (λ c. if c then x.params else params_of b.number (pre ++ (b ∷ post))) (ne_eqb x.number b.number other)) (ap (λ c. if c then x.lines else lines_of b.number (pre ++ (b ∷ post))) (ne_eqb x.number b.number other))
         ∙ go pre d.1
 

@@ -10,9 +10,11 @@ pub mod SameNames
 pub mod SiteBlocks
 pub mod SiteOpening
 pub mod Spliced
+pub mod SplicedBlocks
 pub mod Steps
-pub mod TableWritten
 pub mod WithinBody
+pub mod CalleeLines
+pub mod Pushed
 pub mod ResultTypes
 pub mod UsesUnder
 pub mod BodyRanges

@@ -77,7 +77,7 @@ module _ (f g : Function) (at : Point) (sf : IsSound f) (sg : IsSound g) (can : 
       → (q : PreparedBody) → q.slots ≡ g.slots → q.sigs ≡ i.sigs.added → q.callees ≡ i.callees.added → q.types ≡ map (λ (t : ℕ × Ty). t.1) g.types ++ repeated tails us
       → (vs : List ℕ) → vs ≡ args_of l.inst → line_of q.jump ≡ jump_line kb vs → q.results ≡ rs
       → (pss : List (List ℕ)) → q.first ∷ q.block_params ≡ pss → blocks_from pss q.block_lines ≡ map (inlined_block n l.tags ab starts (length rs)) g.blocks → length pss ≡ length q.block_lines
-      → IsPrepared f g at q
+      → IsPrepared f g at i q
   body_prepared k kb ab count kb_is ab_is numbers sig_count callee_count ts us typed us_is tails tails_is q q_slots q_sigs q_callees q_types vs vs_is jump q_results pss params body as_many =
       let made : IsMade f g l i n starts ts q = record {
         values = values;
@@ -104,8 +104,8 @@ module _ (f g : Function) (at : Point) (sf : IsSound f) (sg : IsSound g) (can : 
 
 -- ---- the splice
 
-pub is_splice : (f g h k : Function) (at : Point) (q : PreparedBody) → IsPrepared f g at q → h ≡ f → ((p : Splicing) → IsBodyOf p h at q → k ≡ spliced p) → IsSplice f g at k
-is_splice f g h k at q made same put =
+pub is_splice : (f g h k : Function) (at : Point) (i : Import) (q : PreparedBody) → IsPrepared f g at i q → h ≡ f → ((p : Splicing) → IsBodyOf p h at q → k ≡ spliced p) → IsSplice f g at k
+is_splice f g h k at i q made same put =
     record {
       naming = made.naming;
       keeps = made.keeps;

@@ -1,14 +1,14 @@
 -- Lines put at a block's end, one after another.
-use Rattle.std.proofs.Common.{◌≡◌, ℕ, suc, ◌+◌, ◌<◌, ◌^◌, ◌-◌, ◌⊎◌, inl, inr, List, [], ◌∷◌, ◌++◌, length, Bool, true, false, refl, sym, ap, ap₂, ◌∙◌, subst, arith, append_assoc, append-nil}
+use Rattle.std.proofs.Common.{◌≡◌, ℕ, ◌+◌, ◌<◌, ◌^◌, ◌-◌, inl, inr, List, [], ◌∷◌, ◌++◌, length, Bool, true, false, refl, sym, ap, ap₂, ◌∙◌, subst, arith, append_assoc, append-nil}
 use Rattle.std.specs.Prelude.{if◌then◌else◌, nat_eq}
 use Rattle.ir_core.specs.Module.{Block, Line, Function}
 use Rattle.ir_core.specs.Lookup.{block_numbers, definitions, line_definitions}
 use Rattle.ir_core.specs.Lists.{In, Different, Each}
 use Rattle.ir_core.specs.Sound.{LineInRange, counts_of, instruction_count}
 use Rattle.ir_core.specs.Edits.{at_block, put_line}
-use Rattle.ir_core.proofs.Members.{in_left, in_right, in_cases, different_right, different_apart, different_left}
-use Rattle.ir_core.proofs.Splitting.{split, Split, line_definitions_join, count_split}
+use Rattle.ir_core.proofs.Members.{in_left, in_right, different_right, different_apart, different_left}
 use Rattle.inline_body.specs.Opened.{with_more}
+use Rattle.inline_body.proofs.Fills.{numbers_still, as_many, defined_now, counted}
 
 -- ---- what a line put does to blocks
 
@@ -27,53 +27,6 @@ at_none a (b ∷ bs) = ap₂ (λ (x : Block) xs. x ∷ xs) (go (nat_eq b.number 
     go : (c : Bool) → (if c then with_more [] b else b) ≡ b
     go true = ap (λ z. record b { lines = z }) (append-nil b.lines)
     go false = refl
-
-pub numbers_still : (a : ℕ) (l : Line) (bs : List Block) → block_numbers (at_block a (put_line l) bs) ≡ block_numbers bs
-numbers_still a l [] = refl
-numbers_still a l (b ∷ bs) = ap₂ (λ (x : ℕ) (xs : List ℕ). x ∷ xs) (go (nat_eq b.number a)) (numbers_still a l bs)
-  where
-    go : (c : Bool) → (if c then put_line l b else b).number ≡ b.number
-    go true = refl
-    go false = refl
-
-as_many : (a : ℕ) (l : Line) (bs : List Block) → length (at_block a (put_line l) bs) ≡ length bs
-as_many a l [] = refl
-as_many a l (b ∷ bs) = ap suc (as_many a l bs)
-
-defined_now : (a : ℕ) (l : Line) (bs : List Block) (v : ℕ) → In v (definitions (at_block a (put_line l) bs)) → In v l.results ⊎ In v (definitions bs)
-defined_now a l [] v i = elim i [ ]
-defined_now a l (b ∷ bs) v i = go (nat_eq b.number a) i (λ j. defined_now a l bs v j)
-  where
-    behind : (In v (definitions (at_block a (put_line l) bs)) → In v l.results ⊎ In v (definitions bs)) → In v (definitions (at_block a (put_line l) bs)) → In v l.results ⊎ In v (definitions (b ∷ bs))
-    behind ih j = elim (ih j) [ inl u ↦ inl u | inr u ↦ inr (in_right v b.params _ (in_right v (line_definitions b.lines) (definitions bs) u)) ]
-
-    go : (c : Bool) → In v (definitions ((if c then put_line l b else b) ∷ at_block a (put_line l) bs)) → (In v (definitions (at_block a (put_line l) bs)) → In v l.results ⊎ In v (definitions bs)) → In v l.results ⊎ In v (definitions (b ∷ bs))
-    go false j ih = elim (in_cases v b.params _ j) [
-      | inl u ↦ inr (in_left v b.params _ u)
-      | inr u ↦ elim (in_cases v (line_definitions b.lines) _ u) [ inl w ↦ inr (in_right v b.params _ (in_left v (line_definitions b.lines) (definitions bs) w)) | inr w ↦ behind ih w ]
-    ]
-    go true j ih = elim (in_cases v b.params _ j) [
-      | inl u ↦ inr (in_left v b.params _ u)
-      | inr u ↦ elim (in_cases v (line_definitions (b.lines ++ (l ∷ []))) _ u) [
-        | inl w ↦ elim (in_cases v (line_definitions b.lines) (l.results ++ []) (subst (In v) (line_definitions_join b.lines (l ∷ [])) w)) [
-          | inl x ↦ inr (in_right v b.params _ (in_left v (line_definitions b.lines) (definitions bs) x))
-          | inr x ↦ inl (subst (In v) (append-nil l.results) x)
-        ]
-        | inr w ↦ behind ih w
-      ]
-    ]
-
-one_line : (a : ℕ) (l : Line) (bs : List Block) → In a (block_numbers bs) → Different (block_numbers bs) → instruction_count (at_block a (put_line l) bs) ≡ instruction_count bs + 1
-one_line a l bs i d =
-    let s : Split a bs = split a bs i d in
-    let now = ap instruction_count (s.at (put_line l)) ∙ count_split s.before s.behind (put_line l s.here) in
-    let was = ap instruction_count s.is ∙ count_split s.before s.behind s.here in
-    let one = length_one s.here.lines l in
-    omega (arith, now, was, one)
-  where
-    length_one : (xs : List Line) (x : Line) → length (xs ++ (x ∷ [])) ≡ length xs + 1
-    length_one [] x = refl
-    length_one (y ∷ xs) x = omega (arith, length_one xs x)
 
 -- ---- the loop: f0 was there at first, f is there now; of the lines `all` those of `rest` are left
 
@@ -114,18 +67,18 @@ module _ (a : ℕ) (f0 f : Function) (all rest : List Line) (l : Line) (p : Putt
   pub put_step : (f' : Function) → f' ≡ record f { blocks = at_block a (put_line l) f.blocks } → Putting a f0 f' all rest
   put_step f' e =
       let blocks : f'.blocks ≡ at_block a (put_line l) f.blocks = ap (λ (z : Function). z.blocks) e in
-      let one : instruction_count f'.blocks ≡ instruction_count f.blocks + 1 = ap instruction_count blocks ∙ one_line a l f.blocks line_there (subst Different (sym p.numbers) p.differ) in
+      let one : instruction_count f'.blocks ≡ instruction_count f.blocks + 1 = ap instruction_count blocks ∙ counted a (l ∷ []) f.blocks line_there (subst Different (sym p.numbers) p.differ) in
       record {
         left = ap (at_block a (with_more rest)) blocks ∙ (at_twice a l rest f.blocks ∙ p.left);
         others = e ∙ (ap (λ (z : Function). record z { blocks = at_block a (put_line l) f.blocks }) p.others ∙ ap (λ bs. record f0 { blocks = bs }) (sym blocks));
-        numbers = ap block_numbers blocks ∙ (numbers_still a l f.blocks ∙ p.numbers);
-        many = ap length blocks ∙ (as_many a l f.blocks ∙ p.many);
+        numbers = ap block_numbers blocks ∙ (numbers_still a (l ∷ []) f.blocks ∙ p.numbers);
+        many = ap length blocks ∙ (as_many a (l ∷ []) f.blocks ∙ p.many);
         there = p.there;
         differ = p.differ;
         range = p.range.1;
         different = different_right l.results (line_definitions rest) p.different;
-        undefined = λ v i j. elim (defined_now a l f.blocks v (subst (λ z. In v (definitions z)) blocks j)) [
-          | inl u ↦ different_apart l.results (line_definitions rest) v p.different u i
+        undefined = λ v i j. elim (defined_now a (l ∷ []) f.blocks v (subst (λ z. In v (definitions z)) blocks j)) [
+          | inl u ↦ different_apart l.results (line_definitions rest) v p.different (subst (In v) (append-nil l.results) u) i
           | inr u ↦ p.undefined v (in_right v l.results (line_definitions rest) i) u
         ];
         few = omega (arith, p.few, one);

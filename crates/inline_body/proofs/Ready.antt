@@ -37,11 +37,11 @@ use Rattle.inline_body.proofs.Along.{fits}
 use Rattle.inline_body.proofs.WithinBody.{body_is}
 use Rattle.inline_body.proofs.ResultTypes.{repeated_length, enumerate_join, types_moved, blocks_typed}
 use Rattle.inline_body.proofs.BodyRanges.{NamesInRange, NamesReach, blocks_in_range, blocks_reached, jump_in_range, value_args_used}
-use Rattle.inline_body.proofs.BodyDefinitions.{blocks_members, blocks_differ, blocks_count, params_there, lines_there, params_differ, own_lines_differ, lines_apart, lines_ranged, params_ranged, lines_counted, numbers_listed, blocks_listed}
+use Rattle.inline_body.proofs.BodyDefinitions.{map_in, blocks_members, blocks_differ, blocks_count, params_there, lines_there, params_differ, own_lines_differ, lines_apart, lines_ranged, params_ranged, lines_counted, numbers_listed, blocks_listed}
 
 -- ---- lists
 
-below_at : (xs : List ℕ) (k d m : ℕ) → Below m xs → k < length xs → get_or xs k d < m
+pub below_at : (xs : List ℕ) (k d m : ℕ) → Below m xs → k < length xs → get_or xs k d < m
 below_at [] k d m b h = absurd (omega (arith, h))
 below_at (x ∷ xs) zero d m b h = b.0
 below_at (x ∷ xs) (suc k) d m b h = below_at xs k d m b.1 (omega (arith, h))
@@ -51,9 +51,41 @@ at_key h m [] b k i = elim i [ ]
 at_key h m (j ∷ ks) b k (inl e) = subst (λ (z : ℕ). h z < m) (sym e) b.0
 at_key h m (j ∷ ks) b k (inr i) = at_key h m ks b.1 k i
 
-same_list : (vs : List ℕ) → map (λ v. v) vs ≡ vs
+pub same_list : (vs : List ℕ) → map (λ v. v) vs ≡ vs
 same_list [] = refl
 same_list (v ∷ vs) = ap (λ z. v ∷ z) (same_list vs)
+
+-- the table has numbers below m for the callee's blocks
+pub named_below : (n : Names) (g : Function) (sg : IsSound g) (m : ℕ)
+    → Below m (map (λ k. get_or n.blocks k 0) (block_numbers g.blocks)) → (b : ℕ) → b < length g.blocks
+    → get_or n.blocks b 0 < m
+named_below n g sg m h b l =
+    at_key (λ k. get_or n.blocks k 0) m (block_numbers g.blocks) h b
+    (all_in (length g.blocks) (block_numbers g.blocks) sg.blocks_differ sg.block_range
+    (length-map g.blocks (λ (b : Block). b.number)) b l)
+
+-- there are numbers for all that is the callee's
+pub names_reach : (f g : Function) (i : Import) (imp : IsImportOf f g i) (n : Names) → n.values ≡ length f.types
+    → n.slots ≡ length f.slots → length n.blocks ≡ length g.blocks → n.sigs ≡ i.sigs.table
+    → n.callees ≡ i.callees.table → length f.types + length g.types < 2 ^ 32
+    → length f.slots + length g.slots < 2 ^ 32 → NamesReach n (counts_of g)
+names_reach f g i imp n values slots blocks sigs callees few_values few_slots =
+    record {
+      values = omega (arith, few_values, values);
+      slots = omega (arith, few_slots, slots);
+      blocks = blocks;
+      callees = ap length callees ∙ imp.callee_table;
+      sigs = ap length sigs ∙ imp.sig_table;
+    }
+
+-- the callee's values under their numbers are not the caller's
+pub moved_undefined : (f g : Function) (sf : IsSound f) (n : Names) → n.values ≡ length f.types → (v : ℕ)
+    → In v (map (λ u. n.values + u) (definitions g.blocks)) → In v (definitions f.blocks) → ⊥
+moved_undefined f g sf n values v j k =
+    let low = below_in (length f.types) (definitions f.blocks) v (definitions_below (counts_of f) f.blocks sf.blocks) k in
+    let old = map_in (λ u. n.values + u) v (definitions g.blocks) j in
+    let e = old.2 in
+    omega (arith, low, e, values)
 
 along_above : (first m k : ℕ) (ks : List ℕ) → first < m → m + length ks ≤ k → Below k (numbers_along first m ks)
 along_above first m k [] h l = tt
@@ -75,7 +107,7 @@ inlined_numbers : (n : Names) (outer : List Tag) (after : ℕ) (starts : List �
 inlined_numbers n outer after starts count [] = refl
 inlined_numbers n outer after starts count (b ∷ bs) = ap (λ z. get_or n.blocks b.number 0 ∷ z) (inlined_numbers n outer after starts count bs)
 
-numbers_below : (bs : List Block) (m : ℕ) → Below m (block_numbers bs) → Each (λ (b : Block). b.number < m) bs
+pub numbers_below : (bs : List Block) (m : ℕ) → Below m (block_numbers bs) → Each (λ (b : Block). b.number < m) bs
 numbers_below [] m h = tt
 numbers_below (b ∷ bs) m h = (h.0, numbers_below bs m h.1)
 
@@ -102,7 +134,7 @@ starts_range starts count M [] h = tt
 starts_range starts count M (b ∷ bs) h = (λ t. from_below (get_or starts b.number 0) 0 count M (let a = (h.0).1 t in omega (arith, a)), starts_range starts count M bs h.1)
 
 -- the line at a place is in range
-line_at : (N : Counts) (a i : ℕ) (l : Line) (bs : List Block) → Each (BlockInRange N) bs → slice_get (lines_of a bs) i ≡ Some l → LineInRange N l
+pub line_at : (N : Counts) (a i : ℕ) (l : Line) (bs : List Block) → Each (BlockInRange N) bs → slice_get (lines_of a bs) i ≡ Some l → LineInRange N l
 line_at N a i l [] h e = cc
 line_at N a i l (b ∷ bs) h e = go (nat_eq b.number a) e (λ q. line_at N a i l bs h.1 q)
   where
@@ -180,7 +212,7 @@ module _ (f g : Function) (at : Point) (sf : IsSound f) (sg : IsSound g) (can : 
     reached =
         let fv = can.few_values in
         let fs = can.few_slots in
-        let reach : NamesReach n (counts_of g) = record { values = omega (arith, fv, values); slots = omega (arith, fs, slots); blocks = blocks; callees = ap length callees ∙ imp.callee_table; sigs = ap length sigs ∙ imp.sig_table } in
+        let reach = names_reach f g i imp n values slots blocks sigs callees (omega (arith, fv)) (omega (arith, fs)) in
         blocks_reached n (counts_of g) reach starts (length can.line.results) long g.blocks sg.blocks (numbers_below g.blocks (length g.blocks) sg.block_range)
         (starts_fit starts (length can.line.results) (length f.types + length g.types + length can.line.results * tail_calls_in g.blocks) g.blocks (omega (arith, fv)) ends)
 
@@ -219,7 +251,7 @@ module _ (f g : Function) (at : Point) (sf : IsSound f) (sg : IsSound g) (can : 
     in_range =
         record {
           values = λ v h. let a = all_types in let e = made.values in omega (arith, a, e, h);
-          blocks = λ b h. at_key (λ k. get_or n.blocks k 0) N.blocks (block_numbers g.blocks) (subst (Below N.blocks) (sym made.numbers) (along_below (length f.blocks) N.blocks (block_numbers g.blocks) (let k = length-map g.blocks (λ (b : Block). b.number) in let e = heads in omega (arith, k, e)))) b (all_in (length g.blocks) (block_numbers g.blocks) sg.blocks_differ sg.block_range (length-map g.blocks (λ (b : Block). b.number)) b h);
+          blocks = named_below n g sg N.blocks (subst (Below N.blocks) (sym made.numbers) (along_below (length f.blocks) N.blocks (block_numbers g.blocks) (let k = length-map g.blocks (λ (b : Block). b.number) in let e = heads in omega (arith, k, e))));
           slots = λ k h. let a = length-append f.slots q.slots in let b = ap length made.piece_slots in let e = made.slots in omega (arith, a, b, e, h);
           sigs = λ k h. let a = length-append f.sigs q.sigs in let b = ap length made.piece_sigs in let r = below_at i.sigs.table k n.sig_count (length f.sigs + length i.sigs.added) imp.sigs_below (let s = imp.sig_table in omega (arith, s, h)) in let e = ap (λ (z : List ℕ). get_or z k n.sig_count) made.sigs in omega (arith, a, b, r, e);
           callees = λ k h. let a = length-append f.callees q.callees in let b = ap length made.piece_callees in let r = below_at i.callees.table k n.callee_count (length f.callees + length i.callees.added) imp.callees_below (let s = imp.callee_table in omega (arith, s, h)) in let e = ap (λ (z : List ℕ). get_or z k n.callee_count) made.callees in omega (arith, a, b, r, e);
@@ -341,8 +373,8 @@ module _ (f g : Function) (at : Point) (sf : IsSound f) (sg : IsSound g) (can : 
           results = sym made.results;
         }
 
-    pub prepared : IsPrepared f g at q
-    prepared = record { ready = ready; line = can.line; found = can.found; naming = naming; keeps = record { caller_value = λ v. refl; caller_block = λ b. refl; after = refl }; is_body = is_body }
+    pub prepared : IsPrepared f g at i q
+    prepared = record { ready = ready; line = can.line; found = can.found; naming = naming; keeps = record { caller_value = λ v. refl; caller_block = λ b. refl; after = refl }; is_body = is_body; sigs = made.piece_sigs; callees = made.piece_callees }
 
 -- ---- the splice by its place
 

@@ -9,6 +9,7 @@ use Rattle.ir_core.proofs.Splitting.{Split, split, at_block_none}
 use Rattle.ir_core.proofs.Taking.{without_last, left_function}
 use Rattle.ir_core.proofs.Members.{different_apart, different_right}
 use Rattle.inline_body.specs.Opened.{taken, parted}
+use Rattle.inline_body.proofs.Fills.{numbers_still}
 
 -- ---- a block between others
 
@@ -73,14 +74,6 @@ end_of_cut (suc i) (x ∷ (w ∷ ls)) [] l h e = cc
 end_of_cut (suc i) (x ∷ (w ∷ ls)) (y ∷ ms) l h e = let q : i < length (w ∷ ls) = omega (arith, h) in let r : take (suc i) (w ∷ ls) ≡ ms ++ (l ∷ []) = cc in end_of_cut i (w ∷ ls) ms l q r
 
 -- ---- the blocks, split at a
-
-numbers_put : (a : ℕ) (l : Line) (bs : List Block) → block_numbers (at_block a (put_line l) bs) ≡ block_numbers bs
-numbers_put a l [] = refl
-numbers_put a l (b ∷ bs) = ap₂ (λ (x : ℕ) (xs : List ℕ). x ∷ xs) (go (nat_eq b.number a)) (numbers_put a l bs)
-  where
-    go : (c : Bool) → (if c then put_line l b else b).number ≡ b.number
-    go true = refl
-    go false = refl
 
 lines_put : (a : ℕ) (l : Line) (bs : List Block) → In a (block_numbers bs) → lines_of a (at_block a (put_line l) bs) ≡ lines_of a bs ++ (l ∷ [])
 lines_put a l [] i = elim i [ ]
@@ -186,7 +179,7 @@ module _ (a n : ℕ) (ps : List ℕ) (bs : List Block) (there : In a (block_numb
 
   pub call_is : (i : ℕ) (l : Line) (zs : List Block) → i < length (lines_of a bs) → cut_at a n (suc i) (insert_after a new bs) ≡ at_block a (put_line l) zs → slice_get (lines_of a bs) i ≡ Some l
   call_is i l zs h e =
-      let numbers : block_numbers zs ≡ block_numbers (cut_at a n (suc i) (insert_after a new bs)) = sym (numbers_put a l zs) ∙ ap block_numbers (sym e) in
+      let numbers : block_numbers zs ≡ block_numbers (cut_at a n (suc i) (insert_after a new bs)) = sym (numbers_still a (l ∷ []) zs) ∙ ap block_numbers (sym e) in
       let there_still : In a (block_numbers zs) = subst (In a) (sym numbers) (cut_there (suc i)) in
       end_of_cut i (lines_of a bs) (lines_of a zs) l h (sym (cut_lines (suc i)) ∙ (ap (lines_of a) e ∙ lines_put a l zs there_still))
 

@@ -1,5 +1,6 @@
 -- What an instruction uses, under other numbers.
 use Rattle.std.proofs.Common.{◌≡◌, ℕ, List, [], ◌∷◌, ◌++◌, map, refl, sym, ap, ap₂, ◌∙◌}
+use Rattle.std.proofs.lemmas.List.{map-append}
 use Rattle.exn_tables.specs.declared.table.Entry.{Entry}
 use Rattle.debug_tags.specs.declared.tags.Tag.{Tag}
 use Rattle.debug_tags.specs.declared.tags.Tag.TheVariants as tag
@@ -10,10 +11,6 @@ use Rattle.ir_core.specs.Module.{Simple, Nop, Const, Pure, PureImm, Load, Store,
 use Rattle.ir_core.specs.Uses.{targets, table_targets, arg_values_used, targets_used, simple_used, branch_used, called_used, operands, values_used, simple_slots, slots_used, slots_shown, simple_callees, called_callees, callees_used, called_sigs, sigs_used, blocks_used}
 use Rattle.ir_semantics.specs.Renaming.{Renaming, arg_under, target_under, tag_under, entry_under, simple_under, branch_under, called_under, try_target_under, instruction_under}
 
-map_join : (f : ℕ → ℕ) (xs ys : List ℕ) → map f (xs ++ ys) ≡ map f xs ++ map f ys
-map_join f [] ys = refl
-map_join f (x ∷ xs) ys = ap (λ z. f x ∷ z) (map_join f xs ys)
-
 module _ (r : Renaming) where
   args_under : (as' : List Arg) → arg_values_used (map (arg_under r) as') ≡ map r.value (arg_values_used as')
   args_under [] = refl
@@ -23,7 +20,7 @@ module _ (r : Renaming) where
 
   targets_values : (ts : List BlockCall) → targets_used (map (target_under r) ts) ≡ map r.value (targets_used ts)
   targets_values [] = refl
-  targets_values (t ∷ ts) = ap₂ (λ x y. x ++ y) (args_under t.args) (targets_values ts) ∙ sym (map_join r.value (arg_values_used t.args) (targets_used ts))
+  targets_values (t ∷ ts) = ap₂ (λ x y. x ++ y) (args_under t.args) (targets_values ts) ∙ sym (map-append r.value (arg_values_used t.args) (targets_used ts))
 
   targets_blocks : (ts : List BlockCall) → map (λ t. t.block) (map (target_under r) ts) ≡ map r.block (map (λ t. t.block) ts)
   targets_blocks [] = refl
@@ -67,7 +64,7 @@ module _ (r : Renaming) where
   try_values (TryIndirect a) s s' = refl
 
   with_args : (x y args : List ℕ) → x ≡ map r.value y → x ++ map r.value args ≡ map r.value (y ++ args)
-  with_args x y args e = ap (λ z. z ++ map r.value args) e ∙ sym (map_join r.value y args)
+  with_args x y args e = ap (λ z. z ++ map r.value args) e ∙ sym (map-append r.value y args)
 
   operands_under : (i : Instruction) → operands (instruction_under r i) ≡ map r.value (operands i)
   operands_under (Plain p) = simple_values p
@@ -82,7 +79,7 @@ module _ (r : Renaming) where
 
   pub values_under : (i : Instruction) → values_used (instruction_under r i) ≡ map r.value (values_used i)
   values_under i =
-      ap₂ (λ x y. x ++ y) (operands_under i) (ap targets_used (targets_under i) ∙ targets_values (targets i)) ∙ sym (map_join r.value (operands i) (targets_used (targets i)))
+      ap₂ (λ x y. x ++ y) (operands_under i) (ap targets_used (targets_under i) ∙ targets_values (targets i)) ∙ sym (map-append r.value (operands i) (targets_used (targets i)))
 
   pub blocks_under : (i : Instruction) → blocks_used (instruction_under r i) ≡ map r.block (blocks_used i)
   blocks_under i = ap (map (λ (t : BlockCall). t.block)) (targets_under i) ∙ targets_blocks (targets i)

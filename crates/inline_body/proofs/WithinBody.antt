@@ -1,52 +1,22 @@
 -- The body at a plain call, line by line.
 use Rattle.std.proofs.Common.{◌≡◌, ℕ, suc, ◌+◌, List, [], ◌∷◌, ◌++◌, map, length, get_or, refl, ap, ap₂, ◌∙◌}
-use Rattle.std.specs.Prelude.{if◌then◌else◌}
 use Rattle.debug_tags.specs.declared.tags.Tag.{Tag}
-use Rattle.debug_tags.specs.declared.tags.Tag.TheVariants as tag
 use Rattle.ir_core.specs.Module.{Instruction, CallTarget, Plain, Branches, SequencePoint, Return, Call, ReturnCall, TryCall, Line, Block}
-use Rattle.ir_semantics.specs.Renaming.{tag_under, called_under, instruction_under}
-use Rattle.ir_semantics.specs.Splice.{Splicing, Kind, caller_names, callee_names, tags_before, joined_tags, callee_line, line_with, to_after, new_results, from, within_fragment, Fragment, fragment_by, fragment, body}
+use Rattle.ir_semantics.specs.Renaming.{called_under}
+use Rattle.ir_semantics.specs.Splice.{Splicing, Kind, callee_names, joined_tags, line_with, to_after, new_results, from, within_fragment, Fragment, fragment_by, fragment, body}
 use Rattle.inline_body.specs.declared.names.Names.{Names}
 use Rattle.inline_body.specs.Named.{names_of}
-use Rattle.inline_body.specs.Inlined.{takes_tags, copied_tags, copied_line, jump_line, call_in_place, inlined_line, inlined_lines, results_from, inlined_block}
+use Rattle.inline_body.specs.Inlined.{jump_line, call_in_place, inlined_line, inlined_lines, results_from, inlined_block}
 use Rattle.inline_body.specs.Within.{Numbers}
-use Rattle.inline_body.proofs.SameNames.{values_same, tags_same, called_same, instruction_same}
-
-pub outer_kept : (p : Splicing) (ts : List Tag) → map (tag_under (caller_names p)) ts ≡ ts
-outer_kept p [] = refl
-outer_kept p (tag.User n ∷ ts) = ap (λ (xs : List Tag). tag.User n ∷ xs) (outer_kept p ts)
-outer_kept p (tag.Slot k ∷ ts) = ap (λ (xs : List Tag). tag.Slot k ∷ xs) (outer_kept p ts)
-
-pub tags_are : (i : Instruction) (outer inner : List Tag) → tags_before i outer inner ≡ (if takes_tags i then outer ++ inner else inner)
-tags_are (Plain x) outer inner = refl
-tags_are (Branches x) outer inner = refl
-tags_are SequencePoint outer inner = refl
-tags_are (Return x) outer inner = refl
-tags_are (Call x y) outer inner = refl
-tags_are (ReturnCall x y) outer inner = refl
-tags_are (TryCall x y z u v) outer inner = refl
+use Rattle.inline_body.proofs.CalleeLines.{IsNumbering, values_are, called_are, joined_are, line_is}
 
 mapped_same : (f g : ℕ → ℕ) → ((i : ℕ) → f i ≡ g i) → (xs : List ℕ) → map f xs ≡ map g xs
 mapped_same f g h [] = refl
 mapped_same f g h (x ∷ xs) = ap₂ (λ (y : ℕ) (ys : List ℕ). y ∷ ys) (h x) (mapped_same f g h xs)
 
 module _ (p : Splicing) (n : Names) (starts : List ℕ) (is : Numbers p n starts) where
-  slot_is : (k : ℕ) → (callee_names p).slot k ≡ (names_of n).slot k
-  slot_is k = ap (λ (z : ℕ). z + k) is.slots
-
-  values_are : (vs : List ℕ) → map p.naming.callee_value vs ≡ map (names_of n).value vs
-  values_are vs = values_same (callee_names p) (names_of n) is.value is.block slot_is is.sig is.callee vs
-
-  inner_are : (ts : List Tag) → map (tag_under (callee_names p)) ts ≡ map (tag_under (names_of n)) ts
-  inner_are ts = tags_same (callee_names p) (names_of n) is.value is.block slot_is is.sig is.callee ts
-
-  joined_are : (i : Instruction) (ts : List Tag) → joined_tags p i ts ≡ copied_tags n p.site.tags i ts
-  joined_are i ts = ap₂ (λ (x y : List Tag). tags_before i x y) (outer_kept p p.site.tags) (inner_are ts) ∙ tags_are i p.site.tags (map (tag_under (names_of n)) ts)
-
-  line_is : (l : Line) → callee_line p l ≡ copied_line n p.site.tags l
-  line_is l =
-      ap (λ (i : Instruction). record { inst = i; ty = l.ty; results = map p.naming.callee_value l.results; tags = joined_tags p l.inst l.tags }) (instruction_same (callee_names p) (names_of n) is.value is.block slot_is is.sig is.callee l.inst)
-      ∙ ap₂ (λ (x : List ℕ) (y : List Tag). record { inst = instruction_under (names_of n) l.inst; ty = l.ty; results = x; tags = y }) (values_are l.results) (joined_are l.inst l.tags)
+  own : IsNumbering p n
+  own = record { value = is.value; block = is.block; slots = is.slots; sig = is.sig; callee = is.callee }
 
   results_are : (c : ℕ) → new_results p c ≡ results_from starts (length p.site.results) c
   results_are c = mapped_same (p.naming.new_value c) (λ i. get_or starts c 0 + i) (is.new_value c) (from 0 (length p.site.results))
@@ -59,19 +29,19 @@ module _ (p : Splicing) (n : Names) (starts : List ℕ) (is : Numbers p n starts
 
   call_is : (c : ℕ) (l : Line) (t : CallTarget) (args : List ℕ) → line_with p (record l { inst = ReturnCall t args }) (Call (called_under (callee_names p) t) (map p.naming.callee_value args)) (new_results p c) ≡ call_in_place n p.site.tags (results_from starts (length p.site.results) c) l t args
   call_is c l t args =
-      ap₂ (λ (x : CallTarget) (y : List ℕ). record { inst = Call x y; ty = l.ty; results = new_results p c; tags = joined_tags p (ReturnCall t args) l.tags }) (called_same (callee_names p) (names_of n) is.value is.block slot_is is.sig is.callee t) (values_are args)
-      ∙ ap₂ (λ (x : List ℕ) (y : List Tag). record { inst = Call (called_under (names_of n) t) (map (names_of n).value args); ty = l.ty; results = x; tags = y }) (results_are c) (joined_are (ReturnCall t args) l.tags)
+      ap₂ (λ (x : CallTarget) (y : List ℕ). record { inst = Call x y; ty = l.ty; results = new_results p c; tags = joined_tags p (ReturnCall t args) l.tags }) (called_are p n own t) (values_are p n own args)
+      ∙ ap₂ (λ (x : List ℕ) (y : List Tag). record { inst = Call (called_under (names_of n) t) (map (names_of n).value args); ty = l.ty; results = x; tags = y }) (results_are c) (joined_are p n own (ReturnCall t args) l.tags)
 
   step : (c j : ℕ) (l : Line) (i : Instruction) (ls : List Line) → l.inst ≡ i → within_fragment p c j l i (as_piece (made c ls)) ≡ as_piece (inlined_line n p.site.tags p.naming.after (results_from starts (length p.site.results) c) l i ++ made c ls)
-  step c j l (Plain x) ls e = ap (λ (z : Line). as_piece (z ∷ made c ls)) (line_is l)
-  step c j l (Branches x) ls e = ap (λ (z : Line). as_piece (z ∷ made c ls)) (line_is l)
-  step c j l SequencePoint ls e = ap (λ (z : Line). as_piece (z ∷ made c ls)) (line_is l)
-  step c j l (Return vs) ls e = ap (λ (z : List ℕ). as_piece (jump_line p.naming.after z ∷ made c ls)) (values_are vs)
-  step c j l (Call t args) ls e = ap (λ (z : Line). as_piece (z ∷ made c ls)) (line_is l)
+  step c j l (Plain x) ls e = ap (λ (z : Line). as_piece (z ∷ made c ls)) (line_is p n own l)
+  step c j l (Branches x) ls e = ap (λ (z : Line). as_piece (z ∷ made c ls)) (line_is p n own l)
+  step c j l SequencePoint ls e = ap (λ (z : Line). as_piece (z ∷ made c ls)) (line_is p n own l)
+  step c j l (Return vs) ls e = ap (λ (z : List ℕ). as_piece (jump_line p.naming.after z ∷ made c ls)) (values_are p n own vs)
+  step c j l (Call t args) ls e = ap (λ (z : Line). as_piece (z ∷ made c ls)) (line_is p n own l)
   step c j l (ReturnCall t args) ls e =
       ap (λ (z : Instruction). as_piece (line_with p (record l { inst = z }) (Call (called_under (callee_names p) t) (map p.naming.callee_value args)) (new_results p c) ∷ (to_after p (new_results p c) ∷ made c ls))) e
       ∙ ap₂ (λ (x : Line) (y : List ℕ). as_piece (x ∷ (jump_line p.naming.after y ∷ made c ls))) (call_is c l t args) (results_are c)
-  step c j l (TryCall t sig args normal table) ls e = ap (λ (z : Line). as_piece (z ∷ made c ls)) (line_is l)
+  step c j l (TryCall t sig args normal table) ls e = ap (λ (z : Line). as_piece (z ∷ made c ls)) (line_is p n own l)
 
   piece_is : (c j : ℕ) (ls : List Line) → fragment p c j ls ≡ as_piece (made c ls)
   piece_is c j [] = refl
@@ -83,5 +53,5 @@ module _ (p : Splicing) (n : Names) (starts : List ℕ) (is : Numbers p n starts
   body_is [] = refl
   body_is (b ∷ bs) =
       ap (λ (q : Fragment). record { number = p.naming.callee_block b.number; params = map p.naming.callee_value b.params; lines = q.lines } ∷ (q.more ++ body p bs)) (piece_is b.number 0 b.lines)
-      ∙ (ap₂ (λ (x : ℕ) (y : List ℕ). record { number = x; params = y; lines = made b.number b.lines } ∷ body p bs) (is.block b.number) (values_are b.params)
+      ∙ (ap₂ (λ (x : ℕ) (y : List ℕ). record { number = x; params = y; lines = made b.number b.lines } ∷ body p bs) (is.block b.number) (values_are p n own b.params)
       ∙ ap (λ (z : List Block). inlined_block n p.site.tags p.naming.after starts (length p.site.results) b ∷ z) (body_is bs))

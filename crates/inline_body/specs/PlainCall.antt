@@ -6,6 +6,7 @@ use Rattle.ir_core.specs.Module.{Function}
 use Rattle.ir_core.specs.Sound.{instruction_count}
 use Rattle.ir_core.specs.Edits.{IsPoint, lines_of}
 use Rattle.ir_semantics.specs.Splice.{Naming, Splicing, splice_with}
+use Rattle.body_import.specs.declared.declarations.Import.{Import}
 use Rattle.inline_body.specs.declared.piece.PreparedBody.{PreparedBody}
 use Rattle.inline_body.specs.Prepared.{IsBodyOf, IsReady}
 use Rattle.inline_body.specs.Results.{tail_calls_in, OneTail}
@@ -53,14 +54,16 @@ splicing_at n f g at l =
       behind = drop (suc at.index) (lines_of at.block f.blocks);
     }
 
--- the body is ready for f, and is that of the splice by some names
-pub record IsPrepared (f g : Function) (at : Point) (q : PreparedBody) : Type 0 where
+-- the body is ready for f, is that of the splice by some names, and brings the declarations of the import
+pub record IsPrepared (f g : Function) (at : Point) (i : Import) (q : PreparedBody) : Type 0 where
   pub ready : IsReady f at q
   pub line : Line
   pub found : slice_get (lines_of at.block f.blocks) at.index ≡ Some line
   pub naming : Naming
   pub keeps : Keeps f naming
   pub is_body : IsBodyOf (splicing_at naming f g at line) f at q
+  pub sigs : q.sigs ≡ i.sigs.added
+  pub callees : q.callees ≡ i.callees.added
 
 -- h is f with the call at the place replaced by the body of g, under numbers that keep f's own
 pub record IsSplice (f g : Function) (at : Point) (h : Function) : Type 0 where

@@ -48,8 +48,8 @@ fn copy_line_tags(
     copy_tags(alloc, names, &none, &line.tags)
 }
 
-/// The line under its numbers.
-fn copy_line(
+/// The line under its numbers, with the site's tags where it takes tags.
+pub fn copy_line(
     alloc: Global,
     names: &Names,
     outer: &Tags,
@@ -79,14 +79,14 @@ pub fn jump(alloc: Global, block: Block, values: &[Value]) -> Result<InstData, A
     })
 }
 
-/// A call in place of a tail call, with results.
-fn call_with_results(
+/// A line of the callee with another instruction and results, and with these tags in front of its own.
+pub fn line_with(
     alloc: Global,
     names: &Names,
     outer: &Tags,
-    results: &Values,
     line: &InstData,
     inst: Inst,
+    results: Values,
 ) -> Result<InstData, AllocError>
     requires { Each (Moves names.now.slots) (slots_shown line.now.tags) }
     ensures { IfOk result
@@ -94,7 +94,7 @@ fn call_with_results(
         ≡ record {
           inst = instruction_of inst;
           ty = line.now.ty;
-          results = results.now;
+          results = results;
           tags = outer.now
               ++ map (tag_under (names_of names.now)) line.now.tags;
         }) }
@@ -102,7 +102,7 @@ fn call_with_results(
     Ok(InstData {
         inst,
         ty: line.ty,
-        results: results.clone()?,
+        results,
         tags: copy_tags(alloc, names, outer, &line.tags)?,
     })
 }
@@ -132,7 +132,7 @@ fn push_inlined(
                 callee: names.callee(*callee),
                 args: names.of_values(alloc, args)?,
             };
-            list.push(call_with_results(alloc, names, outer, results, line, inst)?)?;
+            list.push(line_with(alloc, names, outer, line, inst, results.clone()?)?)?;
             list.push(jump(alloc, after, results.as_slice())?)?;
             Ok(())
         }
@@ -142,7 +142,7 @@ fn push_inlined(
                 address: names.value(*address),
                 args: names.of_values(alloc, args)?,
             };
-            list.push(call_with_results(alloc, names, outer, results, line, inst)?)?;
+            list.push(line_with(alloc, names, outer, line, inst, results.clone()?)?)?;
             list.push(jump(alloc, after, results.as_slice())?)?;
             Ok(())
         }

@@ -9,8 +9,9 @@ use crate::blocks::BlockLines;
 use crate::placing::put_body;
 use ir_core::{Callee, Func, InstData, List, Point, Sig, SlotDecl, Ty, Value};
 
-/// A callee's body as it stands in its caller in the place of a plain call: new declarations, the jump into the body,
-/// the site's results, the parameters of the body's first block and of its others, and the lines of all.
+/// A callee's body as it stands in its caller in the place of a call: new declarations, the jump into the body, the
+/// site's results (none where the call ends its block), the parameters of the body's first block and of its others, and
+/// the lines of all.
 #[derive(Drop)]
 pub struct PreparedBody {
     pub slots: List<SlotDecl>,

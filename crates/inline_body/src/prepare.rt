@@ -2,7 +2,7 @@
 ghost use Rattle.std.specs.Prelude.{◌≡◌, ℕ, ◌+◌, ◌-◌, ◌<◌, ◌^◌, length, IfOk};
 ghost use Rattle.ir_core.specs.Viewed.{instruction_of};
 ghost use Rattle.ir_semantics.specs.Splice.{args_of};
-ghost use Rattle.body_import.specs.Imports.{IsIndexOf};
+ghost use Rattle.body_import.specs.Imports.{IsImportOf};
 ghost use Rattle.inline_body.specs.WithBody.{lines_in};
 ghost use Rattle.inline_body.specs.Prepared.{room_of};
 ghost use Rattle.inline_body.specs.PlainCall.{CanSplice, IsPrepared};
@@ -13,12 +13,12 @@ use crate::names::Names;
 use crate::piece::PreparedBody;
 use crate::results::{new_types, number_results, result_types};
 use crate::tables::number_blocks;
-use body_import::{Import, Index, plan_import};
+use body_import::Import;
 use ir_core::{Block, Func, Inst, List, Point, Room, Value};
 use std::alloc::{AllocError, Global};
 
 /// The arguments of a call; no values where the instruction is none.
-fn call_args(inst: &Inst) -> &[Value]
+pub fn call_args(inst: &Inst) -> &[Value]
     ensures { result.now ≡ args_of (instruction_of inst.now) }
 {
     match inst {
@@ -60,21 +60,21 @@ pub fn body_room(body: &PreparedBody) -> Room
     }
 }
 
-/// A callee's body for a plain call of a caller that has so many blocks, and whose declarations have the index. The
-/// caller stays as it is. Time is the callee's size, and the number of its tail calls times that of the site's results,
-/// times the logarithm of the number of declarations. Only `AllocError` refuses.
+/// A callee's body for a plain call of a caller that has so many blocks, and takes over the import. The caller stays as
+/// it is. Time is the callee's size, and the number of its tail calls times that of the site's results. Only
+/// `AllocError` refuses.
 pub fn prepare_body(
     alloc: Global,
     caller: &Func,
     block_count: u32,
-    index: &Index,
+    import: Import,
     site: Point,
     callee: &Func,
 ) -> Result<PreparedBody, AllocError>
     requires counted { block_count ≡ length caller.now.function.blocks }
-    requires indexed { IsIndexOf caller.now.function index.now }
+    requires imported { IsImportOf caller.now.function callee.now.function import }
     requires can { CanSplice caller.now.function callee.now.function site }
-    ensures { IfOk result (λ body. IsPrepared caller.now.function callee.now.function site body) }
+    ensures { IfOk result (λ body. IsPrepared caller.now.function callee.now.function site import body) }
 {
     let _ = caller.values();
     let _ = callee.values();
@@ -83,7 +83,7 @@ pub fn prepare_body(
     let count = results.len() as u32;
     let first_result = (caller.values() + callee.values()) as u32;
     let new_results = number_results(alloc, callee, first_result, count)?;
-    let Import { sigs, callees } = plan_import(alloc, index, caller, callee)?;
+    let Import { sigs, callees } = import;
     let names = Names {
         values: caller.values() as u32,
         slots: caller.slots().len() as u32,

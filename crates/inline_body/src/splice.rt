@@ -4,12 +4,12 @@ ghost use Rattle.inline_body.specs.PlainCall.{CanSplice, IsSplice};
 
 use crate::piece::put_piece;
 use crate::prepare::{body_room, prepare_body};
-use body_import::index_declarations;
+use body_import::{index_declarations, plan_import};
 use ir_core::{Func, Point};
 use std::alloc::{AllocError, Global};
 
 /// The number of blocks.
-fn count_blocks(func: &Func) -> usize
+pub fn count_blocks(func: &Func) -> usize
     ensures { result ≡ length func.now.function.blocks }
 {
     func.blocks().count()
@@ -30,11 +30,12 @@ pub fn splice_plain(
     let _ = caller.values();
     let block_count = count_blocks(caller) as u32;
     let index = index_declarations(alloc, caller)?;
+    let import = plan_import(alloc, &index, caller, callee)?;
     let place = Point {
         block: site.block,
         index: site.index,
     };
-    let body = prepare_body(alloc, caller, block_count, &index, place, callee)?;
+    let body = prepare_body(alloc, caller, block_count, import, place, callee)?;
     let room = body_room(&body);
     caller.reserve(room)?;
     let _ = put_piece(caller, site, body);

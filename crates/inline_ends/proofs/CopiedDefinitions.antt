@@ -1,28 +1,13 @@
 -- What copied blocks define: the callee's values under their numbers.
-use Rattle.std.proofs.Common.{◌≡◌, ℕ, ◌+◌, inl, inr, List, [], ◌∷◌, ◌++◌, map, get_or, refl, sym, ap, ap₂, ◌∙◌, subst, arith}
-use Rattle.std.proofs.lemmas.List.{length-map}
+use Rattle.std.proofs.Common.{◌≡◌, ℕ, ◌+◌, List, [], ◌∷◌, ◌++◌, map, get_or, refl, sym, ap, ap₂, ◌∙◌}
+use Rattle.std.proofs.lemmas.List.{length-map, map-append}
 use Rattle.debug_tags.specs.declared.tags.Tag.{Tag}
 use Rattle.ir_core.specs.Module.{Line, Block}
-use Rattle.ir_core.specs.Lists.{In, Different}
 use Rattle.ir_core.specs.Lookup.{block_numbers, definitions, line_definitions}
 use Rattle.ir_core.specs.Sound.{instruction_count}
 use Rattle.inline_body.specs.declared.names.Names.{Names}
 use Rattle.inline_body.specs.Inlined.{copied_line}
 use Rattle.inline_ends.specs.Copied.{copied_block}
-
-pub map_join : (h : ℕ → ℕ) (xs ys : List ℕ) → map h (xs ++ ys) ≡ map h xs ++ map h ys
-map_join h [] ys = refl
-map_join h (x ∷ xs) ys = ap (λ z. h x ∷ z) (map_join h xs ys)
-
-pub map_in : (h : ℕ → ℕ) (v : ℕ) (xs : List ℕ) → In v (map h xs) → (u : ℕ) × In u xs × (v ≡ h u)
-map_in h v [] i = elim i [ ]
-map_in h v (x ∷ xs) (inl e) = (x, inl refl, e)
-map_in h v (x ∷ xs) (inr i) = let m = map_in h v xs i in (m.0, inr m.1, m.2)
-
-pub shifted_differ : (base : ℕ) (xs : List ℕ) → Different xs → Different (map (λ v. base + v) xs)
-shifted_differ base [] d = tt
-shifted_differ base (x ∷ xs) d =
-    (λ i. let m = map_in (λ v. base + v) (base + x) xs i in let e = m.2 in let q : m.0 ≡ x = omega (arith, e) in d.0 (subst (λ z. In z xs) q m.1), shifted_differ base xs d.1)
 
 module _ (n : Names) (outer : List Tag) where
   abbrev up : ℕ → ℕ
@@ -30,13 +15,13 @@ module _ (n : Names) (outer : List Tag) where
 
   lines_define : (ls : List Line) → line_definitions (map (copied_line n outer) ls) ≡ map up (line_definitions ls)
   lines_define [] = refl
-  lines_define (l ∷ ls) = ap (λ z. map up l.results ++ z) (lines_define ls) ∙ sym (map_join up l.results (line_definitions ls))
+  lines_define (l ∷ ls) = ap (λ z. map up l.results ++ z) (lines_define ls) ∙ sym (map-append up l.results (line_definitions ls))
 
   pub blocks_define : (bs : List Block) → definitions (map (copied_block n outer) bs) ≡ map (λ v. n.values + v) (definitions bs)
   blocks_define [] = refl
   blocks_define (b ∷ bs) =
       ap₂ (λ (x y : List ℕ). map up b.params ++ (x ++ y)) (lines_define b.lines) (blocks_define bs)
-      ∙ (ap (λ z. map up b.params ++ z) (sym (map_join up (line_definitions b.lines) (definitions bs))) ∙ sym (map_join up b.params (line_definitions b.lines ++ definitions bs)))
+      ∙ (ap (λ z. map up b.params ++ z) (sym (map-append up (line_definitions b.lines) (definitions bs))) ∙ sym (map-append up b.params (line_definitions b.lines ++ definitions bs)))
 
   pub blocks_counted : (bs : List Block) → instruction_count (map (copied_block n outer) bs) ≡ instruction_count bs
   blocks_counted [] = refl

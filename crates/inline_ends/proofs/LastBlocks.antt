@@ -14,15 +14,15 @@ use Rattle.inline_body.specs.Inlined.{blocks_from}
 use Rattle.inline_ends.specs.Ending.{with_last_body}
 use Rattle.inline_body.specs.WithBody.{empty_from, behind, blocks_with_lines, all_of, numbers_of, counts_with}
 use Rattle.inline_body.proofs.SiteBlocks.{numbers_join}
+use Rattle.inline_body.proofs.Found.{found_at}
 use Rattle.inline_body.proofs.Fills.{numbers_still, as_many, defined_now, counted}
-use Rattle.inline_body.proofs.BodyBlocks.{at_here, empty_defines, empty_count, empty_length}
-use Rattle.inline_ends.proofs.Blocks.{other_number, behind_two, empties, empties_are, as_many_numbers, filled_body}
+use Rattle.inline_body.proofs.BodyBlocks.{at_here, empty_defines, empty_count, empty_length, other_number, behind_two}
+use Rattle.inline_body.proofs.BodyBlocks.{empties, empties_are, as_many_numbers, filled_body}
 
 -- ---- lists
 
 lines_here : (P : List Block) (h : Block) (Q : List Block) → Different (block_numbers (P ++ (h ∷ Q))) → lines_of h.number (P ++ (h ∷ Q)) ≡ h.lines
-lines_here [] h Q d = ap (λ c. if c then h.lines else lines_of h.number Q) (eq-eqb h.number h.number refl)
-lines_here (b ∷ P) h Q d = ap (λ c. if c then b.lines else lines_of h.number (P ++ (h ∷ Q))) (ne_eqb b.number h.number (other_number b P h Q d)) ∙ lines_here P h Q d.1
+lines_here P h Q d = ap (λ (z : Block). z.lines) (found_at (P ++ (h ∷ Q)) h d P Q refl)
 
 end_at : (ls : List Line) (l : Line) → slice_get (ls ++ (l ∷ [])) (length ls) ≡ Some l
 end_at [] l = refl

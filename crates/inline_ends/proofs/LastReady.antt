@@ -1,6 +1,6 @@
 -- A body for a call that ends its block is ready, and that of the splice, where its blocks are the splice's.
-use Rattle.std.proofs.Common.{◌≡◌, ℕ, zero, suc, ◌+◌, ◌-◌, ◌<◌, ◌^◌, List, [], ◌∷◌, ◌++◌, map, length, get_or, Some, inl, inr, refl, sym, ap, ap₂, ◌∙◌, subst, arith, append-nil, length-append}
-use Rattle.std.specs.Prelude.{if◌then◌else◌, slice_get, nat_eq, Bool, true, false}
+use Rattle.std.proofs.Common.{◌≡◌, ℕ, ◌+◌, ◌-◌, ◌<◌, ◌^◌, List, [], ◌∷◌, ◌++◌, map, length, get_or, Some, refl, sym, ap, ap₂, ◌∙◌, subst, arith, append-nil, length-append}
+use Rattle.std.specs.Prelude.{slice_get}
 use Rattle.std.specs.List.{enumerate_from}
 use Rattle.std.proofs.lemmas.List.{length-map}
 use Rattle.std.proofs.lemmas.List.FromFn.{length-enumerate_from}
@@ -26,44 +26,10 @@ use Rattle.inline_body.specs.PlainCall.{splicing_at, IsSplice}
 use Rattle.inline_body.proofs.ResultTypes.{types_moved}
 use Rattle.inline_body.proofs.BodyRanges.{NamesInRange, jump_in_range}
 use Rattle.inline_body.proofs.BodyDefinitions.{params_there, lines_there, params_differ, own_lines_differ, lines_apart, lines_ranged, params_ranged, lines_counted, numbers_listed, blocks_listed}
-use Rattle.inline_body.proofs.Ready.{spliced_at}
+use Rattle.inline_body.proofs.Ready.{below_at, same_list, spliced_at}
 use Rattle.inline_ends.specs.Ending.{numbered}
 use Rattle.inline_ends.specs.LastBody.{IsLastBodyOf, IsLastReady, IsLastPrepared}
 use Rattle.inline_ends.proofs.Numbered.{as_put}
-
--- ---- lists
-
-below_at : (xs : List ℕ) (k d m : ℕ) → Below m xs → k < length xs → get_or xs k d < m
-below_at [] k d m b h = absurd (omega (arith, h))
-below_at (x ∷ xs) zero d m b h = b.0
-below_at (x ∷ xs) (suc k) d m b h = below_at xs k d m b.1 (omega (arith, h))
-
-pub at_key : (h : ℕ → ℕ) (m : ℕ) (ks : List ℕ) → Below m (map h ks) → (k : ℕ) → In k ks → h k < m
-at_key h m [] b k i = elim i [ ]
-at_key h m (j ∷ ks) b k (inl e) = subst (λ (z : ℕ). h z < m) (sym e) b.0
-at_key h m (j ∷ ks) b k (inr i) = at_key h m ks b.1 k i
-
-same_list : (vs : List ℕ) → map (λ v. v) vs ≡ vs
-same_list [] = refl
-same_list (v ∷ vs) = ap (λ z. v ∷ z) (same_list vs)
-
-pub numbers_below : (bs : List Block) (m : ℕ) → Below m (block_numbers bs) → Each (λ (b : Block). b.number < m) bs
-numbers_below [] m h = tt
-numbers_below (b ∷ bs) m h = (h.0, numbers_below bs m h.1)
-
--- the line at a place is in range
-pub line_at : (N : Counts) (a i : ℕ) (l : Line) (bs : List Block) → Each (BlockInRange N) bs → slice_get (lines_of a bs) i ≡ Some l → LineInRange N l
-line_at N a i l [] h e = cc
-line_at N a i l (b ∷ bs) h e = go (nat_eq b.number a) e (λ q. line_at N a i l bs h.1 q)
-  where
-    each_get : (ls : List Line) (k : ℕ) → Each (LineInRange N) ls → slice_get ls k ≡ Some l → LineInRange N l
-    each_get [] k h e = cc
-    each_get (x ∷ ls) zero h e = let q : x ≡ l = cc in subst (LineInRange N) q h.0
-    each_get (x ∷ ls) (suc k) h e = each_get ls k h.1 e
-
-    go : (c : Bool) → slice_get (if c then b.lines else lines_of a bs) i ≡ Some l → (slice_get (lines_of a bs) i ≡ Some l → LineInRange N l) → LineInRange N l
-    go true e ih = each_get b.lines i (h.0).lines e
-    go false e ih = ih e
 
 -- a splice without new results has no new types
 pub no_types : (p : Splicing) → ((c : ℕ) (i : Instruction) → new_types_by p c (kind_of p.site.inst) i ≡ []) → (bs : List Block) → new_types p bs ≡ []
@@ -184,7 +150,7 @@ module _ (f g : Function) (at : Point) (l : Line) (i : Import) (imp : IsImportOf
         → ((c : ℕ) (j : Instruction) → new_types_by own_splicing c (kind_of l.inst) j ≡ [])
         → 0 < length g.blocks → get_or n.blocks (first_number g.blocks) 0 ≡ length f.blocks
         → body own_splicing g.blocks ≡ B
-        → IsLastPrepared f g at q
+        → IsLastPrepared f g at i q
     prepared sg is_ready found none_behind none some first body_is =
         record {
           ready = is_ready;
@@ -206,12 +172,14 @@ module _ (f g : Function) (at : Point) (l : Line) (i : Import) (imp : IsImportOf
             jump = first_is g.blocks some first;
             body = body_is ∙ sym made.body;
           };
+          sigs = made.piece_sigs;
+          callees = made.piece_callees;
         }
 
 -- ---- the splice
 
-pub is_splice : (f g h k : Function) (at : Point) (q : PreparedBody) → IsLastPrepared f g at q → h ≡ f → ((p : Splicing) → IsLastBodyOf p h at q → k ≡ spliced p) → IsSplice f g at k
-is_splice f g h k at q made same put =
+pub is_splice : (f g h k : Function) (at : Point) (i : Import) (q : PreparedBody) → IsLastPrepared f g at i q → h ≡ f → ((p : Splicing) → IsLastBodyOf p h at q → k ≡ spliced p) → IsSplice f g at k
+is_splice f g h k at i q made same put =
     record {
       naming = made.naming;
       keeps = made.keeps;

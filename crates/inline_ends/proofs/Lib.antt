@@ -1,7 +1,5 @@
-pub mod Blocks
 pub mod LastBlocks
 pub mod Numbered
-pub mod SplicedBlocks
 pub mod LastSpliced
 pub mod CopiedDefinitions
 pub mod CopiedRanges

@@ -9,14 +9,15 @@ use Rattle.ir_core.specs.Lookup.{block_numbers, definitions}
 use Rattle.ir_core.specs.Uses.{values_used, slots_shown, called_used}
 use Rattle.ir_core.specs.Sound.{counts_of, IsSound, LineInRange, BlockInRange}
 use Rattle.ir_core.specs.Edits.{lines_of}
-use Rattle.ir_core.proofs.Members.{below_in, below_more, below_right, below_left}
-use Rattle.ir_core.proofs.Counting.{definitions_below, all_in}
+use Rattle.ir_core.proofs.Members.{below_more, below_right, below_left}
 use Rattle.ir_semantics.specs.Splice.{Last, kind_of, args_of, first_number, after_blocks, new_types_by}
 use Rattle.body_import.specs.declared.declarations.Import.{Import}
 use Rattle.body_import.specs.Imports.{IsImportOf}
 use Rattle.inline_body.specs.declared.names.Names.{Names}
 use Rattle.inline_body.specs.declared.piece.PreparedBody.{PreparedBody}
-use Rattle.inline_body.proofs.BodyRanges.{NamesReach}
+use Rattle.inline_body.proofs.BodyDefinitions.{shifted_differ}
+use Rattle.inline_body.proofs.Ready.{numbers_below, line_at, named_below, names_reach, moved_undefined}
+use Rattle.inline_body.proofs.Preparing.{same_line}
 use Rattle.inline_body.proofs.LastBody.{body_is}
 use Rattle.inline_ends.specs.Copied.{copied_block, CanCopy}
 use Rattle.inline_ends.specs.Ending.{numbered}
@@ -24,8 +25,8 @@ use Rattle.inline_ends.specs.TailCall.{IsTailCall, CanSpliceTail}
 use Rattle.inline_ends.specs.LastBody.{IsLastPrepared}
 use Rattle.inline_ends.proofs.Numbered.{below_end, other_list}
 use Rattle.inline_ends.proofs.CopiedRanges.{blocks_in_range, can_copy}
-use Rattle.inline_ends.proofs.CopiedDefinitions.{map_in, shifted_differ, blocks_define, blocks_counted, blocks_numbers}
-use Rattle.inline_ends.proofs.LastReady.{at_key, numbers_below, line_at, IsLastMade, after_counts, in_range, ready, own_splicing, prepared}
+use Rattle.inline_ends.proofs.CopiedDefinitions.{blocks_define, blocks_counted, blocks_numbers}
+use Rattle.inline_ends.proofs.LastReady.{IsLastMade, after_counts, in_range, ready, own_splicing, prepared}
 
 tail_args : (i : Instruction) → IsTailCall i → (n : ℕ) → Below n (values_used i) → Below n (args_of i)
 tail_args (ReturnCall t args) h n b = below_right n (called_used t) args (below_left n (called_used t ++ args) [] b)
@@ -45,9 +46,6 @@ is_last (Return vs) h = absurd h
 is_last (Call t args) h = absurd h
 is_last (TryCall t sig args normal table) h = absurd h
 
-same_line : (a b : Line) → Some a ≡ Some b → a ≡ b
-same_line a b e = cc
-
 first_of : (h : ℕ → ℕ) (n : ℕ) (bs : List Block) → 0 < length bs → map h (block_numbers bs) ≡ numbered n (block_numbers bs) → h (first_number bs) ≡ n
 first_of h n [] s e = absurd (omega (arith, s))
 first_of h n (b ∷ bs) s e = cc
@@ -63,7 +61,7 @@ module _ (f g : Function) (at : Point) (sf : IsSound f) (sg : IsSound g) (can : 
   blocks_reached =
       let fv = can.few_values in
       let fs = can.few_slots in
-      let reach : NamesReach n (counts_of g) = record { values = omega (arith, fv, values); slots = omega (arith, fs, slots); blocks = blocks; callees = ap length callees ∙ imp.callee_table; sigs = ap length sigs ∙ imp.sig_table } in
+      let reach = names_reach f g i imp n values slots blocks sigs callees (omega (arith, fv)) (omega (arith, fs)) in
       can_copy n (counts_of g) reach g.blocks sg.blocks (numbers_below g.blocks (length g.blocks) sg.block_range)
 
   module _ (numbers : map (λ b. get_or n.blocks b 0) (block_numbers g.blocks) ≡ numbered (length f.blocks) (block_numbers g.blocks)) (q : PreparedBody) where
@@ -76,9 +74,9 @@ module _ (f g : Function) (at : Point) (sf : IsSound f) (sg : IsSound g) (can : 
     module _ (made : IsLastMade f g l i n q B) where
       block_below : (b : ℕ) → b < length g.blocks → get_or n.blocks b 0 < length f.blocks + length B
       block_below b h =
-          at_key (λ k. get_or n.blocks k 0) (length f.blocks + length B) (block_numbers g.blocks)
+          named_below n g sg (length f.blocks + length B)
           (subst (Below (length f.blocks + length B)) (sym numbers) (below_end (length f.blocks) (length f.blocks + length B) (block_numbers g.blocks) (let k = length-map g.blocks (λ (b : Block). b.number) in let m = many in omega (arith, k, m))))
-          b (all_in (length g.blocks) (block_numbers g.blocks) sg.blocks_differ sg.block_range (length-map g.blocks (λ (b : Block). b.number)) b h)
+          b h
 
       body_in_range : Each (BlockInRange (after_counts f g at l i imp n q B made)) B
       body_in_range =
@@ -90,13 +88,9 @@ module _ (f g : Function) (at : Point) (sf : IsSound f) (sg : IsSound g) (can : 
       body_differs = subst Different (sym (blocks_define n l.tags g.blocks)) (shifted_differ n.values (definitions g.blocks) sg.defined_once)
 
       body_undefined : (v : ℕ) → In v (definitions B) → In v (definitions f.blocks) → ⊥
-      body_undefined v j k =
-          let low = below_in (length f.types) (definitions f.blocks) v (definitions_below (counts_of f) f.blocks sf.blocks) k in
-          let old = map_in (λ u. n.values + u) v (definitions g.blocks) (subst (In v) (blocks_define n l.tags g.blocks) j) in
-          let e = old.2 in
-          omega (arith, low, e, values)
+      body_undefined v j k = moved_undefined f g sf n values v (subst (In v) (blocks_define n l.tags g.blocks) j) k
 
-      pub tail_prepared : IsLastPrepared f g at q
+      pub tail_prepared : IsLastPrepared f g at i q
       tail_prepared =
           let m = many in
           let some : 0 < length B = let h = can.has_block in omega (arith, h, m) in

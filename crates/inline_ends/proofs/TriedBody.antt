@@ -11,13 +11,13 @@ use Rattle.ir_core.specs.Lists.{Each}
 use Rattle.ir_core.specs.Edits.{lines_of}
 use Rattle.ir_semantics.specs.Import.{callees_after, sig_after, callee_after}
 use Rattle.ir_semantics.specs.Renaming.{tag_under, target_under, called_under, instruction_under}
-use Rattle.ir_semantics.specs.Splice.{Splicing, Kind, Tries, kind_of, try_target, caller_names, callee_names, tags_before, joined_tags, callee_line, returned_arg, to_normal, named_sig, outer_table, call_as_try, to_rest, tries_fragment, Fragment, fragment_by, fragment, body}
+use Rattle.ir_semantics.specs.Splice.{Splicing, Kind, Tries, kind_of, try_target, caller_names, callee_names, joined_tags, callee_line, returned_arg, to_normal, named_sig, outer_table, call_as_try, to_rest, tries_fragment, Fragment, fragment_by, fragment, body}
 use Rattle.inline_body.specs.declared.names.Names.{Names}
 use Rattle.inline_body.specs.Named.{names_of}
 use Rattle.inline_body.specs.Inlined.{copied_tags, copied_line}
-use Rattle.inline_body.proofs.SameNames.{values_same, tags_same, called_same, instruction_same}
+use Rattle.inline_body.proofs.CalleeLines.{IsNumbering, values_are, called_are, instructions_are, joined_are, line_is}
+use Rattle.inline_body.proofs.BodyDefinitions.{counted}
 use Rattle.inline_body.proofs.OwnNames.{instruction_kept}
-use Rattle.inline_body.proofs.WithinBody.{outer_kept, tags_are}
 use Rattle.inline_ends.specs.Tried.{OuterTry, is_plain_call, plain_calls, return_line, sig_called, try_of, try_line, to_next, tried_line, with_line, tried_lines, block_with, tried_block, tried_blocks}
 use Rattle.inline_ends.specs.Tried.{returned_arg as arg_returned}
 
@@ -51,33 +51,22 @@ calls_join : (xs ys : List Line) → plain_calls (xs ++ ys) ≡ plain_calls xs +
 calls_join [] ys = omega arith
 calls_join (x ∷ xs) ys = let h = calls_join xs ys in omega (arith, h)
 
-abbrev counted : Bool → ℕ
-counted c = if c then 1 else 0
-
 take_front : (xs ys : List Line) → take (length xs) (xs ++ ys) ≡ xs
 take_front [] ys = refl
 take_front (x ∷ xs) ys = ap (λ z. x ∷ z) (take_front xs ys)
 
 module _ (p : Splicing) (n : Names) (s : OuterTry) (is : TryNumbers p n s) where
-  slot_is : (k : ℕ) → (callee_names p).slot k ≡ (names_of n).slot k
-  slot_is k = ap (λ (z : ℕ). z + k) is.slots
+  numbering : IsNumbering p n
+  numbering = record { value = is.value; block = is.block; slots = is.slots; sig = is.sig; callee = is.callee }
 
   same : (k : ℕ) → k ≡ k
   same k = refl
 
-  values_are : (vs : List ℕ) → map p.naming.callee_value vs ≡ map (names_of n).value vs
-  values_are vs = values_same (callee_names p) (names_of n) is.value is.block slot_is is.sig is.callee vs
+  tags_are : (i : Instruction) (ts : List Tag) → joined_tags p i ts ≡ copied_tags n s.tags i ts
+  tags_are i ts = joined_are p n numbering i ts ∙ ap (λ (z : List Tag). copied_tags n z i ts) is.tags
 
-  inner_are : (ts : List Tag) → map (tag_under (callee_names p)) ts ≡ map (tag_under (names_of n)) ts
-  inner_are ts = tags_same (callee_names p) (names_of n) is.value is.block slot_is is.sig is.callee ts
-
-  joined_are : (i : Instruction) (ts : List Tag) → joined_tags p i ts ≡ copied_tags n s.tags i ts
-  joined_are i ts = ap₂ (λ (x y : List Tag). tags_before i x y) (outer_kept p p.site.tags ∙ is.tags) (inner_are ts) ∙ tags_are i s.tags (map (tag_under (names_of n)) ts)
-
-  line_is : (l : Line) → callee_line p l ≡ copied_line n s.tags l
-  line_is l =
-      ap (λ (i : Instruction). record { inst = i; ty = l.ty; results = map p.naming.callee_value l.results; tags = joined_tags p l.inst l.tags }) (instruction_same (callee_names p) (names_of n) is.value is.block slot_is is.sig is.callee l.inst)
-      ∙ ap₂ (λ (x : List ℕ) (y : List Tag). record { inst = instruction_under (names_of n) l.inst; ty = l.ty; results = x; tags = y }) (values_are l.results) (joined_are l.inst l.tags)
+  copied_is : (l : Line) → callee_line p l ≡ copied_line n s.tags l
+  copied_is l = line_is p n numbering l ∙ ap (λ (z : List Tag). copied_line n z l) is.tags
 
   -- ---- the site's target and table
 
@@ -93,7 +82,7 @@ module _ (p : Splicing) (n : Names) (s : OuterTry) (is : TryNumbers p n s) where
   args_are : (vs : List ℕ) (as' : List Arg) → map (returned_arg p vs) as' ≡ map (arg_returned (map (names_of n).value vs)) as'
   args_are vs [] = refl
   args_are vs (arg.Value v ∷ as') = ap₂ (λ (x : ℕ) (z : List Arg). arg.Value x ∷ z) (is.caller_value v) (args_are vs as')
-  args_are vs (arg.Ret i ∷ as') = ap₂ (λ (x : List ℕ) (z : List Arg). returned_in i x ∷ z) (values_are vs) (args_are vs as')
+  args_are vs (arg.Ret i ∷ as') = ap₂ (λ (x : List ℕ) (z : List Arg). returned_in i x ∷ z) (values_are p n numbering vs) (args_are vs as')
     where
       returned_in : ℕ → List ℕ → Arg
       returned_in i xs = arg_returned xs (arg.Ret i)
@@ -108,12 +97,12 @@ module _ (p : Splicing) (n : Names) (s : OuterTry) (is : TryNumbers p n s) where
 
   -- ---- calls
 
-  try_is : (l : Line) (i : Instruction) (t : CallTarget) (args : List ℕ) (normal own : BlockCall) → copied_tags n s.tags i l.tags ≡ s.tags ++ map (tag_under (names_of n)) l.tags → l.inst ≡ i → normal ≡ own → call_as_try p l t args normal (outer_table p s.table) ≡ try_line n s l (try_of n s t args own)
-  try_is l i t args normal own tags e g =
+  try_is : (l : Line) (i : Instruction) (t : CallTarget) (args : List ℕ) (normal target : BlockCall) → copied_tags n s.tags i l.tags ≡ s.tags ++ map (tag_under (names_of n)) l.tags → l.inst ≡ i → normal ≡ target → call_as_try p l t args normal (outer_table p s.table) ≡ try_line n s l (try_of n s t args target)
+  try_is l i t args normal target tags e g =
       ap (λ (z : Instruction). record { inst = TryCall (try_target (called_under (callee_names p) t)) (named_sig p (called_under (callee_names p) t)) (map p.naming.callee_value args) normal (outer_table p s.table); ty = l.ty; results = []; tags = joined_tags p z l.tags }) e
-      ∙ (ap₂ (λ (x : CallTarget) (y : List ℕ). record { inst = TryCall (try_target x) (named_sig p x) y normal (outer_table p s.table); ty = l.ty; results = []; tags = joined_tags p i l.tags }) (called_same (callee_names p) (names_of n) is.value is.block slot_is is.sig is.callee t) (values_are args)
+      ∙ (ap₂ (λ (x : CallTarget) (y : List ℕ). record { inst = TryCall (try_target x) (named_sig p x) y normal (outer_table p s.table); ty = l.ty; results = []; tags = joined_tags p i l.tags }) (called_are p n numbering t) (values_are p n numbering args)
       ∙ (ap₂ (λ (x : ℕ) (y : BlockCall). record { inst = TryCall (try_target (called_under (names_of n) t)) x (map (names_of n).value args) y (outer_table p s.table); ty = l.ty; results = []; tags = joined_tags p i l.tags }) (sig_is (called_under (names_of n) t)) g
-      ∙ ap₂ (λ (x : List (Entry BlockCall)) (y : List Tag). record { inst = TryCall (try_target (called_under (names_of n) t)) (sig_called s.callees (called_under (names_of n) t)) (map (names_of n).value args) own x; ty = l.ty; results = []; tags = y }) outer_is (joined_are i l.tags ∙ tags)))
+      ∙ ap₂ (λ (x : List (Entry BlockCall)) (y : List Tag). record { inst = TryCall (try_target (called_under (names_of n) t)) (sig_called s.callees (called_under (names_of n) t)) (map (names_of n).value args) target x; ty = l.ty; results = []; tags = y }) outer_is (tags_are i l.tags ∙ tags)))
 
   abbrev Step : ℕ → ℕ → ℕ → Line → Instruction → Fragment → Type 0
   Step c j next l i q = tries_fragment p s.normal s.table c j l i q ≡ with_line n next l (tried_line n s next l i) (is_plain_call i) q
@@ -122,21 +111,21 @@ module _ (p : Splicing) (n : Names) (s : OuterTry) (is : TryNumbers p n s) where
   fronted z q = record { lines = z ∷ q.lines; more = q.more }
 
   step : (c j next : ℕ) (l : Line) (i : Instruction) (q : Fragment) → l.inst ≡ i → p.naming.new_block c j ≡ next → Step c j next l i q
-  step c j next l (Plain x) q e g = ap (λ (z : Line). fronted z q) (line_is l)
-  step c j next l (Branches x) q e g = ap (λ (z : Line). fronted z q) (line_is l)
-  step c j next l SequencePoint q e g = ap (λ (z : Line). fronted z q) (line_is l)
+  step c j next l (Plain x) q e g = ap (λ (z : Line). fronted z q) (copied_is l)
+  step c j next l (Branches x) q e g = ap (λ (z : Line). fronted z q) (copied_is l)
+  step c j next l SequencePoint q e g = ap (λ (z : Line). fronted z q) (copied_is l)
   step c j next l (Return vs) q e g = ap (λ (z : Line). fronted z q) (return_is vs)
   step c j next l (Call t args) q e g =
       ap₂ (λ (x : Line) (y : Block). record { lines = x ∷ []; more = y ∷ q.more })
       (try_is l (Call t args) t args (to_rest p c j l) (to_next next l) refl e (ap (λ (z : ℕ). to_next z l) g))
-      (ap₂ (λ (x : ℕ) (y : List ℕ). record { number = x; params = y; lines = q.lines }) g (values_are l.results))
+      (ap₂ (λ (x : ℕ) (y : List ℕ). record { number = x; params = y; lines = q.lines }) g (values_are p n numbering l.results))
   step c j next l (ReturnCall t args) q e g = ap (λ (z : Line). fronted z q) (try_is l (ReturnCall t args) t args (target_under (caller_names p) s.normal) s.normal refl e normal_is)
   step c j next l (TryCall t sig args own inner) q e g =
       let i = TryCall t sig args own inner in
       ap (λ (z : Line). fronted z q)
       (ap (λ (z : Instruction). record { inst = table_behind (outer_table p s.table) (instruction_under (callee_names p) i); ty = l.ty; results = []; tags = joined_tags p z l.tags }) e
-      ∙ (ap₂ (λ (x : Instruction) (y : List (Entry BlockCall)). record { inst = table_behind y x; ty = l.ty; results = []; tags = joined_tags p i l.tags }) (instruction_same (callee_names p) (names_of n) is.value is.block slot_is is.sig is.callee i) outer_is
-      ∙ ap (λ (y : List Tag). record { inst = table_behind s.table (instruction_under (names_of n) i); ty = l.ty; results = []; tags = y }) (joined_are i l.tags)))
+      ∙ (ap₂ (λ (x : Instruction) (y : List (Entry BlockCall)). record { inst = table_behind y x; ty = l.ty; results = []; tags = joined_tags p i l.tags }) (instructions_are p n numbering i) outer_is
+      ∙ ap (λ (y : List Tag). record { inst = table_behind s.table (instruction_under (names_of n) i); ty = l.ty; results = []; tags = y }) (tags_are i l.tags)))
 
   lines_are : (c j next : ℕ) (pre ls : List Line) → lines_of c p.callee.blocks ≡ pre ++ ls → j ≡ length pre → next ≡ get_or n.blocks c 0 + plain_calls pre + 1 → fragment p c j ls ≡ tried_lines n s next ls
   lines_are c j next pre [] e g h = refl
@@ -163,5 +152,5 @@ module _ (p : Splicing) (n : Names) (s : OuterTry) (is : TryNumbers p n s) where
   body_is [] h = refl
   body_is (b ∷ bs) h =
       ap (λ (q : Fragment). record { number = p.naming.callee_block b.number; params = map p.naming.callee_value b.params; lines = q.lines } ∷ (q.more ++ body p bs)) (lines_are b.number 0 (get_or n.blocks b.number 0 + 1) [] b.lines h.0 refl (omega arith))
-      ∙ (ap₂ (λ (x : ℕ) (y : List ℕ). block_with x y (tried_lines n s (get_or n.blocks b.number 0 + 1) b.lines) ++ body p bs) (is.block b.number) (values_are b.params)
+      ∙ (ap₂ (λ (x : ℕ) (y : List ℕ). block_with x y (tried_lines n s (get_or n.blocks b.number 0 + 1) b.lines) ++ body p bs) (is.block b.number) (values_are p n numbering b.params)
       ∙ ap (λ (z : List Block). tried_block n s b ++ z) (body_is bs h.1))

@@ -1,6 +1,6 @@
 -- The numbers in a body at a `try_call` are those of what the caller has then.
 use Rattle.std.proofs.Common.{◌≡◌, ℕ, zero, suc, ◌+◌, ◌<◌, ◌≤◌, List, [], ◌∷◌, ◌++◌, map, length, get_or, Bool, true, false, Option, Some, None, refl, sym, ap, ◌∙◌, subst, arith, append_assoc}
-use Rattle.std.specs.Prelude.{if◌then◌else◌, slice_get}
+use Rattle.std.specs.Prelude.{slice_get}
 use Rattle.exn_tables.specs.declared.table.Entry.{Entry}
 use Rattle.ir_core.specs.declared.declarations.Callee.{Callee}
 use Rattle.ir_core.specs.declared.instructions.Arg.{Arg}
@@ -13,13 +13,14 @@ use Rattle.ir_core.specs.Uses.{values_used, operands, called_used, called_callee
 use Rattle.ir_core.specs.Sound.{Counts, LineInRange, BlockInRange}
 use Rattle.ir_core.proofs.Members.{below_join, below_left, below_right, each_join}
 use Rattle.ir_semantics.specs.Renaming.{instruction_under, target_under, entry_under}
-use Rattle.ir_semantics.specs.Splice.{from, or_ret, Fragment}
+use Rattle.ir_semantics.specs.Splice.{from, or_ret}
 use Rattle.inline_body.specs.declared.names.Names.{Names}
 use Rattle.inline_body.specs.Named.{names_of}
-use Rattle.inline_body.proofs.BodyRanges.{NamesInRange}
+use Rattle.inline_body.proofs.BodyRanges.{NamesInRange, below_mapped, both_shown, copied_in_range}
+use Rattle.inline_body.proofs.BodyDefinitions.{counted}
 use Rattle.inline_body.proofs.UsesUnder.{values_under, blocks_under, callees_under}
-use Rattle.inline_ends.specs.Tried.{OuterTry, is_plain_call, plain_calls, plain_calls_in, numbered_with_calls, returned_arg, sig_called, try_of, try_line, to_next, tried_line, with_line, tried_lines, tried_block, tried_blocks}
-use Rattle.inline_ends.proofs.CopiedRanges.{below_mapped, both_shown, copied_in_range}
+use Rattle.inline_ends.specs.Tried.{OuterTry, is_plain_call, plain_calls, plain_calls_in, numbered_with_calls, returned_arg, sig_called, try_of, try_line, to_next, tried_line, tried_lines, tried_block, tried_blocks}
+use Rattle.inline_ends.proofs.TriedShape.{rest_of, made_of}
 
 -- ---- lists
 
@@ -55,9 +56,6 @@ each_get P [] k d h e = absurd (omega (arith, e))
 each_get P (c ∷ cs) zero d h e = (c, refl, h.0)
 each_get P (c ∷ cs) (suc k) d h e = each_get P cs k d h.1 (omega (arith, e))
 
-abbrev counted : Bool → ℕ
-counted c = if c then 1 else 0
-
 -- the site's own numbers are in range
 pub record SiteInRange (s : OuterTry) (N : Counts) : Type 0 where
   pub tags : Below N.slots (slots_shown s.tags)
@@ -69,12 +67,6 @@ pub record SiteInRange (s : OuterTry) (N : Counts) : Type 0 where
   pub callees : length s.callees ≡ N.callees
 
 module _ (n : Names) (s : OuterTry) (G N : Counts) (fit : NamesInRange n G N) (site : SiteInRange s N) where
-  abbrev rest_of : ℕ → List Line → Bool → Fragment
-  rest_of next ls c = tried_lines n s (if c then next + 1 else next) ls
-
-  abbrev made_of : ℕ → Line → List Line → Bool → Fragment
-  made_of next l ls c = with_line n next l (tried_line n s next l l.inst) c (rest_of next ls c)
-
   sig_below : (t : CallTarget) → Below N.callees (called_callees t) → Below N.sigs (called_sigs t) → sig_called s.callees t < N.sigs
   sig_below (Direct k) c g =
       let long = site.callees in
@@ -172,7 +164,7 @@ module _ (n : Names) (s : OuterTry) (G N : Counts) (fit : NamesInRange n G N) (s
           by_kind (ReturnCall t args) q e = tried_in_range 0 hz l (ReturnCall t args) q h.0
           by_kind (TryCall t sig args own inner) q e = tried_in_range 0 hz l (TryCall t sig args own inner) q h.0
 
-      go : (c : Bool) → is_plain_call l.inst ≡ c → (next + 1 + plain_calls ls ≤ N.blocks → Each (LineInRange N) (rest_of next ls true).lines × Each (BlockInRange N) (rest_of next ls true).more) → (next + plain_calls ls ≤ N.blocks → Each (LineInRange N) (rest_of next ls false).lines × Each (BlockInRange N) (rest_of next ls false).more) → Each (LineInRange N) (made_of next l ls c).lines × Each (BlockInRange N) (made_of next l ls c).more
+      go : (c : Bool) → is_plain_call l.inst ≡ c → (next + 1 + plain_calls ls ≤ N.blocks → Each (LineInRange N) (rest_of n s next ls true).lines × Each (BlockInRange N) (rest_of n s next ls true).more) → (next + plain_calls ls ≤ N.blocks → Each (LineInRange N) (rest_of n s next ls false).lines × Each (BlockInRange N) (rest_of n s next ls false).more) → Each (LineInRange N) (made_of n s next l ls c).lines × Each (BlockInRange N) (made_of n s next l ls c).more
       go true e a b =
           let one : counted (is_plain_call l.inst) ≡ counted true = ap counted e in
           let r = a (omega (arith, hn, one)) in

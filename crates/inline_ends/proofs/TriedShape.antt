@@ -1,6 +1,7 @@
 -- How many blocks and lines a body has at a `try_call`, under which numbers, and what it defines.
 use Rattle.std.proofs.Common.{◌≡◌, ℕ, suc, ◌+◌, inl, inr, List, [], ◌∷◌, ◌++◌, map, length, get_or, slice_set, Bool, true, false, refl, sym, ap, ap₂, ◌∙◌, subst, arith, append_assoc, length-append}
 use Rattle.std.specs.Prelude.{if◌then◌else◌}
+use Rattle.std.proofs.lemmas.List.{map-append}
 use Rattle.ir_core.specs.Module.{Instruction, Plain, Branches, SequencePoint, Return, Call, ReturnCall, TryCall, Line, Block}
 use Rattle.ir_core.specs.Lists.{In, Different}
 use Rattle.ir_core.specs.Lookup.{block_numbers, definitions, line_definitions}
@@ -15,7 +16,6 @@ use Rattle.inline_body.specs.Results.{with_values}
 use Rattle.inline_body.proofs.SiteBlocks.{numbers_join}
 use Rattle.inline_ends.specs.Ending.{numbered}
 use Rattle.inline_ends.specs.Tried.{OuterTry, is_plain_call, plain_calls, plain_calls_in, numbered_with_calls, tried_line, with_line, tried_lines, tried_block, tried_blocks}
-use Rattle.inline_ends.proofs.CopiedDefinitions.{map_join}
 
 -- ---- numbers
 
@@ -34,10 +34,10 @@ next_written t ks k j n v h m rest bs all e g u q w i =
     ∙ (sym (ap (λ (z : List ℕ). with_values t z (numbered_with_calls n (map (block_at bs) z))) e) ∙ i))
 
 module _ (n : Names) (s : OuterTry) where
-  abbrev rest_of : ℕ → List Line → Bool → Fragment
+  abbrev pub rest_of : ℕ → List Line → Bool → Fragment
   rest_of next ls c = tried_lines n s (if c then next + 1 else next) ls
 
-  abbrev made_of : ℕ → Line → List Line → Bool → Fragment
+  abbrev pub made_of : ℕ → Line → List Line → Bool → Fragment
   made_of next l ls c = with_line n next l (tried_line n s next l l.inst) c (rest_of next ls c)
 
   -- the blocks behind a block's calls
@@ -135,7 +135,7 @@ module _ (n : Names) (s : OuterTry) where
 
   lines_define : (next : ℕ) (ls : List Line) → Some_of (defined (tried_lines n s next ls)) (up (line_definitions ls))
   lines_define next [] = all_of_them []
-  lines_define next (l ∷ ls) = subst (Some_of (defined (tried_lines n s next (l ∷ ls)))) (sym (map_join (λ v. n.values + v) l.results (line_definitions ls))) (go (is_plain_call l.inst) refl (lines_define (next + 1) ls) (lines_define next ls))
+  lines_define next (l ∷ ls) = subst (Some_of (defined (tried_lines n s next (l ∷ ls)))) (sym (map-append (λ v. n.values + v) l.results (line_definitions ls))) (go (is_plain_call l.inst) refl (lines_define (next + 1) ls) (lines_define next ls))
     where
       go : (c : Bool) → is_plain_call l.inst ≡ c → Some_of (defined (rest_of n s next ls true)) (up (line_definitions ls)) → Some_of (defined (rest_of n s next ls false)) (up (line_definitions ls)) → Some_of (defined (made_of n s next l ls c)) (up l.results ++ up (line_definitions ls))
       go true e h k =
@@ -153,7 +153,7 @@ module _ (n : Names) (s : OuterTry) where
       let here : definitions (tried_block n s b) ≡ up b.params ++ defined fr = refl in
       let now : definitions (tried_blocks n s (b ∷ bs)) ≡ (up b.params ++ defined fr) ++ definitions (tried_blocks n s bs) = definitions_join (tried_block n s b) (tried_blocks n s bs) in
       let was : (up b.params ++ up (line_definitions b.lines)) ++ up (definitions bs) ≡ up (b.params ++ (line_definitions b.lines ++ definitions bs)) =
-      append_assoc (up b.params) (up (line_definitions b.lines)) (up (definitions bs)) ∙ (ap (λ (z : List ℕ). up b.params ++ z) (sym (map_join (λ v. n.values + v) (line_definitions b.lines) (definitions bs))) ∙ sym (map_join (λ v. n.values + v) b.params (line_definitions b.lines ++ definitions bs))) in
+      append_assoc (up b.params) (up (line_definitions b.lines)) (up (definitions bs)) ∙ (ap (λ (z : List ℕ). up b.params ++ z) (sym (map-append (λ v. n.values + v) (line_definitions b.lines) (definitions bs))) ∙ sym (map-append (λ v. n.values + v) b.params (line_definitions b.lines ++ definitions bs))) in
       subst (Some_of (definitions (tried_blocks n s (b ∷ bs)))) was
       (subst (λ (z : List ℕ). Some_of z ((up b.params ++ up (line_definitions b.lines)) ++ up (definitions bs))) (sym now)
       (some_join (up b.params ++ defined fr) (up b.params ++ up (line_definitions b.lines)) (definitions (tried_blocks n s bs)) (up (definitions bs))

@@ -1,7 +1,6 @@
 -- From the clauses of the calls of `prepare_try` to what it ensures.
-use Rattle.std.proofs.Common.{◌≡◌, ℕ, ◌+◌, ◌-◌, ◌<◌, ◌^◌, ◌≤◌, List, [], ◌∷◌, ◌++◌, map, length, take, append_assoc, get_or, Some, inl, inr, refl, sym, ap, ap₂, ◌∙◌, subst, arith, length-append, eq-eqb, ne_eqb}
-use Rattle.std.specs.Prelude.{slice_get, if◌then◌else◌}
-use Rattle.std.proofs.lemmas.List.{length-map}
+use Rattle.std.proofs.Common.{◌≡◌, ℕ, ◌+◌, ◌-◌, ◌<◌, ◌^◌, ◌≤◌, List, [], ◌∷◌, ◌++◌, map, length, take, append_assoc, get_or, Some, refl, sym, ap, ap₂, ◌∙◌, subst, arith, length-append}
+use Rattle.std.specs.Prelude.{slice_get}
 use Rattle.ir_core.specs.declared.places.Point.{Point}
 use Rattle.ir_core.specs.declared.declarations.Callee.{Callee}
 use Rattle.ir_core.specs.Module.{Instruction, Plain, Branches, SequencePoint, Return, Call, ReturnCall, TryCall, call_target, Line, Block, Function}
@@ -10,22 +9,24 @@ use Rattle.ir_core.specs.Lookup.{block_numbers, definitions, line_definitions}
 use Rattle.ir_core.specs.Uses.{values_used, blocks_used, called_used, targets_used, table_targets, arg_values_used, slots_shown}
 use Rattle.ir_core.specs.Sound.{Counts, counts_of, IsSound, LineInRange, BlockInRange}
 use Rattle.ir_core.specs.Edits.{lines_of}
-use Rattle.ir_core.proofs.Members.{below_in, below_more, below_right, below_left, each_join}
-use Rattle.ir_core.proofs.Counting.{definitions_below, all_in, defined_bound}
+use Rattle.ir_core.proofs.Members.{below_more, below_right, below_left, each_join}
+use Rattle.ir_core.proofs.Counting.{defined_bound}
 use Rattle.ir_semantics.specs.Splice.{Tries, kind_of, args_of, first_number, after_blocks, new_types_by}
 use Rattle.body_import.specs.declared.declarations.Import.{Import}
 use Rattle.body_import.specs.Imports.{IsImportOf}
 use Rattle.inline_body.specs.declared.names.Names.{Names}
 use Rattle.inline_body.specs.declared.piece.PreparedBody.{PreparedBody}
-use Rattle.inline_body.proofs.BodyRanges.{NamesReach}
+use Rattle.inline_body.proofs.BodyDefinitions.{shifted_differ}
+use Rattle.inline_body.proofs.Found.{found_at}
+use Rattle.inline_body.proofs.Ready.{numbers_below, line_at, named_below, names_reach, moved_undefined}
+use Rattle.inline_body.proofs.Preparing.{same_line}
 use Rattle.inline_ends.specs.Copied.{CanCopy}
 use Rattle.inline_ends.specs.Tried.{OuterTry, plain_calls, plain_calls_in, numbered_with_calls, tried_blocks}
 use Rattle.inline_ends.specs.TriedParts.{CanTry}
 use Rattle.inline_ends.specs.TryCallSite.{IsTryCall, CanSpliceTry}
 use Rattle.inline_ends.specs.LastBody.{IsLastPrepared}
 use Rattle.inline_ends.proofs.CopiedRanges.{can_copy}
-use Rattle.inline_ends.proofs.CopiedDefinitions.{map_in, shifted_differ}
-use Rattle.inline_ends.proofs.LastReady.{at_key, numbers_below, line_at, IsLastMade, after_counts, all_types, in_range, ready, own_splicing, prepared}
+use Rattle.inline_ends.proofs.LastReady.{IsLastMade, after_counts, all_types, in_range, ready, own_splicing, prepared}
 use Rattle.inline_ends.proofs.TriedBody.{body_is}
 use Rattle.inline_ends.proofs.TriedRanges.{SiteInRange, blocks_in_range}
 use Rattle.inline_ends.proofs.TriedShape.{tried_length, tried_numbers, tried_count, tried_define}
@@ -38,9 +39,6 @@ try_args (Branches c) h n b = absurd h
 try_args SequencePoint h n b = absurd h
 try_args (Return vs) h n b = absurd h
 try_args (Call t args) h n b = absurd h
-
-pub same_line : (a b : Line) → Some a ≡ Some b → a ≡ b
-same_line a b e = cc
 
 pub is_tries : (f g : Function) (at : Point) (can : CanSpliceTry f g at) (l : Line) → slice_get (lines_of at.block f.blocks) at.index ≡ Some l → IsTryCall l.inst
 is_tries f g at can l found = subst (λ (z : Line). IsTryCall z.inst) (same_line can.line l (sym can.found ∙ found)) can.tries
@@ -68,20 +66,10 @@ first_of h n (b ∷ bs) s e = cc
 lines_at : (bs : List Block) → Different (block_numbers bs) → Each (λ (b : Block). lines_of b.number bs ≡ b.lines) bs
 lines_at bs d = go [] bs refl
   where
-    in_behind : (pre : List Block) (b : Block) (post : List Block) → In b.number (block_numbers (pre ++ (b ∷ post)))
-    in_behind [] b post = inl refl
-    in_behind (x ∷ pre) b post = inr (in_behind pre b post)
-
-    found : (pre : List Block) (b : Block) (post : List Block) → Different (block_numbers (pre ++ (b ∷ post))) → lines_of b.number (pre ++ (b ∷ post)) ≡ b.lines
-    found [] b post d = ap (λ c. if c then b.lines else lines_of b.number post) (eq-eqb b.number b.number refl)
-    found (x ∷ pre) b post d =
-        let other : x.number ≡ b.number → ⊥ = λ q. d.0 (subst (λ z. In z (block_numbers (pre ++ (b ∷ post)))) (sym q) (in_behind pre b post)) in
-        ap (λ c. if c then x.lines else lines_of b.number (pre ++ (b ∷ post))) (ne_eqb x.number b.number other) ∙ found pre b post d.1
-
     go : (pre post : List Block) → bs ≡ pre ++ post → Each (λ (b : Block). lines_of b.number bs ≡ b.lines) post
     go pre [] e = tt
     go pre (b ∷ post) e =
-        (ap (lines_of b.number) e ∙ found pre b post (subst (λ z. Different (block_numbers z)) e d), go (pre ++ (b ∷ [])) post (e ∙ sym (append_assoc pre (b ∷ []) post)))
+        (ap (λ (z : Block). z.lines) (found_at bs b d pre post e), go (pre ++ (b ∷ [])) post (e ∙ sym (append_assoc pre (b ∷ []) post)))
 
 -- a line has no more results than its function has values
 results_few : (m : ℕ) (bs : List Block) → length (definitions bs) ≤ m → Each (λ (b : Block). Each (λ (l : Line). length l.results ≤ m) b.lines) bs
@@ -119,7 +107,7 @@ module _ (f g : Function) (at : Point) (sf : IsSound f) (sg : IsSound g) (can : 
       let fv = can.few_values in
       let fs = can.few_slots in
       let fb = can.few_blocks in
-      let reach : NamesReach n (counts_of g) = record { values = omega (arith, fv, values); slots = omega (arith, fs, slots); blocks = blocks; callees = ap length callees ∙ imp.callee_table; sigs = ap length sigs ∙ imp.sig_table } in
+      let reach = names_reach f g i imp n values slots blocks sigs callees (omega (arith, fv)) (omega (arith, fs)) in
       can_try n (length g.types) g.blocks (omega (arith, fv)) (can_copy n (counts_of g) reach g.blocks sg.blocks (numbers_below g.blocks (length g.blocks) sg.block_range)) (results_few (length g.types) g.blocks (defined_bound g sg))
       (with_calls_below (λ b. get_or n.blocks b 0) (length f.blocks) (2 ^ 32 - 1) g.blocks numbers (omega (arith, fb)))
 
@@ -139,9 +127,9 @@ module _ (f g : Function) (at : Point) (sf : IsSound f) (sg : IsSound g) (can : 
 
       block_below : (b : ℕ) → b < length g.blocks → get_or n.blocks b 0 < length f.blocks + length B
       block_below b h =
-          at_key (λ k. get_or n.blocks k 0) (length f.blocks + length B) (block_numbers g.blocks)
+          named_below n g sg (length f.blocks + length B)
           (keys_below (λ k. get_or n.blocks k 0) (length f.blocks) (length f.blocks + length B) g.blocks numbers (let m = many in omega (arith, m)))
-          b (all_in (length g.blocks) (block_numbers g.blocks) sg.blocks_differ sg.block_range (length-map g.blocks (λ (b : Block). b.number)) b h)
+          b h
 
       -- the site's parts, read off its line
       parts : (j : Instruction) → kind_of j ≡ Tries s.normal s.table → Below (length f.types) (values_used j) → Below (length f.blocks) (blocks_used j)
@@ -185,13 +173,9 @@ module _ (f g : Function) (at : Point) (sf : IsSound f) (sg : IsSound g) (can : 
       body_in_range = blocks_in_range n s (counts_of g) N (in_range f g at l i imp n q B made block_below) site_in_range (length f.blocks) g.blocks numbers (let m = many in omega (arith, m)) sg.blocks
 
       body_undefined : (v : ℕ) → In v (definitions B) → In v (definitions f.blocks) → ⊥
-      body_undefined v j k =
-          let low = below_in (length f.types) (definitions f.blocks) v (definitions_below (counts_of f) f.blocks sf.blocks) k in
-          let old = map_in (λ u. n.values + u) v (definitions g.blocks) ((tried_define n s g.blocks).inside v j) in
-          let e = old.2 in
-          omega (arith, low, e, values)
+      body_undefined v j k = moved_undefined f g sf n values v ((tried_define n s g.blocks).inside v j) k
 
-      pub try_prepared : IsLastPrepared f g at q
+      pub try_prepared : IsLastPrepared f g at i q
       try_prepared =
           let m = many in
           let some : 0 < length B = let h = can.has_block in omega (arith, h, m) in

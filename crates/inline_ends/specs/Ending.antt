@@ -1,5 +1,5 @@
 -- A body in a caller's blocks, in the place of a call that ends its block.
-use Rattle.std.specs.Prelude.{ℕ, ◌+◌, List, [], ◌∷◌, ◌++◌, take, nat_eq, if◌then◌else◌, slice_set}
+use Rattle.std.specs.Prelude.{ℕ, ◌+◌, List, [], ◌∷◌, ◌++◌, take, nat_eq, if◌then◌else◌}
 use Rattle.ir_core.specs.Module.{Line, Block}
 
 -- the block a ends in the jump in place of its last line i; the body stands behind it
@@ -13,8 +13,3 @@ with_last_body a i jump body (b ∷ bs) =
 abbrev pub numbered : {A : Type 0} → ℕ → List A → List ℕ
 numbered n [] = []
 numbered n (x ∷ xs) = n ∷ numbered (n + 1) xs
-
--- a table in which the keys have the numbers from n on
-abbrev pub with_numbers : List ℕ → List ℕ → ℕ → List ℕ
-with_numbers t [] n = t
-with_numbers t (k ∷ ks) n = with_numbers (slice_set t k n) ks (n + 1)

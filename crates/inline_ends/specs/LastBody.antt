@@ -12,6 +12,7 @@ use Rattle.ir_core.specs.Viewed.{line_of}
 use Rattle.ir_semantics.specs.Import.{sigs_after, callees_after}
 use Rattle.ir_semantics.specs.Renaming.{typed_under}
 use Rattle.ir_semantics.specs.Splice.{Naming, Splicing, kind_of, callee_names, body, jump_in, after_blocks, new_types}
+use Rattle.body_import.specs.declared.declarations.Import.{Import}
 use Rattle.inline_body.specs.declared.piece.PreparedBody.{PreparedBody}
 use Rattle.inline_body.specs.WithBody.{empty_from, all_of, lines_in, numbers_of, counts_with}
 use Rattle.inline_body.specs.Prepared.{appended, body_of}
@@ -58,11 +59,13 @@ pub record IsLastReady (f : Function) (site : Point) (q : PreparedBody) : Type 0
   pub lines_undefined : (v : ℕ) → In v (line_definitions (lines_in q.block_lines)) → In v (definitions f.blocks) → ⊥
   pub apart : (v : ℕ) → In v (line_definitions (lines_in q.block_lines)) → In v (all_of (q.first ∷ q.block_params)) → ⊥
 
--- the body is ready for f, and is that of the splice by some names
-pub record IsLastPrepared (f g : Function) (at : Point) (q : PreparedBody) : Type 0 where
+-- the body is ready for f, is that of the splice by some names, and brings the declarations of the import
+pub record IsLastPrepared (f g : Function) (at : Point) (i : Import) (q : PreparedBody) : Type 0 where
   pub ready : IsLastReady f at q
   pub line : Line
   pub found : slice_get (lines_of at.block f.blocks) at.index ≡ Some line
   pub naming : Naming
   pub keeps : Keeps f naming
   pub is_body : IsLastBodyOf (splicing_at naming f g at line) f at q
+  pub sigs : q.sigs ≡ i.sigs.added
+  pub callees : q.callees ≡ i.callees.added

@@ -8,9 +8,8 @@ ghost use Rattle.inline_body.specs.Named.{names_of};
 ghost use Rattle.inline_body.specs.Inlined.{copied_line, block_at, blocks_from};
 ghost use Rattle.inline_ends.specs.Copied.{copied_block, CanCopy};
 
-use crate::numbers::renumber_values;
 use debug_tags::Tags;
-use inline_body::{BlockLines, InlinedBlocks, Names, copy_lines};
+use inline_body::{BlockLines, InlinedBlocks, Names, copy_lines, renumber_values};
 use ir_core::{Block, Func, List};
 use std::alloc::{AllocError, Global};
 

@@ -14,7 +14,7 @@ mod try_splice;
 mod trying;
 
 pub use copying::copy_blocks;
-pub use numbers::{number_blocks, renumber_values};
+pub use numbers::number_blocks;
 pub use piece::put_last_piece;
 pub use placing::put_last_body;
 pub use prepare::prepare_tail;

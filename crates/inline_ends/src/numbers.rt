@@ -1,12 +1,9 @@
-//! Numbers of a callee's blocks and values in the caller.
+//! Numbers of a callee's blocks in the caller.
 ghost use Rattle.std.specs.Prelude.{◌≡◌, ◌+◌, ◌<◌, ◌^◌, length, map, get_or, IfOk};
-ghost use Rattle.ir_core.specs.Lists.{Each};
 ghost use Rattle.ir_core.specs.Lookup.{block_numbers};
-ghost use Rattle.inline_body.specs.Named.{names_of, Moves};
 ghost use Rattle.inline_ends.specs.Ending.{numbered};
 
-use inline_body::Names;
-use ir_core::{Block, Func, List, Value};
+use ir_core::{Block, Func, List};
 use std::alloc::{AllocError, Global};
 
 /// For each block of a callee its number in the caller: those from `first` on, in list order.
@@ -26,20 +23,4 @@ pub fn number_blocks(alloc: Global, callee: &Func, first: u32) -> Result<List<Bl
         number += 1;
     }
     Ok(List::from_vec(table))
-}
-
-/// The numbers of a callee's values in the caller.
-pub fn renumber_values(
-    alloc: Global,
-    names: &Names,
-    values: &[Value],
-) -> Result<List<Value>, AllocError>
-    requires { Each (Moves names.now.values) values.now }
-    ensures { IfOk result (λ list. list ≡ map (names_of names.now).value values.now) }
-{
-    let mut list = Vec::new(alloc);
-    for value in values {
-        list.push(names.value(*value))?;
-    }
-    Ok(List::from_vec(list))
 }

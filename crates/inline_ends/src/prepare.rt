@@ -1,53 +1,35 @@
 //! A callee's body made ready for a tail call, before the caller is changed.
 ghost use Rattle.std.specs.Prelude.{◌≡◌, length, IfOk};
-ghost use Rattle.ir_core.specs.Viewed.{instruction_of};
-ghost use Rattle.ir_semantics.specs.Splice.{args_of};
-ghost use Rattle.body_import.specs.Imports.{IsIndexOf};
+ghost use Rattle.body_import.specs.Imports.{IsImportOf};
 ghost use Rattle.inline_ends.specs.TailCall.{CanSpliceTail};
 ghost use Rattle.inline_ends.specs.LastBody.{IsLastPrepared};
 
 use crate::copying::copy_blocks;
 use crate::numbers::number_blocks;
-use body_import::{Import, Index, plan_import};
-use inline_body::{Names, PreparedBody, jump, new_types};
-use ir_core::{Block, Func, Inst, List, Point, Value};
+use body_import::Import;
+use inline_body::{Names, PreparedBody, call_args, jump, new_types};
+use ir_core::{Block, Func, List, Point};
 use std::alloc::{AllocError, Global};
 
-/// The arguments of a call; no values where the instruction is none.
-pub(crate) fn call_args(inst: &Inst) -> &[Value]
-    ensures { result.now ≡ args_of (instruction_of inst.now) }
-{
-    match inst {
-        Inst::Call { args, .. } => args.as_slice(),
-        Inst::ReturnCall { args, .. } => args.as_slice(),
-        Inst::TryCall { args, .. } => args.as_slice(),
-        Inst::CallIndirect { args, .. } => args.as_slice(),
-        Inst::ReturnCallIndirect { args, .. } => args.as_slice(),
-        Inst::TryCallIndirect { args, .. } => args.as_slice(),
-        _ => &[],
-    }
-}
-
-/// A callee's body for a tail call of a caller that has so many blocks, and whose declarations have the index. The
-/// caller stays as it is. Time is the callee's size, times the logarithm of the number of declarations. Only
-/// `AllocError` refuses.
+/// A callee's body for a tail call of a caller that has so many blocks, and takes over the import. The caller stays as
+/// it is. Time is the callee's size. Only `AllocError` refuses.
 pub fn prepare_tail(
     alloc: Global,
     caller: &Func,
     block_count: u32,
-    index: &Index,
+    import: Import,
     site: Point,
     callee: &Func,
 ) -> Result<PreparedBody, AllocError>
     requires counted { block_count ≡ length caller.now.function.blocks }
-    requires indexed { IsIndexOf caller.now.function index.now }
+    requires imported { IsImportOf caller.now.function callee.now.function import }
     requires can { CanSpliceTail caller.now.function callee.now.function site }
-    ensures { IfOk result (λ body. IsLastPrepared caller.now.function callee.now.function site body) }
+    ensures { IfOk result (λ body. IsLastPrepared caller.now.function callee.now.function site import body) }
 {
     let _ = caller.values();
     let _ = callee.values();
     let call = caller.inst(site);
-    let Import { sigs, callees } = plan_import(alloc, index, caller, callee)?;
+    let Import { sigs, callees } = import;
     let names = Names {
         values: caller.values() as u32,
         slots: caller.slots().len() as u32,

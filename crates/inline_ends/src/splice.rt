@@ -1,21 +1,14 @@
 //! A tail call replaced by its callee's body.
-ghost use Rattle.std.specs.Prelude.{◌≡◌, length, OnOk, OnErr};
+ghost use Rattle.std.specs.Prelude.{◌≡◌, OnOk, OnErr};
 ghost use Rattle.inline_body.specs.PlainCall.{IsSplice};
 ghost use Rattle.inline_ends.specs.TailCall.{CanSpliceTail};
 
 use crate::piece::put_last_piece;
 use crate::prepare::prepare_tail;
-use body_import::index_declarations;
-use inline_body::body_room;
+use body_import::{index_declarations, plan_import};
+use inline_body::{body_room, count_blocks};
 use ir_core::{Func, Point};
 use std::alloc::{AllocError, Global};
-
-/// The number of blocks.
-pub(crate) fn count_blocks(func: &Func) -> usize
-    ensures { result ≡ length func.now.function.blocks }
-{
-    func.blocks().count()
-}
 
 /// Replaces a tail call by its callee's body. After `AllocError` the caller is as before. Time is the size of both,
 /// times the logarithm of the number of declarations.
@@ -32,11 +25,12 @@ pub fn splice_tail(
     let _ = caller.values();
     let block_count = count_blocks(caller) as u32;
     let index = index_declarations(alloc, caller)?;
+    let import = plan_import(alloc, &index, caller, callee)?;
     let place = Point {
         block: site.block,
         index: site.index,
     };
-    let body = prepare_tail(alloc, caller, block_count, &index, place, callee)?;
+    let body = prepare_tail(alloc, caller, block_count, import, place, callee)?;
     let room = body_room(&body);
     caller.reserve(room)?;
     let _ = put_last_piece(caller, site, body);

@@ -11,9 +11,8 @@ ghost use Rattle.inline_ends.specs.Tried.{with_line};
 ghost use Rattle.inline_ends.specs.Tried.{tried_block, tried_blocks};
 ghost use Rattle.inline_ends.specs.TriedParts.{made_blocks, AsMany, with_rest, CanTry, Called};
 
-use crate::numbers::renumber_values;
 use crate::trying::{TrySite, is_plain_call, tried_line};
-use inline_body::{BlockLines, InlinedBlocks, Names};
+use inline_body::{BlockLines, InlinedBlocks, Names, renumber_values};
 use ir_core::{Block, Func, InstData, List, Value};
 use std::alloc::{AllocError, Global};
 

@@ -2,16 +2,15 @@
 ghost use Rattle.std.specs.Prelude.{◌≡◌, ◌++◌, length, IfOk};
 ghost use Rattle.ir_core.specs.Viewed.{instruction_of};
 ghost use Rattle.ir_semantics.specs.Splice.{Tries, kind_of};
-ghost use Rattle.body_import.specs.Imports.{IsIndexOf};
+ghost use Rattle.body_import.specs.Imports.{IsImportOf};
 ghost use Rattle.inline_ends.specs.TryCallSite.{IsTryCall, CanSpliceTry};
 ghost use Rattle.inline_ends.specs.LastBody.{IsLastPrepared};
 
-use crate::prepare::call_args;
 use crate::try_body::try_blocks;
 use crate::try_numbers::number_try_blocks;
 use crate::trying::TrySite;
-use body_import::{Import, Index, plan_import};
-use inline_body::{Names, PreparedBody, jump, new_types};
+use body_import::Import;
+use inline_body::{Names, PreparedBody, call_args, jump, new_types};
 use ir_core::{Block, Callee, Func, Inst, InstData, List, Point};
 use std::alloc::{AllocError, Global};
 
@@ -41,26 +40,26 @@ fn site_of<'a>(call: &'a InstData, own: &'a [Callee], added: &'a [Callee]) -> Tr
     }
 }
 
-/// A callee's body for a `try_call` of a caller that has so many blocks, and whose declarations have the index. The
-/// caller stays as it is. Time is the callee's size, and the number of its calls times the size of the site's table and
-/// tags, times the logarithm of the number of declarations. Only `AllocError` refuses.
+/// A callee's body for a `try_call` of a caller that has so many blocks, and takes over the import. The caller stays as
+/// it is. Time is the callee's size, and the number of its calls times the size of the site's table and tags. Only
+/// `AllocError` refuses.
 pub fn prepare_try(
     alloc: Global,
     caller: &Func,
     block_count: u32,
-    index: &Index,
+    import: Import,
     site: Point,
     callee: &Func,
 ) -> Result<PreparedBody, AllocError>
     requires counted { block_count ≡ length caller.now.function.blocks }
-    requires indexed { IsIndexOf caller.now.function index.now }
+    requires imported { IsImportOf caller.now.function callee.now.function import }
     requires can { CanSpliceTry caller.now.function callee.now.function site }
-    ensures { IfOk result (λ body. IsLastPrepared caller.now.function callee.now.function site body) }
+    ensures { IfOk result (λ body. IsLastPrepared caller.now.function callee.now.function site import body) }
 {
     let _ = caller.values();
     let _ = callee.values();
     let call = caller.inst(site);
-    let Import { sigs, callees } = plan_import(alloc, index, caller, callee)?;
+    let Import { sigs, callees } = import;
     let names = Names {
         values: caller.values() as u32,
         slots: caller.slots().len() as u32,

@@ -4,10 +4,9 @@ ghost use Rattle.inline_body.specs.PlainCall.{IsSplice};
 ghost use Rattle.inline_ends.specs.TryCallSite.{CanSpliceTry};
 
 use crate::piece::put_last_piece;
-use crate::splice::count_blocks;
 use crate::try_prepare::prepare_try;
-use body_import::index_declarations;
-use inline_body::body_room;
+use body_import::{index_declarations, plan_import};
+use inline_body::{body_room, count_blocks};
 use ir_core::{Func, Point};
 use std::alloc::{AllocError, Global};
 
@@ -26,11 +25,12 @@ pub fn splice_try(
     let _ = caller.values();
     let block_count = count_blocks(caller) as u32;
     let index = index_declarations(alloc, caller)?;
+    let import = plan_import(alloc, &index, caller, callee)?;
     let place = Point {
         block: site.block,
         index: site.index,
     };
-    let body = prepare_try(alloc, caller, block_count, &index, place, callee)?;
+    let body = prepare_try(alloc, caller, block_count, import, place, callee)?;
     let room = body_room(&body);
     caller.reserve(room)?;
     let _ = put_last_piece(caller, site, body);

@@ -6,7 +6,7 @@ ghost use Rattle.ir_core.specs.Uses.{slots_shown, targets_used, table_targets};
 ghost use Rattle.ir_core.specs.Lists.{Below};
 ghost use Rattle.ir_core.specs.Module.{Direct, Indirect};
 ghost use Rattle.ir_core.specs.Viewed.{instruction_of, line_of};
-ghost use Rattle.ir_semantics.specs.Renaming.{instruction_under, entry_under, tag_under};
+ghost use Rattle.ir_semantics.specs.Renaming.{entry_under};
 ghost use Rattle.ir_semantics.specs.Splice.{from};
 ghost use Rattle.inline_body.specs.Named.{names_of, Moves, Reached, blocks_of};
 ghost use Rattle.inline_ends.specs.Tried.{is_plain_call as spec_is_plain_call, returned_arg, return_line, sig_called};
@@ -16,7 +16,7 @@ ghost use Rattle.inline_ends.specs.TriedParts.{Called};
 
 use debug_tags::Tags;
 use exn_tables::Table;
-use inline_body::{Names, copy_inst, copy_tags};
+use inline_body::{Names, copy_line, line_with};
 use ir_core::{
     Arg, Block, BlockCall, Boxed, Callee, FuncRef, Inst, InstData, List, SigRef, Value, Values,
 };
@@ -144,34 +144,6 @@ fn joined_table(
     Boxed::new(alloc, Table::new(entries))
 }
 
-/// A line of the callee with another instruction and results, and with these tags in front of its own.
-fn line_with(
-    alloc: Global,
-    names: &Names,
-    outer: &Tags,
-    line: &InstData,
-    inst: Inst,
-    results: Values,
-) -> Result<InstData, AllocError>
-    requires { Each (Moves names.now.slots) (slots_shown line.now.tags) }
-    ensures { IfOk result
-        (λ l. line_of l
-        ≡ record {
-          inst = instruction_of inst;
-          ty = line.now.ty;
-          results = results;
-          tags = outer.now
-              ++ map (tag_under (names_of names.now)) line.now.tags;
-        }) }
-{
-    Ok(InstData {
-        inst,
-        ty: line.ty,
-        results,
-        tags: copy_tags(alloc, names, outer, &line.tags)?,
-    })
-}
-
 /// A `try_call` with the site's table in place of a direct call.
 fn try_direct(
     alloc: Global,
@@ -273,45 +245,6 @@ fn join_table(
     line_with(alloc, names, site.tags, line, inst, Values::none())
 }
 
-/// A line that stays under its numbers, with these tags in front of its own.
-fn copy_with(
-    alloc: Global,
-    names: &Names,
-    outer: &Tags,
-    line: &InstData,
-) -> Result<InstData, AllocError>
-    requires { Reached names.now (line_of line.now) }
-    ensures { IfOk result
-        (λ l. line_of l
-        ≡ record {
-          inst = instruction_under (names_of names.now) (instruction_of line.now.inst);
-          ty = line.now.ty;
-          results = map (names_of names.now).value line.now.results;
-          tags = outer.now
-              ++ map (tag_under (names_of names.now)) line.now.tags;
-        }) }
-{
-    let inst = copy_inst(alloc, names, line)?;
-    let results = names.of_values(alloc, &line.results)?;
-    line_with(alloc, names, outer, line, inst, results)
-}
-
-/// The same, with no tags in front.
-fn copy_alone(alloc: Global, names: &Names, line: &InstData) -> Result<InstData, AllocError>
-    requires { Reached names.now (line_of line.now) }
-    ensures { IfOk result
-        (λ l. line_of l
-        ≡ record {
-          inst = instruction_under (names_of names.now) (instruction_of line.now.inst);
-          ty = line.now.ty;
-          results = map (names_of names.now).value line.now.results;
-          tags = map (tag_under (names_of names.now)) line.now.tags;
-        }) }
-{
-    let none = Tags::new(Vec::new(alloc));
-    copy_with(alloc, names, &none, line)
-}
-
 /// The jump to the normal target in place of a return.
 fn tried_return(
     alloc: Global,
@@ -360,7 +293,6 @@ pub fn tried_line(
         }
         Inst::TryCall { .. } => join_table(alloc, names, site, line),
         Inst::TryCallIndirect { .. } => join_table(alloc, names, site, line),
-        Inst::SequencePoint => copy_with(alloc, names, site.tags, line),
-        _ => copy_alone(alloc, names, line),
+        _ => copy_line(alloc, names, site.tags, line),
     }
 }

@@ -11,7 +11,7 @@ use Rattle.ir_core.specs.Lists.{Each}
 use Rattle.ir_core.specs.Module.{Simple, Branch, CallTarget, TryTarget, Instruction, Line}
 use Rattle.ir_core.specs.Module as insts
 use Rattle.ir_semantics.specs.Renaming.{Renaming, arg_under, target_under, tag_under, entry_under, simple_under, called_under, try_target_under, instruction_under, line_under}
-use Rattle.text_read_back.proofs.Lists.{each_left, each_right}
+use Rattle.ir_core.proofs.Members.{each_left, each_right}
 use Rattle.ir_core.specs.Uses.{table_targets, arg_values_used, targets_used, simple_used, called_used, values_used, simple_slots, slots_used, slots_shown, called_callees, simple_callees, callees_used, called_sigs, sigs_used, blocks_used}
 
 module _ (r q : Renaming) where

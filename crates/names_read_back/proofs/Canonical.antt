@@ -4,6 +4,7 @@ use Rattle.std.specs.Prelude.{◌⊎◌, flat_map, slice_get, IsSome}
 use Rattle.std.specs.List.{range_with_len, enumerate_from}
 use Rattle.std.proofs.lemmas.Bool.{eqb-true}
 use Rattle.std.proofs.lemmas.List.{length-append, length-map, map-append}
+use Rattle.std.proofs.lemmas.Grind.{flat_map-append}
 use Rattle.ir_core.specs.declared.declarations.Callee.{Callee}
 use Rattle.ir_core.specs.declared.declarations.SlotDecl.{SlotDecl}
 use Rattle.ir_core.specs.declared.names.FuncName.{FuncName}
@@ -24,10 +25,11 @@ use Rattle.clif_names.specs.Definitions.{Step, Param, Line as Written, block_ste
 use Rattle.clif_meaning.specs.Instructions.{may_leave_out, line_of}
 use Rattle.clif_meaning.specs.Meaning as says
 use Rattle.text_read_back.specs.RawOf as raws
-use Rattle.text_read_back.proofs.Lists.{each_in, in_left, in_right, places, same_number, type_there}
+use Rattle.ir_core.proofs.Members.{in_left, in_right}
+use Rattle.text_read_back.proofs.Lists.{each_in, places, same_number, type_there}
 use Rattle.names_read_back.specs.ReadNames.{printed}
 use Rattle.names_read_back.proofs.CanonTypes.{types_kept}
-use Rattle.names_read_back.proofs.Declarations.{name_back, sig_back, slots_back, sigs_back, flat_append}
+use Rattle.names_read_back.proofs.Declarations.{name_back, sig_back, slots_back, sigs_back}
 use Rattle.names_read_back.proofs.Numbers.{value_number, is_numbering, values_canonical, line_canonical, callees_read}
 use Rattle.names_read_back.proofs.ResultTypes.{kept_is, some_type, form_types_are, results_typed}
 use Rattle.names_read_back.proofs.Types.{inst_type, line_back}
@@ -232,7 +234,7 @@ module _ (f : Function) (is : WellFormed f) where
         let ls = map Written (raws.lines f n (next + length b.params) b.lines) in
         map-append (type_of f) b.params (line_definitions b.lines)
         ∙ ap₂ (λ (xs ys : List (Option Ty)). xs ++ ys) (params_typed b.params own_params) (lines_typed same (next + length b.params) b.lines few_lines h.0 w.0 own_lines)
-        ∙ sym (ap (map some_type) (flat_append (says.step_types raw value types) ps ls) ∙ map-append some_type (types_of_steps ps) (types_of_steps ls))
+        ∙ sym (ap (map some_type) (flat_map-append (says.step_types raw value types) ps ls) ∙ map-append some_type (types_of_steps ps) (types_of_steps ls))
 
   blocks_are : (k next : ℕ) (bs : List Block) → Left next bs → map names.block (block_numbers bs) ≡ range_with_len k (length bs) → map (says.block_with raw value types) (enumerate_from k (raws.blocks f n next bs)) ≡ map (block_under names) bs
   blocks_are k next [] left e = refl
@@ -249,7 +251,7 @@ module _ (f : Function) (is : WellFormed f) where
       ap (map (type_of f)) (sym (append_assoc b.params (line_definitions b.lines) (definitions bs)))
       ∙ map-append (type_of f) (b.params ++ line_definitions b.lines) (definitions bs)
       ∙ ap₂ (λ (xs ys : List (Option Ty)). xs ++ ys) (block_typed next b bs left same) (blocks_typed same (next_after next b) bs (others next b bs left))
-      ∙ sym (ap (map some_type) (flat_append (says.step_types raw value types) steps more) ∙ map-append some_type (types_of_steps steps) (types_of_steps more))
+      ∙ sym (ap (map some_type) (flat_map-append (says.step_types raw value types) steps more) ∙ map-append some_type (types_of_steps steps) (types_of_steps more))
 
   -- ---- the whole function
 

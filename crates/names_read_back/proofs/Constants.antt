@@ -3,7 +3,6 @@ use Rattle.std.proofs.Common.{◌≡◌, ℕ, suc, ◌*◌, lit≤, subst, ◌-�
 use Rattle.std.specs.Prelude.{ℤ, pos, negsuc, neg_ℤ, ◌≤ℤ◌, ◌<ℤ◌}
 use Rattle.std.proofs.Math.Nat.{mod-eq_of_lt}
 use Rattle.std.proofs.lemmas.Int.{ints}
-use Rattle.std.proofs.lemmas.Nat.{mod_below}
 use Rattle.std.proofs.lemmas.Bool.Decides.{leb_tells}
 use Rattle.clk_num.specs.Numbers.{signed, wrapped}
 use Rattle.clk_num.specs.Operations.{DataValue}
@@ -12,17 +11,12 @@ use Rattle.clk_num.specs.declared.op.Op.{Op}
 use Rattle.clk_num.specs.declared.width.Width.{Width}
 use Rattle.clk_num.specs.declared.width.Width.TheVariants.{W8, W16, W32, W64, W128}
 use Rattle.clk_num.proofs.Numbers.{signed_low, signed_high, complement_mod}
-use Rattle.ir_core.specs.Lookup.{width_of, ty_of}
+use Rattle.ir_core.specs.Lookup.{ty_of}
 use Rattle.ir_core.specs.Forms.{ValueInRange}
 use Rattle.ir_text.specs.Writable.{by_zeros, SignedWithin, ImmediateWithin, ImmediateWritable, WhereWidest}
+use Rattle.ir_semantics.proofs.SafetyTypes.{width_ty}
+use Rattle.clif_meaning.proofs.NumberLaws.{wrapped_below}
 use Rattle.clif_meaning.specs.Instructions as says
-
-pub width_back : (w : Width) → width_of (ty_of w) ≡ w
-width_back W8 = refl
-width_back W16 = refl
-width_back W32 = refl
-width_back W64 = refl
-width_back W128 = refl
 
 -- what is read as signed is the value again, modulo the width
 signed_back : (b v : ℕ) → v < 2 ^ b → wrapped b (signed b v) ≡ v
@@ -37,14 +31,9 @@ abbrev datum : Width → ℕ → DataValue
 datum w v = record { width = w; value = v }
 
 pub constant_back : (d : DataValue) → ValueInRange d → says.constant (ty_of d.width) (signed (bits_of d.width) d.value) ≡ d
-constant_back d h = ap₂ datum (width_back d.width) (ap (λ (w : Width). wrapped (bits_of w) (signed (bits_of d.width) d.value)) (width_back d.width) ∙ signed_back (bits_of d.width) d.value h)
+constant_back d h = ap₂ datum (width_ty d.width) (ap (λ (w : Width). wrapped (bits_of w) (signed (bits_of d.width) d.value)) (width_ty d.width) ∙ signed_back (bits_of d.width) d.value h)
 
 -- ---- immediates: a form keeps 64 bits of its number
-
-wrapped_64_below : (z : ℤ) → wrapped 64 z < 2 ^ 64
-unfolding wrapped
-wrapped_64_below (pos m) = mod_below m (2 ^ 64) (lit≤ tt)
-wrapped_64_below (negsuc m) = omega arith
 
 -- a value of up to 64 bits
 module _ (b v m : ℕ) (h : v < 2 ^ b) (all : 2 ^ 64 ≡ m * 2 ^ b) (some : 0 < 2 ^ b) (few : 2 ^ b ≤ 2 ^ 64) where
@@ -74,7 +63,7 @@ module _ (b v m : ℕ) (h : v < 2 ^ b) (all : 2 ^ 64 ≡ m * 2 ^ b) (some : 0 < 
   narrow_back : (zeros : Bool) → wrapped b (says.extended zeros (wrapped 64 (signed b v))) ≡ v
   unfolding wrapped
   narrow_back true = kept_64
-  narrow_back false = signed_64 (wrapped 64 (signed b v)) (wrapped_64_below (signed b v)) ∙ kept_64
+  narrow_back false = signed_64 (wrapped 64 (signed b v)) (wrapped_below 64 (signed b v)) ∙ kept_64
 
 wide_zeros : (v : ℕ) → v < 2 ^ 64 → wrapped 128 (pos (wrapped 64 (signed 128 v))) ≡ v
 unfolding wrapped
@@ -121,5 +110,5 @@ immediate_at W128 false v h k = wide_signed v h k
 
 pub immediate_back : (o : Op) (d : DataValue) → ImmediateWritable o d → says.immediate o (ty_of d.width) (signed (bits_of d.width) d.value) ≡ d
 immediate_back o d h =
-    ap₂ datum (width_back d.width)
-    (ap (λ (w : Width). wrapped (bits_of w) (says.extended (by_zeros o) (wrapped 64 (signed (bits_of d.width) d.value)))) (width_back d.width) ∙ immediate_at d.width (by_zeros o) d.value h.0 h.1)
+    ap₂ datum (width_ty d.width)
+    (ap (λ (w : Width). wrapped (bits_of w) (says.extended (by_zeros o) (wrapped 64 (signed (bits_of d.width) d.value)))) (width_ty d.width) ∙ immediate_at d.width (by_zeros o) d.value h.0 h.1)

@@ -1,9 +1,10 @@
 -- Names, signatures and declarations of a raw function mean those of the function.
-use Rattle.std.proofs.Common.{◌≡◌, ℕ, zero, suc, ◌+◌, ◌<◌, nat_eq, ◌==◌, Bool, true, false, List, [], ◌∷◌, ◌++◌, map, length, Option, refl, sym, ap, ap₂, ◌∙◌, arith, append_assoc}
+use Rattle.std.proofs.Common.{◌≡◌, ℕ, zero, suc, ◌+◌, ◌<◌, nat_eq, ◌==◌, Bool, true, false, List, [], ◌∷◌, ◌++◌, map, length, Option, refl, sym, ap, ap₂, ◌∙◌, arith}
 use Rattle.std.specs.Prelude.{flat_map}
 use Rattle.std.specs.List.{range_with_len}
 use Rattle.std.proofs.lemmas.Bool.{eqb-true}
 use Rattle.std.proofs.lemmas.Bool.Decides.{nat_tests}
+use Rattle.std.proofs.lemmas.Grind.{flat_map-append}
 use Rattle.std.proofs.lemmas.List.{append-nil}
 use Rattle.ir_core.specs.declared.declarations.Callee.{Callee}
 use Rattle.ir_core.specs.declared.declarations.SlotDecl.{SlotDecl}
@@ -63,16 +64,12 @@ alignment_back bytes = go (bytes == 1) refl
     go true e = rw e (sym (eqb-true bytes 1 e))
     go false e = rw e refl
 
-pub flat_append : {A B : Type 0} (g : A → List B) (xs ys : List A) → flat_map g (xs ++ ys) ≡ flat_map g xs ++ flat_map g ys
-flat_append g [] ys = refl
-flat_append {A} {B} g (x ∷ xs) ys = ap (λ (zs : List B). g x ++ zs) (flat_append g xs ys) ∙ sym (append_assoc (g x) (flat_map g xs) (flat_map g ys))
-
 -- a function's declarations, in order
 abbrev pub decls_of : Function → List RawDecl
 decls_of f = raws.numbered raws.slot_decl 0 f.slots ++ (raws.numbered raws.sig_decl 0 f.sigs ++ raws.numbered raws.callee_decl 0 f.callees)
 
 pub three : {B : Type 0} (g : RawDecl → List B) (xs ys zs : List RawDecl) → flat_map g (xs ++ (ys ++ zs)) ≡ flat_map g xs ++ (flat_map g ys ++ flat_map g zs)
-three {B} g xs ys zs = flat_append g xs (ys ++ zs) ∙ ap (λ (ws : List B). flat_map g xs ++ ws) (flat_append g ys zs)
+three {B} g xs ys zs = flat_map-append g xs (ys ++ zs) ∙ ap (λ (ws : List B). flat_map g xs ++ ws) (flat_map-append g ys zs)
 
 -- what declarations of another kind give
 pub none_of : {A B : Type 0} (g : RawDecl → List B) (decl : ℕ → A → RawDecl) → ((k : ℕ) (x : A) → g (decl k x) ≡ []) → (k : ℕ) (xs : List A) → flat_map g (raws.numbered decl k xs) ≡ []

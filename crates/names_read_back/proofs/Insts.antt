@@ -38,7 +38,8 @@ use Rattle.text_read_back.specs.RawOf as raws
 use Rattle.names_read_back.specs.ReadNames.{read_under, ConversionType, NarrowType, AccessType, SimpleType, IsTypeFor}
 use Rattle.names_read_back.proofs.Opcodes.{Spells, plain_opcode, op_spells, uload_8, uload_16, uload_32, sload_8, sload_16, sload_32, istore_8, istore_16, istore_32, load_spells, store_spells, trapz_spells, trapnz_spells, call_spells, return_call_spells, call_indirect_spells, return_call_indirect_spells, nop_spells, sequence_point_spells}
 use Rattle.names_read_back.proofs.Operands.{code_back, offset_back, flags_back, values_back, target_back, targets_back, entries_back}
-use Rattle.names_read_back.proofs.Constants.{width_back, constant_back, immediate_back}
+use Rattle.ir_semantics.proofs.SafetyTypes.{width_ty}
+use Rattle.names_read_back.proofs.Constants.{constant_back, immediate_back}
 use Rattle.text_read_back.proofs.Bytes.{by_bytes}
 
 module _ (n : Numbering) (at : Renaming) where
@@ -90,7 +91,7 @@ module _ (n : Numbering) (at : Renaming) where
   compare_back c t (x ∷ y ∷ z ∷ more) h = absurd (omega arith)
 
   converts : (t : Ty) (w : Width) (o : Width → Op) → t ≡ ty_of w → o (width_of t) ≡ o w
-  converts t w o e = ap (λ (u : Ty). o (width_of u)) e ∙ ap o (width_back w)
+  converts t w o e = ap (λ (u : Ty). o (width_of u)) e ∙ ap o (width_ty w)
 
   pure_back : (o : Op) (t : Ty) (args : List ℕ) → length args ≡ op_operands o → ConversionType t (conversion o)
       → meaning t (raws.simple n None (insts.Pure o args)) ≡ insts.Plain (insts.Pure o (map r.value args))

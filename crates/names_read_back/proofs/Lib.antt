@@ -5,12 +5,12 @@ mod Constants
 mod Declarations
 mod Example
 mod Insts
-mod Names
-mod NoRepeats
-mod Numbers
+pub mod Names
+pub mod NoRepeats
+pub mod Numbers
 mod Opcodes
 mod Operands
 mod ResultTypes
 mod Spotless
-mod TextMeans
+pub mod TextMeans
 mod Types

@@ -5,9 +5,10 @@ use Rattle.std.specs.List.{range_with_len}
 use Rattle.ir_core.specs.declared.names.FuncName.{FuncName}
 use Rattle.ir_core.specs.declared.names.FuncName.TheVariants as names
 use Rattle.ir_core.specs.Lists.{In, Each, Different}
-use Rattle.ir_core.specs.Lookup.{same_bytes, same_name, find_function}
+use Rattle.ir_core.specs.Lookup.{same_name, find_function}
 use Rattle.ir_core.specs.Module.{Function, Module}
 use Rattle.ir_core.specs.WellFormed.{IsModule, WellFormed, DifferentNames}
+use Rattle.ir_core.proofs.Equal.{equal_name}
 use Rattle.ir_text.specs.Writable.{FunctionWritable}
 use Rattle.clif_insts.specs.declared.raw.RawName.{RawName}
 use Rattle.clif_read.specs.declared.raw.RawFuncName.{RawFuncName}
@@ -28,7 +29,6 @@ use Rattle.text_read_back.specs.ReadsBack.{ReadsBack}
 use Rattle.clif_read.specs.Stretches.{IsModuleText}
 use Rattle.clif_read.specs.declared.raw.RawModule.{RawModule}
 use Rattle.ir_text.specs.Text.{text_of}
-use Rattle.text_read_back.proofs.Lists.{same_number}
 use Rattle.names_read_back.proofs.Names.{found_is, ends}
 use Rattle.names_read_back.proofs.Numbers.{slot_words_are, sig_words_are, callee_words_are, value_words_are, block_words_are}
 use Rattle.names_read_back.proofs.Spotless.{slot_words, sig_words, callee_words, block_words, name_same}
@@ -86,14 +86,6 @@ module _ (f : Function) (is : WellFormed f) (w : FunctionWritable f) (r : RawFun
 
 -- ---- names of functions
 
-bytes_same : (a : List ℕ) → same_bytes a a ≡ true
-bytes_same [] = refl
-bytes_same (x ∷ a) = rw (same_number x) (bytes_same a)
-
-name_is : (a b : FuncName) → a ≡ b → same_name a b ≡ true
-name_is (names.Text x) b e = subst (λ (c : FuncName). same_name (names.Text x) c ≡ true) e (bytes_same x)
-name_is (names.User x i) b e = subst (λ (c : FuncName). same_name (names.User x i) c ≡ true) e (rw (same_number x) (same_number i))
-
 -- two names that are the same mean one name
 means_same : (a b : RawFuncName) → SameName a b → name_of a ≡ name_of b
 means_same (func_names.Text x s) (func_names.Text y t) h = ap names.Text h
@@ -111,7 +103,7 @@ named (x ∷ rs) [] e i r g n s none = absurd cc
 named (x ∷ rs) (f ∷ fs) e zero r g n s none =
     let same : x ≡ r = cc in
     let own : bare.bare_function x ≡ raws.raw_function f = cc in
-    let here = name_is f.name n (own_name x f own ∙ ap (λ (y : RawFunction). name_of y.name) same ∙ s) in
+    let here = equal_name f.name n (own_name x f own ∙ ap (λ (y : RawFunction). name_of y.name) same ∙ s) in
     absurd (let bad = rw here at none in cc)
 named (x ∷ rs) (f ∷ fs) e (suc i) r g n s none = named rs fs (let rest : map bare.bare_function rs ≡ map raws.raw_function fs = cc in rest) i r g n s (past (same_name f.name n) f (find_function n fs) none)
   where

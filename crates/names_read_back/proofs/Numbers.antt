@@ -2,6 +2,7 @@
 use Rattle.std.proofs.Common.{◌≡◌, ℕ, ◌+◌, ◌<◌, List, [], ◌∷◌, ◌++◌, map, length, Option, refl, sym, ap, ap₂, subst, ◌∙◌, arith, append_assoc}
 use Rattle.std.specs.Prelude.{flat_map}
 use Rattle.std.specs.List.{range_with_len}
+use Rattle.std.proofs.lemmas.Grind.{flat_map-append}
 use Rattle.std.proofs.lemmas.List.{map-append, append-nil}
 use Rattle.ir_core.specs.Lists.{In, Each, Different}
 use Rattle.ir_core.specs.Lookup.{line_definitions, definitions, block_numbers, number_in}
@@ -22,10 +23,11 @@ use Rattle.clif_names.specs.Chains.{numbered, IsNumbering}
 use Rattle.clif_meaning.specs.Meaning.{numbers, decl_sigs, sig_place, callees_from}
 use Rattle.text_read_back.specs.Defining.{number_of}
 use Rattle.text_read_back.specs.RawOf as raws
-use Rattle.text_read_back.proofs.Lists.{map_both, below_length, each_as, places}
+use Rattle.ir_core.proofs.Members.{each_more}
+use Rattle.text_read_back.proofs.Lists.{map_both, below_length, places}
 use Rattle.names_read_back.specs.ReadNames.{read_under}
 use Rattle.names_read_back.proofs.Names.{own_place, IsNoAlias, plain_numbering}
-use Rattle.names_read_back.proofs.Declarations.{flat_append, three, none_of, slot_words_from, sig_words_from, callee_words_from, sig_from, decls_of, callees_back}
+use Rattle.names_read_back.proofs.Declarations.{three, none_of, slot_words_from, sig_words_from, callee_words_from, sig_from, decls_of, callees_back}
 use Rattle.names_read_back.proofs.Agreeing.{line_agrees}
 
 -- words that are numbered by place mean the canonical places
@@ -36,31 +38,32 @@ numbered_place xs words v d e h =
 -- ---- the definitions of a raw function
 
 module _ (f : Function) (n : Numbering) where
-  abbrev def_at : ℕ → Def
+  abbrev pub def_at : ℕ → Def
   def_at v = value_def (raws.value n v)
 
-  params_defs : (vs : List ℕ) → flat_map step_defs (map Param (map (raws.block_parameter f n) vs)) ≡ map def_at vs
+  pub params_defs : (vs : List ℕ) → flat_map step_defs (map Param (map (raws.block_parameter f n) vs)) ≡ map def_at vs
   params_defs [] = refl
-  params_defs (v ∷ vs) = ap (λ (z : List Def). def_at v ∷ z) (params_defs vs)
+  params_defs (v ∷ vs) = ap (λ (ds : List Def). def_at v ∷ ds) (params_defs vs)
 
   lines_defs : (next : ℕ) (ls : List Line) → flat_map step_defs (map Written (raws.lines f n next ls)) ≡ map def_at (line_definitions ls)
   lines_defs next [] = refl
   lines_defs next (l ∷ ls) =
-      ap₂ (λ (x y : List Def). x ++ y) (map_both (raws.value n) value_def l.results) (lines_defs (next + length l.results) ls)
+      ap₂ (λ (xs ys : List Def). xs ++ ys) (map_both (raws.value n) value_def l.results) (lines_defs (next + length l.results) ls)
       ∙ sym (map-append def_at l.results (line_definitions ls))
 
-  blocks_defs : (next : ℕ) (bs : List Block) → flat_map step_defs (flat_map block_steps (raws.blocks f n next bs)) ≡ map def_at (definitions bs)
+  pub block_defs : (next : ℕ) (b : Block) → flat_map step_defs (block_steps (raws.block f n next b)) ≡ map def_at (b.params ++ line_definitions b.lines)
+  block_defs next b =
+      flat_map-append step_defs (map Param (map (raws.block_parameter f n) b.params)) (map Written (raws.lines f n (next + length b.params) b.lines))
+      ∙ ap₂ (λ (xs ys : List Def). xs ++ ys) (params_defs b.params) (lines_defs (next + length b.params) b.lines)
+      ∙ sym (map-append def_at b.params (line_definitions b.lines))
+
+  pub blocks_defs : (next : ℕ) (bs : List Block) → flat_map step_defs (flat_map block_steps (raws.blocks f n next bs)) ≡ map def_at (definitions bs)
   blocks_defs next [] = refl
   blocks_defs next (b ∷ bs) =
-      let ps = map Param (map (raws.block_parameter f n) b.params) in
-      let ls = map Written (raws.lines f n (next + length b.params) b.lines) in
-      flat_append step_defs (ps ++ ls) (flat_map block_steps (raws.blocks f n (next_after next b) bs))
-      ∙ ap₂ (λ (x y : List Def). x ++ y)
-      (flat_append step_defs ps ls ∙ ap₂ (λ (x y : List Def). x ++ y) (params_defs b.params) (lines_defs (next + length b.params) b.lines))
-      (blocks_defs (next_after next b) bs)
-      ∙ append_assoc (map def_at b.params) (map def_at (line_definitions b.lines)) (map def_at (definitions bs))
-      ∙ ap (λ (z : List Def). map def_at b.params ++ z) (sym (map-append def_at (line_definitions b.lines) (definitions bs)))
-      ∙ sym (map-append def_at b.params (line_definitions b.lines ++ definitions bs))
+      flat_map-append step_defs (block_steps (raws.block f n next b)) (flat_map block_steps (raws.blocks f n (next_after next b) bs))
+      ∙ ap₂ (λ (xs ys : List Def). xs ++ ys) (block_defs next b) (blocks_defs (next_after next b) bs)
+      ∙ sym (map-append def_at (b.params ++ line_definitions b.lines) (definitions bs))
+      ∙ ap (map def_at) (append_assoc b.params (line_definitions b.lines) (definitions bs))
 
   no_alias : (vs : List ℕ) → Each IsNoAlias (map def_at vs)
   no_alias [] = tt
@@ -148,13 +151,13 @@ module _ (f : Function) (is : WellFormed f) where
   -- a line under the numbers that its text's numbers mean is the line under canonical numbers
   pub line_canonical : (l : Line) → LineWellFormed f l → Each (λ v. In v (definitions f.blocks)) l.results → line_under read_names l ≡ line_under (canonical_names f) l
   line_canonical l h defined = line_agrees read_names (canonical_names f) l
-      (each_as (λ v. In v (declared f)) (λ v. read_names.value v ≡ (canonical_names f).value v) (λ v k. values_canonical v (is.defined v k)) (values_used l.inst) h.values)
-      (each_as (λ v. In v (definitions f.blocks)) (λ v. read_names.value v ≡ (canonical_names f).value v) values_canonical l.results defined)
-      (each_as (λ b. In b (block_numbers f.blocks)) (λ b. read_names.block b ≡ (canonical_names f).block b) blocks_canonical (blocks_used l.inst) h.blocks)
-      (each_as (λ k. k < length f.slots) (λ k. read_names.slot k ≡ k) slots_canonical (slots_used l.inst) h.slots)
-      (each_as (λ k. k < length f.slots) (λ k. read_names.slot k ≡ k) slots_canonical (slots_shown l.tags) h.shown)
-      (each_as (λ k. k < length f.sigs) (λ k. read_names.sig k ≡ k) sigs_canonical (sigs_used l.inst) h.sigs)
-      (each_as (λ k. k < length f.callees) (λ k. read_names.callee k ≡ k) callees_canonical (callees_used l.inst) h.callees)
+      (each_more (λ v. In v (declared f)) (λ v. read_names.value v ≡ (canonical_names f).value v) (λ v k. values_canonical v (is.defined v k)) (values_used l.inst) h.values)
+      (each_more (λ v. In v (definitions f.blocks)) (λ v. read_names.value v ≡ (canonical_names f).value v) values_canonical l.results defined)
+      (each_more (λ b. In b (block_numbers f.blocks)) (λ b. read_names.block b ≡ (canonical_names f).block b) blocks_canonical (blocks_used l.inst) h.blocks)
+      (each_more (λ k. k < length f.slots) (λ k. read_names.slot k ≡ k) slots_canonical (slots_used l.inst) h.slots)
+      (each_more (λ k. k < length f.slots) (λ k. read_names.slot k ≡ k) slots_canonical (slots_shown l.tags) h.shown)
+      (each_more (λ k. k < length f.sigs) (λ k. read_names.sig k ≡ k) sigs_canonical (sigs_used l.inst) h.sigs)
+      (each_more (λ k. k < length f.callees) (λ k. read_names.callee k ≡ k) callees_canonical (callees_used l.inst) h.callees)
 
   pub callees_read : callees_from read_names.sig 0 (decls_of f) ≡ f.callees
-  callees_read = callees_back f read_names.sig (each_as (λ (c : Callee). c.sig < length f.sigs) (λ (c : Callee). read_names.sig c.sig ≡ c.sig) (λ c h. sigs_canonical c.sig h) f.callees is.callees)
+  callees_read = callees_back f read_names.sig (each_more (λ (c : Callee). c.sig < length f.sigs) (λ (c : Callee). read_names.sig c.sig ≡ c.sig) (λ c h. sigs_canonical c.sig h) f.callees is.callees)

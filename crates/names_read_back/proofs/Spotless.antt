@@ -6,6 +6,7 @@ use mathlib.Core.Path.{fun_ext}
 use Rattle.exn_tables.specs.declared.table.Entry.{Entry}
 use Rattle.debug_tags.specs.declared.tags.Tag.{Tag}
 use Rattle.clk_num.specs.declared.op.TrapCode.{TrapCode}
+use Rattle.std.proofs.lemmas.Grind.{flat_map-append}
 use Rattle.ir_core.specs.declared.declarations.Callee.{Callee}
 use Rattle.ir_core.specs.declared.declarations.SlotDecl.{SlotDecl}
 use Rattle.ir_core.specs.declared.instructions.Arg.{Arg}
@@ -50,7 +51,6 @@ use Rattle.clif_meaning.specs.Instructions as says
 use Rattle.clif_meaning.specs.Meaning as means
 use Rattle.text_read_back.specs.Bare as bare
 use Rattle.text_read_back.specs.Defining.{number_of}
-use Rattle.names_read_back.proofs.Declarations.{flat_append}
 
 -- ---- names and declarations
 
@@ -377,11 +377,11 @@ module _ (r : RawFunction) (value : ℕ → ℕ) (types : List (ℕ × Ty)) wher
     block_types (b ∷ bs) =
         let ps = map Param (map bare.bare_block_param b.params) in let ls = map Written (map bare.bare_line b.lines) in
         let qs = map Param b.params in let ms = map Written b.lines in
-        flat_append (step_by at g) (ps ++ ls) (flat_map block_steps (map bare.bare_block bs))
+        flat_map-append (step_by at g) (ps ++ ls) (flat_map block_steps (map bare.bare_block bs))
         ∙ ap₂ (λ (xs ys : List Ty). xs ++ ys)
-        (flat_append (step_by at g) ps ls ∙ ap₂ (λ (xs ys : List Ty). xs ++ ys) (param_types b.params) (written_types b.lines) ∙ sym (flat_append (step_by at g) qs ms))
+        (flat_map-append (step_by at g) ps ls ∙ ap₂ (λ (xs ys : List Ty). xs ++ ys) (param_types b.params) (written_types b.lines) ∙ sym (flat_map-append (step_by at g) qs ms))
         (block_types bs)
-        ∙ sym (flat_append (step_by at g) (qs ++ ms) (flat_map block_steps bs))
+        ∙ sym (flat_map-append (step_by at g) (qs ++ ms) (flat_map block_steps bs))
 
   abbrev all_types : Renaming → Function → List RawBlock → List Ty
   all_types m g bs = flat_map (step_by m g) (flat_map block_steps bs)

@@ -11,13 +11,11 @@ use Rattle.ir_semantics.specs.Canon.{canonical, canonical_module}
 use Rattle.ir_text.specs.Writable.{FunctionWritable}
 use Rattle.clif_insts.specs.declared.raw.RawName.{RawName}
 use Rattle.clif_read.specs.declared.raw.RawBlock.{RawBlock}
-use Rattle.clif_read.specs.declared.raw.RawBlockParam.{RawBlockParam}
 use Rattle.clif_read.specs.declared.raw.RawFunction.{RawFunction}
-use Rattle.clif_read.specs.declared.raw.RawLine.{RawLine}
 use Rattle.clif_read.specs.declared.raw.RawLine.TheVariants as lines
 use Rattle.clif_names.specs.declared.firsts.Def.{Def}
 use Rattle.clif_names.specs.Chains.{own_name, numbered, IsNumbering}
-use Rattle.clif_names.specs.Definitions.{Param, Line as Written, value_def, step_defs, block_steps, value_defs}
+use Rattle.clif_names.specs.Definitions.{Step, Param, Line as Written, value_def, step_defs, block_steps, steps, value_defs}
 use Rattle.clif_names.specs.Words.{place_among, place_in}
 use Rattle.clif_meaning.specs.Meaning.{FunctionMeans, FunctionsMean, Means, OneMeaning, function_with, value_types}
 use Rattle.clif_meaning.specs.Reads.{Reads}
@@ -29,7 +27,7 @@ use Rattle.clif_read.specs.Stretches.{IsModuleText}
 use Rattle.clif_read.specs.declared.raw.RawModule.{RawModule}
 use Rattle.ir_text.specs.Text.{text_of}
 use Rattle.names_read_back.proofs.Canonical.{function_is, types_are}
-use Rattle.names_read_back.proofs.Declarations.{flat_append}
+use Rattle.text_read_back.proofs.Lists.{flat_bare, map_bare}
 use Rattle.names_read_back.proofs.Names.{IsNoAlias, plain_numbering}
 use Rattle.names_read_back.proofs.Numbers.{value_number, none_aliased}
 use Rattle.names_read_back.proofs.Spotless.{function_same, types_same}
@@ -39,35 +37,28 @@ use Rattle.names_read_back.proofs.Spotless.{function_same, types_same}
 abbrev pub bare_def : Def → Def
 bare_def d = record { name = bare.bare_name d.name; target = bare.bare_option bare.bare_name d.target }
 
-results_defs : (rs : List RawName) → map value_def (map bare.bare_name rs) ≡ map bare_def (map value_def rs)
-results_defs [] = refl
-results_defs (r ∷ rs) = ap (λ (ds : List Def). bare_def (value_def r) ∷ ds) (results_defs rs)
+abbrev pub bare_step : Step → Step
+bare_step (Param p) = Param (bare.bare_block_param p)
+bare_step (Written l) = Written (bare.bare_line l)
 
-line_defs : (l : RawLine) → step_defs (Written (bare.bare_line l)) ≡ map bare_def (step_defs (Written l))
-line_defs (lines.Alias location n x) = refl
-line_defs (lines.Inst location ts rs i) = results_defs rs
+abbrev both_steps : List Step → List Step → List Step
+both_steps xs ys = xs ++ ys
 
-lines_defs : (ls : List RawLine) → flat_map step_defs (map Written (map bare.bare_line ls)) ≡ map bare_def (flat_map step_defs (map Written ls))
-lines_defs [] = refl
-lines_defs (l ∷ ls) = ap₂ (λ (xs ys : List Def). xs ++ ys) (line_defs l) (lines_defs ls) ∙ sym (map-append bare_def (step_defs (Written l)) (flat_map step_defs (map Written ls)))
+block_steps_bare : (b : RawBlock) → block_steps (bare.bare_block b) ≡ map bare_step (block_steps b)
+block_steps_bare b =
+    ap₂ both_steps (map_bare Param bare.bare_block_param bare_step (λ p. refl) b.params) (map_bare Written bare.bare_line bare_step (λ l. refl) b.lines)
+    ∙ sym (map-append bare_step (map Param b.params) (map Written b.lines))
 
-params_defs : (ps : List RawBlockParam) → flat_map step_defs (map Param (map bare.bare_block_param ps)) ≡ map bare_def (flat_map step_defs (map Param ps))
-params_defs [] = refl
-params_defs (p ∷ ps) = ap (λ (ds : List Def). bare_def (value_def p.value) ∷ ds) (params_defs ps)
+pub steps_bare : (r : RawFunction) → steps (bare.bare_function r) ≡ map bare_step (steps r)
+steps_bare r = flat_bare block_steps bare.bare_block bare_step block_steps_bare r.blocks
 
-block_defs : (b : RawBlock) → flat_map step_defs (block_steps (bare.bare_block b)) ≡ map bare_def (flat_map step_defs (block_steps b))
-block_defs b =
-    let ps = map Param b.params in let ls = map Written b.lines in
-    flat_append step_defs (map Param (map bare.bare_block_param b.params)) (map Written (map bare.bare_line b.lines))
-    ∙ ap₂ (λ (xs ys : List Def). xs ++ ys) (params_defs b.params) (lines_defs b.lines)
-    ∙ sym (ap (map bare_def) (flat_append step_defs ps ls) ∙ map-append bare_def (flat_map step_defs ps) (flat_map step_defs ls))
+pub step_defs_bare : (s : Step) → step_defs (bare_step s) ≡ map bare_def (step_defs s)
+step_defs_bare (Param p) = refl
+step_defs_bare (Written (lines.Alias location x y)) = refl
+step_defs_bare (Written (lines.Inst location ts rs i)) = map_bare value_def bare.bare_name bare_def (λ x. refl) rs
 
-blocks_defs : (bs : List RawBlock) → flat_map step_defs (flat_map block_steps (map bare.bare_block bs)) ≡ map bare_def (flat_map step_defs (flat_map block_steps bs))
-blocks_defs [] = refl
-blocks_defs (b ∷ bs) =
-    flat_append step_defs (block_steps (bare.bare_block b)) (flat_map block_steps (map bare.bare_block bs))
-    ∙ ap₂ (λ (xs ys : List Def). xs ++ ys) (block_defs b) (blocks_defs bs)
-    ∙ sym (ap (map bare_def) (flat_append step_defs (block_steps b) (flat_map block_steps bs)) ∙ map-append bare_def (flat_map step_defs (block_steps b)) (flat_map step_defs (flat_map block_steps bs)))
+pub defs_bare : (r : RawFunction) → value_defs (bare.bare_function r) ≡ map bare_def (value_defs r)
+defs_bare r = ap (flat_map step_defs) (steps_bare r) ∙ flat_bare step_defs bare_step bare_def step_defs_bare (steps r)
 
 -- ---- no alias lines
 
@@ -100,7 +91,7 @@ module _ (f : Function) (is : WellFormed f) (w : FunctionWritable f) (r : RawFun
   types = (canonical f).types
 
   pub own_defs : map bare_def (value_defs r) ≡ value_defs (raws.raw_function f)
-  own_defs = sym (blocks_defs r.blocks) ∙ ap value_defs e
+  own_defs = sym (defs_bare r) ∙ ap value_defs e
 
   pub no_aliases : Each IsNoAlias (value_defs r)
   no_aliases = none_bare (value_defs r) (subst (Each IsNoAlias) (sym own_defs) (none_aliased f is))

@@ -49,30 +49,11 @@ use Rattle.text_read_back.proofs.Bytes.{by_bytes}
 
 same_is_equal : (a b : Ty) → same_type a b ≡ true → a ≡ b
 same_is_equal ty.I8 ty.I8 h = refl
-same_is_equal ty.I8 ty.I16 h = absurd cc
-same_is_equal ty.I8 ty.I32 h = absurd cc
-same_is_equal ty.I8 ty.I64 h = absurd cc
-same_is_equal ty.I8 ty.I128 h = absurd cc
-same_is_equal ty.I16 ty.I8 h = absurd cc
 same_is_equal ty.I16 ty.I16 h = refl
-same_is_equal ty.I16 ty.I32 h = absurd cc
-same_is_equal ty.I16 ty.I64 h = absurd cc
-same_is_equal ty.I16 ty.I128 h = absurd cc
-same_is_equal ty.I32 ty.I8 h = absurd cc
-same_is_equal ty.I32 ty.I16 h = absurd cc
 same_is_equal ty.I32 ty.I32 h = refl
-same_is_equal ty.I32 ty.I64 h = absurd cc
-same_is_equal ty.I32 ty.I128 h = absurd cc
-same_is_equal ty.I64 ty.I8 h = absurd cc
-same_is_equal ty.I64 ty.I16 h = absurd cc
-same_is_equal ty.I64 ty.I32 h = absurd cc
 same_is_equal ty.I64 ty.I64 h = refl
-same_is_equal ty.I64 ty.I128 h = absurd cc
-same_is_equal ty.I128 ty.I8 h = absurd cc
-same_is_equal ty.I128 ty.I16 h = absurd cc
-same_is_equal ty.I128 ty.I32 h = absurd cc
-same_is_equal ty.I128 ty.I64 h = absurd cc
 same_is_equal ty.I128 ty.I128 h = refl
+same_is_equal _ _ h = absurd cc
 
 has_this : (own : Option Ty) (t : Ty) → option_map_or (λ u. same_type u t) own false ≡ true → own ≡ Some t
 has_this None t h = absurd cc

@@ -33,10 +33,12 @@ use Rattle.clif_names.specs.Uses.{operand_targets}
 use Rattle.clif_meaning.specs.Instructions.{may_leave_out, kept_type, nullary, trap_if, call, code_of, instruction_of}
 use Rattle.clif_meaning.specs.Meaning.{operation_types, form_types}
 use Rattle.clif_meaning.specs.Operations.{operation, access_of, stored_bytes}
-use Rattle.read_writable.proofs.Lists.{each_got, found}
+use Rattle.ir_semantics.proofs.SafetyPlaces.{get_below}
+use Rattle.clif_meaning.proofs.LimitLaws.{Kept, AllKept}
+use Rattle.clif_meaning.proofs.Lists.{each_got}
 use Rattle.read_writable.proofs.Numbers.{constant_writable, immediate_writable}
 use Rattle.read_writable.proofs.Operations.{unary_count, binary_count, ternary_count, immediate_is, IsNot, is_of, other_form, no_conversion, its_conversion, leaves_out, keeps_suffix, unary_form}
-use Rattle.read_writable.proofs.Parts.{Kept, AllKept, maybe_offset, code_writable, flags_writable, branch_target, branch_targets, normal_target, table_writable}
+use Rattle.read_writable.proofs.Parts.{maybe_offset, code_writable, flags_writable, branch_target, branch_targets, normal_target, table_writable}
 
 width_back : (t : Ty) → ty_of (width_of t) ≡ t
 width_back ty.I8 = refl
@@ -49,11 +51,11 @@ width_back ty.I128 = refl
 signature_there : (f : Function) → Each (λ (c : Callee). c.sig < length f.sigs) f.callees
     → (to : CallTarget) → Each (λ k. k < length f.callees) (called_callees to) → Each (λ s. s < length f.sigs) (called_sigs to) → (s : Sig) × (signature_of f to ≡ Some s)
 signature_there f own (Direct k) c s =
-    let (callee, at) = found f.callees k c.0 in
+    let (callee, at) = get_below f.callees k c.0 in
     let below = each_got (λ (c : Callee). c.sig < length f.sigs) f.callees own k callee at in
-    let (sig, there) = found f.sigs callee.sig below in
+    let (sig, there) = get_below f.sigs callee.sig below in
     (sig, rw at there)
-signature_there f own (Indirect n address) c s = found f.sigs n s.0
+signature_there f own (Indirect n address) c s = get_below f.sigs n s.0
 
 stores : (o : Opcode) → StoreForm (stored_bytes o)
 stores opcode.Istore8 = refl

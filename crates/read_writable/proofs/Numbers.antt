@@ -3,7 +3,7 @@ use Rattle.std.proofs.Common.{◌≡◌, ℕ, ◌-◌, ◌^◌, ◌<◌, ◌≤�
 use Rattle.std.specs.Prelude.{ℤ, pos, negsuc, neg_ℤ, ◌≤ℤ◌, ◌<ℤ◌}
 use Rattle.std.proofs.Math.Nat.{mod-eq_of_lt}
 use Rattle.std.proofs.lemmas.Int.{ints}
-use Rattle.std.proofs.lemmas.Nat.{mod_below, pow_pos}
+use Rattle.std.proofs.lemmas.Nat.{pow_pos}
 use Rattle.std.proofs.lemmas.Bool.{and_parts, leb-true}
 use Rattle.std.proofs.lemmas.Bool.Decides.{leb_tells}
 use Rattle.clk_num.specs.Numbers.{signed, wrapped}
@@ -19,6 +19,7 @@ use Rattle.clif_lex.specs.Numbers.{is_wide}
 use Rattle.clif_names.specs.declared.limits.Limit.TheVariants.{Offset}
 use Rattle.clif_names.specs.Limits.{within, keeps}
 use Rattle.clif_meaning.specs.Instructions.{natural, constant, immediate, extended}
+use Rattle.clif_meaning.proofs.NumberLaws.{wrapped_below}
 
 -- ---- numbers from 0 on
 
@@ -33,11 +34,6 @@ offset_writable (pos n) h = let low = leb-true n 2147483647 h in (omega (arith, 
 offset_writable (negsuc n) h = let low = leb-true n 2147483647 (and_parts _ _ h).0 in (omega (arith, low, ints), omega (arith, ints))
 
 -- ---- values of a width
-
-pub wrapped_below : (b : ℕ) (z : ℤ) → wrapped b z < 2 ^ b
-unfolding wrapped
-wrapped_below b (pos n) = mod_below n (2 ^ b) (pow_pos b)
-wrapped_below b (negsuc n) = let some = pow_pos b in omega (arith, some)
 
 -- a number of 64 bits is itself as a value of 128
 back_positive : (n : ℕ) → n < 2 ^ 64 → signed 128 (wrapped 128 (pos n)) ≡ pos n

@@ -1,7 +1,8 @@
 -- Targets, exception tables, flags, tags, names and declarations that are read can be written.
-use Rattle.std.proofs.Common.{◌≡◌, ℕ, suc, Bool, true, false, List, [], ◌∷◌, map, Option, None, Some, refl, sym, ap₂, ◌∙◌}
+use Rattle.std.proofs.Common.{◌≡◌, ℕ, suc, Bool, true, List, [], ◌∷◌, map, Option, None, Some, refl, sym, ap₂, ◌∙◌}
 use Rattle.std.specs.Prelude.{flat_map, fold, not, ◌&&◌, ◌||◌, IsTrue, ℤ, pos, negsuc}
 use Rattle.std.specs.List.{list_any, list_all}
+use Rattle.std.proofs.Math.Bool.{or-false, or-true}
 use Rattle.std.proofs.lemmas.Bool.{and_parts}
 use Rattle.ir_core.specs.declared.instructions.Flags.{Flags}
 use Rattle.ir_core.specs.declared.declarations.Callee.{Callee}
@@ -33,17 +34,11 @@ use Rattle.clif_read.specs.declared.raw.RawDecl.TheVariants as decl
 use Rattle.clif_read.specs.Marks.{func_name_marks, callee_sig_marks, decl_marks}
 use Rattle.clif_names.specs.declared.limits.Limit.TheVariants.{Entity, Alignment, Offset}
 use Rattle.clif_names.specs.declared.limits.Limited.{Limited}
-use Rattle.clif_names.specs.Limits.{keeps, is_power, of_word, name_limits, maybe_number, decl_limits, arg_limits, target_limits, entry_limits, trap_limits, tag_limits}
+use Rattle.clif_names.specs.Limits.{is_power, of_word, name_limits, maybe_number, decl_limits, arg_limits, target_limits, entry_limits, trap_limits, tag_limits}
 use Rattle.clif_meaning.specs.Instructions.{natural, offset_of, code_of, no_flags, with_flag, flags_of, arg_of, target_of, entry_tag, entry_of, tag_of}
 use Rattle.clif_meaning.specs.Meaning.{name_of, alignment, decl_slots, callees_from}
+use Rattle.clif_meaning.proofs.LimitLaws.{Kept, AllKept}
 use Rattle.read_writable.proofs.Numbers.{at_most, offset_writable}
-
--- it keeps its limit
-abbrev pub Kept : Limited → Type 0
-Kept z = keeps z.limit z.value ≡ true
-
-abbrev pub AllKept : List Limited → Type 0
-AllKept zs = Each Kept zs
 
 -- ---- numbers
 
@@ -61,17 +56,9 @@ code_writable (trap.User n) h = at_most 65535 (pos n.number) h.0
 
 -- ---- flags
 
-or_false : (b : Bool) → (b || false) ≡ b
-or_false true = refl
-or_false false = refl
-
-or_true : (b : Bool) → (b || true) ≡ true
-or_true true = refl
-or_true false = refl
-
 big_is : (fs : List RawFlag) (a : Flags) → (fold with_flag a fs).big ≡ (a.big || list_any is_big fs)
-big_is [] a = sym (or_false a.big)
-big_is (flag.Big ∷ fs) a = big_is fs (with_flag a flag.Big) ∙ sym (or_true a.big)
+big_is [] a = sym (or-false a.big)
+big_is (flag.Big ∷ fs) a = big_is fs (with_flag a flag.Big) ∙ sym (or-true a.big)
 big_is (flag.Notrap ∷ fs) a = big_is fs (with_flag a flag.Notrap)
 big_is (flag.Aligned ∷ fs) a = big_is fs (with_flag a flag.Aligned)
 big_is (flag.Readonly ∷ fs) a = big_is fs (with_flag a flag.Readonly)
@@ -82,8 +69,8 @@ big_is (flag.Vmctx ∷ fs) a = big_is fs (with_flag a flag.Vmctx)
 big_is (flag.Little ∷ fs) a = big_is fs (with_flag a flag.Little)
 
 little_is : (fs : List RawFlag) (a : Flags) → (fold with_flag a fs).little ≡ (a.little || list_any is_little fs)
-little_is [] a = sym (or_false a.little)
-little_is (flag.Little ∷ fs) a = little_is fs (with_flag a flag.Little) ∙ sym (or_true a.little)
+little_is [] a = sym (or-false a.little)
+little_is (flag.Little ∷ fs) a = little_is fs (with_flag a flag.Little) ∙ sym (or-true a.little)
 little_is (flag.Notrap ∷ fs) a = little_is fs (with_flag a flag.Notrap)
 little_is (flag.Aligned ∷ fs) a = little_is fs (with_flag a flag.Aligned)
 little_is (flag.Readonly ∷ fs) a = little_is fs (with_flag a flag.Readonly)

@@ -16,25 +16,21 @@ use Rattle.clif_read.specs.declared.raw.RawTag.{RawTag}
 use Rattle.clif_read.specs.declared.raw.RawLine.TheVariants as line
 use Rattle.clif_read.specs.declared.raw.RawFunction.{RawFunction}
 use Rattle.clif_names.specs.Chains.{IsNumbering, numbered, own_name}
-use Rattle.clif_names.specs.Definitions.{Step, Param, Line, step_defs, steps, defs_of, value_defs, names_of}
+use Rattle.clif_names.specs.Definitions.{Step, Line, step_defs, steps, defs_of, value_defs, names_of}
 use Rattle.clif_names.specs.Words.{place_in}
 use Rattle.clif_names.proofs.Numberings.{NoRepeats, place_here, place_there}
 use Rattle.clif_meaning.specs.Instructions.{line_of}
 use Rattle.clif_meaning.specs.Meaning.{numbers, inst_type, function_with, step_types, value_types, types_for, form_types}
 use Rattle.clif_meaning.proofs.BoundLaws.{own_place}
-use Rattle.clif_meaning.proofs.OneMeaning.{map_names}
-use Rattle.read_writable.proofs.Lists.{each_member, in_map, get_seam}
+use Rattle.clif_meaning.proofs.Lists.{in_map, get_seam}
+use Rattle.clif_meaning.proofs.OneMeaning.{map_names, count, counts}
+use Rattle.ir_semantics.proofs.SafetyPlaces.{each_in}
 
 -- ---- the first place of a number
 
 place_seam : (before : List RawName) (r : RawName) (after : List RawName) → ((x : RawName) → In x before → x.number ≡ r.number → ⊥) → place_in (before ++ r ∷ after) r.number ≡ length before
 place_seam [] r after out = place_here r after r.number refl
 place_seam (x ∷ xs) r after out = place_there x (xs ++ r ∷ after) r.number (λ e. out x (inl refl) (sym e)) ∙ ap suc (place_seam xs r after (λ y i. out y (inr i)))
-
-types_for_length : (rs : List RawName) (ts : List Ty) → length (types_for rs ts) ≡ length rs
-types_for_length [] ts = refl
-types_for_length (r ∷ rs) [] = ap suc (types_for_length rs [])
-types_for_length (r ∷ rs) (t ∷ ts) = ap suc (types_for_length rs ts)
 
 module _ (raw : RawFunction) (value : ℕ → ℕ) (types : List (ℕ × Ty)) where
   -- the words are of values with these types, one for each
@@ -50,24 +46,10 @@ module _ (raw : RawFunction) (value : ℕ → ℕ) (types : List (ℕ × Ty)) wh
   typed_parts (x ∷ xs) ys [] us e h = absurd cc
   typed_parts (x ∷ xs) ys (t ∷ ts) us e h = let rest = typed_parts xs ys ts us (omega (arith, e)) h.1 in ((h.0, rest.0), rest.1)
 
-  -- ---- each step has as many types as values
+  -- ---- steps
 
   abbrev given : Step → List Ty
   given s = step_types raw value types s
-
-  step_count : (s : Step) → length (given s) ≡ length (numbered (step_defs s))
-  step_count (Param p) = refl
-  step_count (Line (line.Alias location n m)) = refl
-  step_count (Line (line.Inst location tags results inst)) =
-      types_for_length results (form_types (function_with raw value types) (line_of (numbers raw value) (inst_type raw value types inst) tags results inst).inst (inst_type raw value types inst))
-      ∙ ap length (sym (map_names results))
-
-  all_count : (ss : List Step) → length (flat_map given ss) ≡ length (numbered (defs_of ss))
-  all_count [] = refl
-  all_count (s ∷ ss) =
-      length-append (given s) (flat_map given ss)
-      ∙ (let a = step_count s in let b = all_count ss in omega (arith, a, b, length-append (numbered (step_defs s)) (numbered (defs_of ss))))
-      ∙ ap length (sym (flat_map-append own_name (step_defs s) (defs_of ss)))
 
   abbrev StepTyped : Step → Type 0
   StepTyped s = Typed (numbered (step_defs s)) (given s)
@@ -76,7 +58,7 @@ module _ (raw : RawFunction) (value : ℕ → ℕ) (types : List (ℕ × Ty)) wh
   steps_typed [] h = tt
   steps_typed (s ∷ ss) h =
       let both =
-      typed_parts (numbered (step_defs s)) (numbered (defs_of ss)) (given s) (flat_map given ss) (sym (step_count s))
+      typed_parts (numbered (step_defs s)) (numbered (defs_of ss)) (given s) (flat_map given ss) (sym (count raw value types s))
       (subst (λ (ns : List RawName). Typed ns (given s ++ flat_map given ss)) (flat_map-append own_name (step_defs s) (defs_of ss)) h)
       in (both.0, steps_typed ss both.1)
 
@@ -120,7 +102,7 @@ module _ (raw : RawFunction) (value : ℕ → ℕ) (types : List (ℕ × Ty)) wh
     )
 
     all_typed : Typed own ts
-    all_typed = typed_from [] own [] ts refl (sym (all_count (steps raw))) refl refl
+    all_typed = typed_from [] own [] ts refl (sym (counts raw value types (steps raw))) refl refl
 
     results_typed : (rs : List RawName) (us : List Ty) → Typed rs (types_for rs us) → ResultTypes (function_with raw value types) (numbers_of rs) us
     results_typed [] us h = tt
@@ -133,5 +115,5 @@ module _ (raw : RawFunction) (value : ℕ → ℕ) (types : List (ℕ × Ty)) wh
         (form_types (function_with raw value types) (line_of (numbers raw value) (inst_type raw value types inst) tags results inst).inst (inst_type raw value types inst))
     line_typed location tags results inst i =
         let types_are = form_types (function_with raw value types) (line_of (numbers raw value) (inst_type raw value types inst) tags results inst).inst (inst_type raw value types inst) in
-        let own_types = each_member StepTyped (steps raw) (steps_typed (steps raw) all_typed) (Line (line.Inst location tags results inst)) i in
+        let own_types = each_in StepTyped (steps raw) (steps_typed (steps raw) all_typed) (Line (line.Inst location tags results inst)) i in
         results_typed results types_are (subst (λ (ns : List RawName). Typed ns (types_for results types_are)) (map_names results) own_types)

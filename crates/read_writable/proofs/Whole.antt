@@ -1,5 +1,5 @@
 -- A function that a text means is writable, and so is a module.
-use Rattle.std.proofs.Common.{◌≡◌, ◌≢◌, ℕ, suc, ◌+◌, Bool, true, false, List, [], ◌∷◌, ◌++◌, length, slice_get, Option, Some, map, refl, sym, ap, subst, arith, inl, inr}
+use Rattle.std.proofs.Common.{◌≡◌, ◌≢◌, ℕ, suc, ◌+◌, List, [], ◌∷◌, ◌++◌, length, slice_get, Option, Some, map, refl, sym, ap, subst, arith, inl, inr}
 use Rattle.std.specs.Prelude.{flat_map}
 use Rattle.std.specs.List.{enumerate_from}
 use Rattle.std.proofs.lemmas.Bool.Decides.{leb_tells}
@@ -10,7 +10,7 @@ use Rattle.ir_core.specs.WellFormed.{LineWellFormed, BlockWellFormed, WellFormed
 use Rattle.ir_core.proofs.Members.{each_left, each_right, in_right}
 use Rattle.ir_semantics.specs.Renaming.{Renaming}
 use Rattle.ir_text.specs.Writable.{LineWritable, FunctionWritable}
-use Rattle.clif_lex.specs.declared.faults.TextKind.TheVariants.{Duplicate, NumberRange, TooLarge}
+use Rattle.clif_lex.specs.declared.faults.TextKind.TheVariants.{Duplicate, TooLarge}
 use Rattle.clif_insts.specs.declared.raw.RawInst.{RawInst}
 use Rattle.clif_insts.specs.declared.raw.RawName.{RawName}
 use Rattle.clif_insts.specs.Marks.{Mark, Spot, MarkFormed, names_marks, inst_marks}
@@ -22,25 +22,24 @@ use Rattle.clif_read.specs.declared.raw.RawBlock.{RawBlock}
 use Rattle.clif_read.specs.declared.raw.RawFunction.{RawFunction}
 use Rattle.clif_read.specs.Formed.{LineFormed, BlockFormed, FunctionFormed}
 use Rattle.clif_read.specs.Marks.{name_spot, func_name_marks, decl_marks, tag_marks, location_marks, line_marks, block_param_marks, block_marks, function_marks}
-use Rattle.clif_names.specs.declared.limits.Limit.TheVariants.{Entity}
-use Rattle.clif_names.specs.declared.limits.Limited.{Limited}
 use Rattle.clif_names.specs.Chains.{numbered}
 use Rattle.clif_names.specs.Definitions.{Values, Param, Line as Written, block_steps, value_defs, lines}
 use Rattle.clif_names.specs.FunctionNames.{NoFunctionFault}
-use Rattle.clif_names.specs.Limits.{keeps, of_word, all_words, name_limits, decl_limits, target_limits, operand_limits, tag_limits, line_limits, limits}
+use Rattle.clif_names.specs.Limits.{target_limits, operand_limits, tag_limits, line_limits}
 use Rattle.clif_names.specs.Uses.{operand_targets}
-use Rattle.clif_names.proofs.Numberings.{in_place}
 use Rattle.clif_meaning.specs.Instructions.{line_of}
 use Rattle.clif_meaning.specs.Meaning.{numbers, inst_type, function_with, block_with, lines_with, FunctionMeans, FunctionsMean}
 use Rattle.clif_meaning.specs.Reads.{ReadIsModule}
 use Rattle.clif_meaning.proofs.BoundLaws.{blocks_define}
+use Rattle.clif_meaning.proofs.LimitLaws.{Kept, AllKept, name_kept, decls_kept, lines_kept}
+use Rattle.clif_meaning.proofs.Lists.{in_flat_in, in_map}
 use Rattle.clif_meaning.proofs.ModuleLaws.{size, meant_is_module}
 use Rattle.clif_meaning.proofs.SizeLaws.{same_size}
-use Rattle.clif_meaning.proofs.WholeLaws.{each_in, in_flat_in}
+use Rattle.ir_semantics.proofs.SafetyPlaces.{each_in, get_below}
 use Rattle.clif_read.proofs.ModuleFormed.{text_formed}
 use Rattle.read_writable.specs.Laws.{MeantIsWritable, ReadIsWritable}
-use Rattle.read_writable.proofs.Lists.{each_member, each_given, in_map, found}
-use Rattle.read_writable.proofs.Parts.{Kept, AllKept, tags_writable, name_writable, slots_writable, callees_writable}
+use Rattle.read_writable.proofs.Lists.{each_given}
+use Rattle.read_writable.proofs.Parts.{tags_writable, name_writable, slots_writable, callees_writable}
 use Rattle.read_writable.proofs.Forms.{form_writable}
 use Rattle.read_writable.proofs.Typed.{line_typed}
 
@@ -56,39 +55,6 @@ module _ (len : ℕ) (raw : RawFunction) (f : Function) (mf : FunctionMeans raw 
 
   whole : WellFormed F
   whole = subst WellFormed mf.function is
-
-  -- ---- its numbers
-
-  kept : (z : Limited) → In z (limits raw) → Kept z
-  kept z i = by (keeps z.limit z.value) refl (in_place (limits raw) z i)
-    where
-      by : (b : Bool) → keeps z.limit z.value ≡ b → (i : ℕ) × (slice_get (limits raw) i ≡ Some z) → Kept z
-      by true t p = t
-      by false t (i, there) = absurd (free NumberRange z.spot (i, z, there, refl, t))
-
-  all_kept : AllKept (limits raw)
-  all_kept = each_in Kept (limits raw) kept
-
-  abbrev word_limits : List Limited
-  word_limits = map (of_word Entity) (all_words raw)
-
-  abbrev declared_limits : List Limited
-  declared_limits = flat_map decl_limits raw.decls
-
-  abbrev lines_limits : List Limited
-  lines_limits = flat_map line_limits (lines raw)
-
-  declared_kept : AllKept ((word_limits ++ name_limits raw.name) ++ declared_limits)
-  declared_kept = each_left Kept ((word_limits ++ name_limits raw.name) ++ declared_limits) lines_limits all_kept
-
-  name_kept : AllKept (name_limits raw.name)
-  name_kept = each_right Kept word_limits (name_limits raw.name) (each_left Kept (word_limits ++ name_limits raw.name) declared_limits declared_kept)
-
-  decls_kept : AllKept declared_limits
-  decls_kept = each_right Kept (word_limits ++ name_limits raw.name) declared_limits declared_kept
-
-  lines_kept : AllKept lines_limits
-  lines_kept = each_right Kept ((word_limits ++ name_limits raw.name) ++ declared_limits) lines_limits all_kept
 
   -- ---- its marks
 
@@ -121,10 +87,10 @@ module _ (len : ℕ) (raw : RawFunction) (f : Function) (mf : FunctionMeans raw 
         each_given (MarkFormed len) line_marks b.lines (each_right (MarkFormed len) (flat_map block_param_marks b.params) (flat_map line_marks b.lines) own.1) l i
 
     line_formed : (l : RawLine) → In l b.lines → LineFormed l
-    line_formed l i = each_member LineFormed b.lines (each_member BlockFormed raw.blocks formed.blocks b there) l i
+    line_formed l i = each_in LineFormed b.lines (each_in BlockFormed raw.blocks formed.blocks b there) l i
 
     line_kept : (l : RawLine) → In l b.lines → AllKept (line_limits l)
-    line_kept l i = each_given Kept line_limits (lines raw) lines_kept l (in_flat_in (λ (x : RawBlock). x.lines) raw.blocks b l there i)
+    line_kept l i = each_given Kept line_limits (lines raw) (lines_kept raw free) l (in_flat_in (λ (x : RawBlock). x.lines) raw.blocks b l there i)
 
     line_writable : (location : Option ℕ) (tags : List RawTag) (results : List RawName) (inst : RawInst) → In (line.Inst location tags results inst) b.lines
         → LineWellFormed F (line_of at (inst_type raw mf.value f.types inst) tags results inst)
@@ -180,9 +146,9 @@ module _ (len : ℕ) (raw : RawFunction) (f : Function) (mf : FunctionMeans raw 
 
   meant_writable : FunctionWritable F
   meant_writable = record {
-    name = name_writable len raw.name name_marked name_kept;
-    slots = slots_writable raw.decls decls_kept;
-    callees = callees_writable len at.sig 0 raw.decls decls_marked decls_kept;
+    name = name_writable len raw.name name_marked (name_kept raw free);
+    slots = slots_writable raw.decls (decls_kept raw free);
+    callees = callees_writable len at.sig 0 raw.decls decls_marked (decls_kept raw free);
     lines = blocks_writable 0 raw.blocks (λ b i. i) whole.lines;
     size = let small = size raw free in let own = same_size raw f mf in let meant = ap size_of mf.function in omega (arith, small, own, meant);
   }
@@ -220,7 +186,7 @@ meant_is_writable len raw m none formed means = record {
       (meant_is_module raw m none (has_blocks raw.functions formed.functions) means).whole means;
   count = elim (leb_tells (length raw.functions) 65536) [
     | inl t ↦ (let few = t.1 in let same = as_many raw.functions m means in omega (arith, few, same))
-    | inr many ↦ (let (r, there) = found raw.functions 65536 many.1 in absurd (none TooLarge (name_spot r.name) (inl (65536, r, there, refl, omega arith))))
+    | inr many ↦ (let (r, there) = get_below raw.functions 65536 many.1 in absurd (none TooLarge (name_spot r.name) (inl (65536, r, there, refl, omega arith))))
   ];
 }
 

@@ -9,7 +9,7 @@ use Rattle.ir_core.specs.declared.declarations.Callee.{Callee}
 use Rattle.ir_core.specs.Lists.{Each}
 use Rattle.ir_core.specs.Module.{Block, Function}
 use Rattle.ir_text.specs.Numbering.{Numbering, numbering_of}
-use Rattle.ir_text.specs.TextTree.{Text, Nothing, Word, Mark, ◌▹◌, spelled, space, line_end}
+use Rattle.ir_text.specs.TextTree.{Text, Nothing, Word, Mark, ◌▹◌, spelled, line_end}
 use Rattle.ir_text.specs.Text as text
 use Rattle.ir_text.specs.TextDeclarations as decls_text
 use Rattle.ir_text.specs.TextInstructions as insts_text
@@ -30,7 +30,7 @@ use Rattle.text_read_back.proofs.Stretches.{front, clear}
 use Rattle.text_read_back.specs.Bare.{bare_decl, bare_block, bare_func_name, bare_function}
 use Rattle.text_read_back.specs.RawOf as raws
 use Rattle.text_read_back.proofs.Spellable.{BlockSpellable, FunctionSpellable}
-use Rattle.text_read_back.proofs.Told.{lexeme_as, s_at, Told, told_as, told_pair, Reads, Closed, soft_space, seq, nothing_said}
+use Rattle.text_read_back.proofs.Told.{lexeme_as, s_at, Told, told_as, told_pair, Reads, Closed, blank, soft_space, seq, nothing_said}
 use Rattle.text_read_back.proofs.Terms.{word_says}
 use Rattle.text_read_back.proofs.Lists.{map_both}
 use Rattle.text_read_back.proofs.Sizes.{counts}
@@ -89,9 +89,6 @@ module _ (f : Function) (n : Numbering) where
     told = λ at. (let k = q.told (at + 1 + 1) in let b = lexeme_as (kind.Mark 123) (123 ∷ []) at in record { tree = (b, k.tree); derived = (b ∷ [], s_at (at + 1 + 1) t, refl, ((refl, refl), k.derived)); says = k.says });
   }
 
-blanks_before : {r : Rule} {A : Type 0} {g : Tree r → A} {x : A} {t : Text} → Reads r g x t → Reads r g x (space ▹ t)
-blanks_before p = record { clear = λ b h. p.clear b h; told = λ at. p.told (at + 1) }
-
 abbrev nothing_more : ℕ → Unit {0}
 nothing_more k = tt
 
@@ -117,7 +114,7 @@ function_read f w k =
     let ds = declarations_read f.slots f.sigs f.callees (few (length f.slots) c.slots) (few (length f.sigs) c.sigs) (few (length f.callees) c.callees) w.slots (callees_fit f.callees w.callees k.callees) Rest rest_says rest in
     let body = brace_then f n ds in
     let no_more = append-nil (raws.numbered raws.callee_decl 0 f.callees) in
-    let all = seq word_read (blanks_before (seq (func_name_reads f.name w.name) (seq (signature_reads f.sig) (blanks_before body) soft_space) (record { so = λ b h. refl }))) soft_space in
+    let all = seq word_read (blank (seq (func_name_reads f.name w.name) (seq (signature_reads f.sig) (blank body) soft_space) (record { so = λ b h. refl }))) soft_space in
     record {
       clear = all.clear;
       told = λ at. (

@@ -1,9 +1,10 @@
 -- Lists of numbers and of typed values, and what holds of each of them.
 use Rattle.std.proofs.Common.{◌≡◌, ℕ, zero, suc, ◌+◌, ◌<◌, nat_eq, Bool, true, false, cond, List, [], ◌∷◌, ◌++◌, map, length, Option, Some, refl, sym, ap, ap₂, subst, ◌∙◌, arith, inl, inr}
-use Rattle.std.specs.Prelude.{◌⊎◌, is_some, IsSome}
+use Rattle.std.specs.Prelude.{◌⊎◌, flat_map, is_some, IsSome}
 use Rattle.std.specs.List.{range_with_len}
 use Rattle.std.proofs.lemmas.Bool.{eqb-true}
 use Rattle.std.proofs.lemmas.Bool.Decides.{nat_tests}
+use Rattle.std.proofs.lemmas.List.{map-append}
 use Rattle.ir_core.specs.Lists.{In, Each, Different}
 use Rattle.ir_core.specs.Lookup.{type_in, number_in}
 use Rattle.ir_core.specs.declared.signatures.Ty.{Ty}
@@ -11,6 +12,16 @@ use Rattle.ir_core.specs.declared.signatures.Ty.{Ty}
 pub map_both : {X A B : Type 0} (f : X → A) (h : A → B) (xs : List X) → map h (map f xs) ≡ map (λ x. h (f x)) xs
 map_both f h [] = refl
 map_both {X} {A} {B} f h (x ∷ xs) = ap (λ (z : List B). h (f x) ∷ z) (map_both f h xs)
+
+-- what is given by elements without their spots is what they give, without its spots
+pub flat_bare : {A B : Type 0} (f : A → List B) (own : A → A) (given : B → B) → ((x : A) → f (own x) ≡ map given (f x)) → (xs : List A) → flat_map f (map own xs) ≡ map given (flat_map f xs)
+flat_bare f own given same [] = refl
+flat_bare {A} {B} f own given same (x ∷ xs) =
+    ap₂ (λ (ys zs : List B). ys ++ zs) (same x) (flat_bare f own given same xs) ∙ sym (map-append given (f x) (flat_map f xs))
+
+pub map_bare : {A B : Type 0} (f : A → B) (own : A → A) (given : B → B) → ((x : A) → f (own x) ≡ given (f x)) → (xs : List A) → map f (map own xs) ≡ map given (map f xs)
+map_bare f own given same [] = refl
+map_bare {A} {B} f own given same (x ∷ xs) = ap₂ (λ (y : B) (ys : List B). y ∷ ys) (same x) (map_bare f own given same xs)
 
 -- ---- numbers in a list
 
@@ -26,30 +37,9 @@ below_length (x ∷ xs) v h = go (nat_eq x v) refl (λ k. below_length xs v k)
     go true e ih = omega arith
     go false e ih = let k = ih (in_rest e h) in omega arith
 
-pub each_as : {A : Type 0} (P Q : A → Type 0) → ((a : A) → P a → Q a) → (xs : List A) → Each P xs → Each Q xs
-each_as P Q as' [] h = tt
-each_as P Q as' (x ∷ xs) h = (as' x h.0, each_as P Q as' xs h.1)
-
 pub each_in : (P : ℕ → Type 0) (vs : List ℕ) → ((v : ℕ) → In v vs → P v) → Each P vs
 each_in P [] h = tt
 each_in P (v ∷ vs) h = (h v (inl refl), each_in P vs (λ w k. h w (inr k)))
-
-pub each_left : {A : Type 0} (P : A → Type 0) (xs ys : List A) → Each P (xs ++ ys) → Each P xs
-each_left P [] ys h = tt
-each_left P (x ∷ xs) ys h = (h.0, each_left P xs ys h.1)
-
-pub each_right : {A : Type 0} (P : A → Type 0) (xs ys : List A) → Each P (xs ++ ys) → Each P ys
-each_right P [] ys h = h
-each_right P (x ∷ xs) ys h = each_right P xs ys h.1
-
-pub in_left : (v : ℕ) (xs ys : List ℕ) → In v xs → In v (xs ++ ys)
-in_left v [] ys h = absurd h
-in_left v (x ∷ xs) ys (inl e) = inl e
-in_left v (x ∷ xs) ys (inr h) = inr (in_left v xs ys h)
-
-pub in_right : (v : ℕ) (xs ys : List ℕ) → In v ys → In v (xs ++ ys)
-in_right v [] ys h = h
-in_right v (x ∷ xs) ys h = inr (in_right v xs ys h)
 
 -- ---- places in a list without repetitions
 

@@ -22,7 +22,7 @@ digit_no_blank c h = grind (arith, nat_tests)
 digit_no_letter : (c : ℕ) → is_ascii_digit c ≡ true → is_letter c ≡ false
 digit_no_letter c h = grind (arith, nat_tests)
 
-digit_no_sign : (c : ℕ) → is_ascii_digit c ≡ true → is_sign c ≡ false
+pub digit_no_sign : (c : ℕ) → is_ascii_digit c ≡ true → is_sign c ≡ false
 digit_no_sign c h = grind (arith, nat_tests)
 
 digit_no_minus : (c : ℕ) → is_ascii_digit c ≡ true → (c == 45) ≡ false

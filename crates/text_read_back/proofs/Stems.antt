@@ -1,11 +1,12 @@
 -- A stem with a number behind it, as `v7`, has the class of the stem and this number.
-use Rattle.std.proofs.Common.{◌≡◌, ℕ, ◌+◌, ◌-◌, ◌*◌, ◌/◌, ◌%◌, ◌^◌, ◌<◌, ◌≤◌, ◌==◌, Bool, true, false, not, ◌||◌, List, [], ◌∷◌, ◌++◌, length, take, drop, get_or, Some, None, refl, ap, ◌∙◌, arith}
+use Rattle.std.proofs.Common.{◌≡◌, ℕ, ◌+◌, ◌-◌, ◌*◌, ◌/◌, ◌%◌, ◌^◌, ◌<◌, ◌≤◌, ◌==◌, Bool, true, false, not, List, [], ◌∷◌, ◌++◌, length, take, drop, get_or, Some, None, refl, ap, ◌∙◌, arith}
 use Rattle.std.specs.Prelude.{nat_lt, codes}
 use Rattle.std.specs.List.{list_all}
 use Rattle.std.specs.Str.{bytes_eq}
 use Rattle.std.specs.Str.Parse.{digits_value_after}
 use Rattle.std.specs.Char.{is_ascii_digit, digit_value}
 use Rattle.std.specs.Fmt.{decimal}
+use Rattle.std.proofs.Math.Bool.{or-true}
 use Rattle.std.proofs.lemmas.Bool.{and_parts, lt-ltb}
 use Rattle.std.proofs.lemmas.Bool.Decides.{nat_tests}
 use Rattle.std.proofs.lemmas.Fmt.{decimal_by_steps}
@@ -28,11 +29,7 @@ record Leads (n : ℕ) (ds : List ℕ) : Type 0 where
   pub front : 0 < n → (first ds == 48) ≡ false
 
 leads_one : (n : ℕ) → n < 10 → Leads n ((48 + n) ∷ [])
-leads_one n h = record { some = omega arith; plain = or_right (not (48 + n == 48)); front = λ k. grind (arith, nat_tests) }
-  where
-    or_right : (a : Bool) → (a || true) ≡ true
-    or_right true = refl
-    or_right false = refl
+leads_one n h = record { some = omega arith; plain = or-true (not (48 + n == 48)); front = λ k. grind (arith, nat_tests) }
 
 plain_push : (ds : List ℕ) (c : ℕ) → 1 ≤ length ds → (first ds == 48) ≡ false → is_plain (ds ++ c ∷ []) ≡ true
 plain_push [] c some h = absurd (omega arith)

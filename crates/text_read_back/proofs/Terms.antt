@@ -31,7 +31,7 @@ use Rattle.clif_insts.specs.Grammar.{commas, number, any_type, suffix}
 use Rattle.clif_insts.specs.Reading.{name, opcode}
 use Rattle.clif_insts.specs.Values.{commas_value, any_type_value, suffix_value, opt_suffix_value, number_value, offset_value}
 use Rattle.text_read_back.proofs.Decimals.{decimal_digits, decimal_some}
-use Rattle.text_read_back.proofs.NumberTokens.{is_64_bits, below, signed_spells, decimal_magnitude}
+use Rattle.text_read_back.proofs.NumberTokens.{digit_no_sign, is_64_bits, below, signed_spells, decimal_magnitude}
 use Rattle.text_read_back.proofs.Stretches.{is_word}
 use Rattle.text_read_back.specs.Bare.{bare_name, bare_opcode, bare_number, bare_option}
 use Rattle.text_read_back.specs.RawOf as raws
@@ -76,9 +76,6 @@ entity_reads w c n is plain h =
 
 -- ---- numbers
 
-no_sign : (d : ℕ) → is_ascii_digit d ≡ true → is_sign d ≡ false
-no_sign d h = grind (arith, nat_tests)
-
 first_digit : (n : ℕ) → n < 2 ^ 64 → is_ascii_digit (first (decimal n)) ≡ true
 first_digit n h = go (decimal n) (decimal_some n h) (decimal_digits n h)
   where
@@ -87,7 +84,7 @@ first_digit n h = go (decimal n) (decimal_some n h) (decimal_digits n h)
     go (d ∷ ds) some all = (and_parts (is_ascii_digit d) (list_all is_ascii_digit ds) all).0
 
 decimal_class : (n : ℕ) → n < 2 ^ 64 → number_class (decimal n) ≡ classes.Unsigned
-decimal_class n h = rw (no_sign (first (decimal n)) (first_digit n h)) refl
+decimal_class n h = rw (digit_no_sign (first (decimal n)) (first_digit n h)) refl
 
 pub number_reads : (n : ℕ) → n < 2 ^ 64 → Reads number (λ v. bare_number (number_value v)) (raws.number (pos n)) (Number n)
 number_reads n h =

@@ -1,4 +1,4 @@
-use Rattle.std.proofs.Common.{◌≡◌, ℕ, ◌<◌, ◌≤◌, List, Bool, map, length, get_or, ap, sym, ◌∙◌, arith}
+use Rattle.std.proofs.Common.{map, length, get_or, ap, sym, ◌∙◌, arith}
 use Rattle.std.proofs.lemmas.List.{length-map}
 use Rattle.ir_semantics.specs.Import.{same_callee}
 use Rattle.body_import.specs.CalleeKeys.{callee_key, key_among, renumbered}

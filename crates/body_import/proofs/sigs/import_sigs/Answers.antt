@@ -1,4 +1,4 @@
-use Rattle.std.proofs.Common.{◌≡◌, ℕ, ◌<◌, ◌≤◌, List, Bool, map, length, ap, sym, ◌∙◌, arith}
+use Rattle.std.proofs.Common.{map, length, ap, sym, ◌∙◌, arith}
 use Rattle.std.proofs.lemmas.List.{length-map}
 use Rattle.ir_core.specs.Signatures.{same_sig}
 use Rattle.body_import.specs.SigKeys.{sig_key}

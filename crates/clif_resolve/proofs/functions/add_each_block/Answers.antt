@@ -1,7 +1,9 @@
 use Rattle.std.proofs.Common.{length, take, ap, arith}
 use Rattle.ir_core.specs.Module.{Function}
 use Rattle.clif_lines.proofs.Parting.{got_some, parted_long}
-use Rattle.clif_resolve.proofs.DeclaredLaws.{block_added, empties_long}
+use Rattle.clif_meaning.proofs.Lists.{numbered_long}
+use Rattle.clif_resolve.specs.Filling.{empty_block}
+use Rattle.clif_resolve.proofs.DeclaredLaws.{block_added}
 use Rattle.clif_resolve.proofs.functions.add_each_block.Goals as goal
 
 pub loop-block-init : goal.loop-block-init
@@ -12,7 +14,7 @@ add_block-requires c =
     let p = got_some c.args.blocks.now c.loop-block._block-index c.loop-block-test.true in
     let a = parted_long c.args.blocks.now c.loop-block._block-index p.0 p.1 in
     let e = ap (λ (f : Function). length f.blocks) c.loop-block.invariant in
-    let l = empties_long 0 (take c.loop-block._block-index c.args.blocks.now) in
+    let l = numbered_long empty_block 0 (take c.loop-block._block-index c.args.blocks.now) in
     let t = c.loop-block-test.true in
     let f = c.requires.few in
     omega (arith, a, e, l, t, f)

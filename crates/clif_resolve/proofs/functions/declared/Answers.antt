@@ -6,20 +6,21 @@ use Rattle.clif_lines.specs.Keeping.{AllKeep}
 use Rattle.clif_lines.specs.WordRenaming.{renaming}
 use Rattle.clif_meaning.specs.Meaning.{callees_from, decl_sigs, decl_slots}
 use Rattle.clif_resolve.proofs.DeclaredLaws.{declared_by, few_by}
-use Rattle.clif_resolve.proofs.ReadyLaws.{decls_keep, few_sigs, name_keeps}
+use Rattle.clif_meaning.proofs.LimitLaws.{decls_kept, name_kept}
+use Rattle.clif_resolve.proofs.ReadyLaws.{few_sigs}
 use Rattle.clif_resolve.proofs.functions.declared.Goals as goal
 
 pub slots-requires : goal.slots-requires
-slots-requires c = subst (λ (ds : List RawDecl). AllKeep (flat_map decl_limits ds)) (sym c.as_slice-decls.ensures) (decls_keep c.args.raw.now c.requires.free)
+slots-requires c = subst (λ (ds : List RawDecl). AllKeep (flat_map decl_limits ds)) (sym c.as_slice-decls.ensures) (decls_kept c.args.raw.now c.requires.free)
 
 pub callees-requires-clause-limits : goal.callees-requires-clause-limits
-callees-requires-clause-limits c = subst (λ (ds : List RawDecl). AllKeep (flat_map decl_limits ds)) (sym c.as_slice-decls.ensures) (decls_keep c.args.raw.now c.requires.free)
+callees-requires-clause-limits c = subst (λ (ds : List RawDecl). AllKeep (flat_map decl_limits ds)) (sym c.as_slice-decls.ensures) (decls_kept c.args.raw.now c.requires.free)
 
 pub callees-requires-clause-few : goal.callees-requires-clause-few
 callees-requires-clause-few c = subst (λ (ds : List RawDecl). length (flat_map decl_sigs ds) < 2 ^ 32) (sym c.as_slice-decls.ensures) (few_sigs c.args.raw.now c.requires.free)
 
 pub func_name-requires : goal.func_name-requires
-func_name-requires c = name_keeps c.args.raw.now c.requires.free
+func_name-requires c = name_kept c.args.raw.now c.requires.free
 
 pub declare-requires-clause-few : goal.declare-requires-clause-few
 declare-requires-clause-few c =

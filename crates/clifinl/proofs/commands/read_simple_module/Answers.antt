@@ -1,5 +1,5 @@
 use Rattle.std.proofs.Common.{ℕ, List, refl, sym, subst}
-use Rattle.clif_read.specs.SimpleModule.{Reads}
+use Rattle.simple_read.specs.SimpleModule.{Reads}
 use Rattle.clifinl.proofs.commands.read_simple_module.Goals as goal
 
 pub returns-in-Err-NotSimple-clause-stopped : goal.returns-in-Err-NotSimple-clause-stopped

@@ -11,19 +11,19 @@ result_types-requires c = results_declared c.args.caller.now.function c.args.cal
 pub inline_blocks-requires : goal.inline_blocks-requires
 inline_blocks-requires c =
     blocks_reached c.args.caller.now.function c.args.callee.now.function c.args.site c.values.ensures.sound c.values-2.ensures.sound c.requires.can (line_of c.inst-call.result.now) c.inst-call.ensures c.as_slice-results.result.now c.as_slice-results.ensures
-    c.in_ok-sigs.field-0 c.in_ok-sigs.ensures (record { values = c.values-5.result; slots = length c.slots.result.now; blocks = c.in_ok-number_blocks.field-0; sigs = c.in_ok-sigs.field-0.sigs.table; callees = c.in_ok-sigs.field-0.callees.table; sig_count = length c.sigs.result.now + length c.as_slice.result.now; callee_count = length c.callees.result.now + length c.as_slice-2.result.now })
+    c.args.import c.requires.imported (record { values = c.values-5.result; slots = length c.slots.result.now; blocks = c.in_ok-number_blocks.field-0; sigs = c.args.import.sigs.table; callees = c.args.import.callees.table; sig_count = length c.sigs.result.now + length c.as_slice.result.now; callee_count = length c.callees.result.now + length c.as_slice-2.result.now })
     c.values-5.ensures.count (ap length c.slots.ensures) c.in_ok-number_blocks.ensures.as_many refl refl
     (c.values-3.result + c.values-4.result) (ap₂ (λ x y. x + y) c.values-3.ensures.count c.values-4.ensures.count)
     c.as_slice-3.result.now c.in_ok-new_results.new_results.starts.items c.as_slice-3.ensures.value c.in_ok-new_results.ensures.as_many c.in_ok-new_results.ensures.starts
 
 pub returns : goal.returns
 returns c =
-    let n : Names = record { values = c.values-5.result; slots = length c.slots.result.now; blocks = c.in_ok-number_blocks.field-0; sigs = c.in_ok-sigs.field-0.sigs.table; callees = c.in_ok-sigs.field-0.callees.table; sig_count = length c.sigs.result.now + length c.as_slice.result.now; callee_count = length c.callees.result.now + length c.as_slice-2.result.now } in
+    let n : Names = record { values = c.values-5.result; slots = length c.slots.result.now; blocks = c.in_ok-number_blocks.field-0; sigs = c.args.import.sigs.table; callees = c.args.import.callees.table; sig_count = length c.sigs.result.now + length c.as_slice.result.now; callee_count = length c.callees.result.now + length c.as_slice-2.result.now } in
     let body = c.in_ok-body.body in
     let many : length body.block_params ≡ length c.args.callee.now.function.blocks = listed (inlined_block n c.inst-call.result.now.tags c.new.result c.as_slice-3.result.now (length c.as_slice-results.result.now)) body.block_params body.block_lines c.args.callee.now.function.blocks c.in_ok-body.ensures.as_many c.in_ok-body.ensures.blocks in
     let some : 0 < length c.into_vec-block_params.result.items = let e = ap length c.into_vec-block_params.ensures in let h = c.requires.can.has_block in omega (arith, e, many, h) in
     body_prepared c.args.caller.now.function c.args.callee.now.function c.args.site c.values.ensures.sound c.values-2.ensures.sound c.requires.can (line_of c.inst-call.result.now) c.inst-call.ensures c.as_slice-results.result.now c.as_slice-results.ensures
-    c.in_ok-sigs.field-0 c.in_ok-sigs.ensures n
+    c.args.import c.requires.imported n
     c.values-5.ensures.count (ap length c.slots.ensures) c.in_ok-number_blocks.ensures.as_many refl refl
     (c.values-3.result + c.values-4.result) (ap₂ (λ x y. x + y) c.values-3.ensures.count c.values-4.ensures.count)
     c.as_slice-3.result.now c.in_ok-new_results.new_results.starts.items c.as_slice-3.ensures.value c.in_ok-new_results.ensures.as_many c.in_ok-new_results.ensures.starts

@@ -1,8 +1,10 @@
 use Rattle.std.proofs.Common.{◌≡◌, ℕ, List, length, map, get_or, ap, sym, subst, ◌∙◌, arith}
 use Rattle.ir_core.specs.Lookup.{block_numbers}
 use Rattle.ir_core.specs.Lists.{Below}
-use Rattle.inline_body.specs.Dense.{written}
-use Rattle.inline_body.proofs.TableWritten.{looked_up}
+use Rattle.inline_body.specs.Dense.{numbers_along}
+use Rattle.inline_body.specs.Results.{with_values}
+use Rattle.inline_body.proofs.Along.{along_length}
+use Rattle.inline_body.proofs.ResultTypes.{values_at}
 use Rattle.inline_body.proofs.tables.number_blocks.Goals as goal
 
 pub returns-clause-numbers : goal.returns-clause-numbers
@@ -12,5 +14,11 @@ returns-clause-numbers c =
     let none = ap length c.in-None.ensures.steps.0 in
     let all = c.loop-block.invariant in
     let long : length c.loop-block.table.items ≡ length c.args.callee.now.function.blocks = omega (arith, none, all) in
-    let is : c.written.table.items ≡ written c.args.first c.loop-block.table.items ks c.args.first = ap (λ (z : List ℕ). written c.args.first c.written.table.items z c.written.number) (sym c.in-None-block.ensures.steps.0) ∙ c.written.invariant.left in
-    ap (λ (z : List ℕ). map (λ b. get_or z b 0) ks) (c.from_vec.ensures ∙ is) ∙ looked_up c.args.first c.loop-block.table.items ks c.args.first sound.blocks_differ (subst (λ (n : ℕ). Below n ks) (sym long) sound.block_range)
+    let vs = numbers_along c.args.first c.args.first ks in
+    let is : c.written.table.items ≡ with_values c.loop-block.table.items ks vs =
+    ap (λ (z : List ℕ). with_values c.written.table.items z (numbers_along c.args.first c.written.number z))
+    (sym c.in-None-block.ensures.steps.0)
+    ∙ c.written.invariant.left in
+    ap (λ (z : List ℕ). map (λ b. get_or z b 0) ks) (c.from_vec.ensures ∙ is)
+    ∙ values_at c.loop-block.table.items ks vs (sym (along_length c.args.first c.args.first ks)) sound.blocks_differ
+    (subst (λ (n : ℕ). Below n ks) (sym long) sound.block_range)

@@ -1,5 +1,5 @@
-use Rattle.std.proofs.Common.{◌≡◌, ℕ, List, [], ◌∷◌, ◌++◌, map, length, sym, ap, ap₂, subst, ◌∙◌, arith, length-append}
-use Rattle.ir_core.specs.Module.{Block, Line}
+use Rattle.std.proofs.Common.{◌≡◌, List, ◌++◌, map, length, sym, ap, ap₂, subst, ◌∙◌}
+use Rattle.ir_core.specs.Module.{Block}
 use Rattle.ir_core.specs.Lookup.{block_numbers}
 use Rattle.ir_core.specs.Lists.{In, Each}
 use Rattle.ir_core.specs.Viewed.{line_of}
@@ -7,17 +7,9 @@ use Rattle.ir_core.proofs.Sizing.{each_in}
 use Rattle.inline_body.specs.Named.{names_of}
 use Rattle.inline_body.specs.Inlined.{block_at, blocks_from}
 use Rattle.inline_ends.specs.Copied.{copied_block, CanCopy}
-use Rattle.inline_body.proofs.Found.{all_at, more_blocks}
+use Rattle.inline_body.proofs.Found.{all_at, block_is, more_blocks}
+use Rattle.inline_body.proofs.Pushed.{longer}
 use Rattle.inline_ends.proofs.copying.copy_blocks.Goals as goal
-
-longer : {A B : Type 0} (xs xs' : List A) (ys ys' : List B) (x : A) (y : B) → xs' ≡ xs ++ (x ∷ []) → ys' ≡ ys ++ (y ∷ []) → length xs ≡ length ys → length xs' ≡ length ys'
-longer xs xs' ys ys' x y e g h =
-    let p = ap length e ∙ length-append xs (x ∷ []) in
-    let q = ap length g ∙ length-append ys (y ∷ []) in
-    omega (arith, p, q, h)
-
-block_is : (n n' : ℕ) (ps ps' : List ℕ) (ls ls' : List Line) → n ≡ n' → ps ≡ ps' → ls ≡ ls' → (let b : Block = record { number = n; params = ps; lines = ls } in b) ≡ record { number = n'; params = ps'; lines = ls' }
-block_is n n' ps ps' ls ls' e g h = cc
 
 pub loop-block-init : goal.loop-block-init
 loop-block-init c =

@@ -1,8 +1,10 @@
 use Rattle.std.proofs.Common.{◌≡◌, ℕ, List, length, map, get_or, ap, sym, subst, ◌∙◌, arith}
 use Rattle.ir_core.specs.Lookup.{block_numbers}
 use Rattle.ir_core.specs.Lists.{Below}
-use Rattle.inline_ends.specs.Ending.{with_numbers}
-use Rattle.inline_ends.proofs.Numbered.{looked_up}
+use Rattle.inline_body.specs.Results.{with_values}
+use Rattle.inline_body.proofs.ResultTypes.{values_at}
+use Rattle.inline_ends.specs.Ending.{numbered}
+use Rattle.inline_ends.proofs.Numbered.{numbered_length}
 use Rattle.inline_ends.proofs.numbers.number_blocks.Goals as goal
 
 pub returns-clause-numbers : goal.returns-clause-numbers
@@ -12,5 +14,10 @@ returns-clause-numbers c =
     let none = ap length c.in-None.ensures.steps.0 in
     let all = c.loop-block.invariant in
     let long : length c.loop-block.table.items ≡ length c.args.callee.now.function.blocks = omega (arith, none, all) in
-    let is : c.written.table.items ≡ with_numbers c.loop-block.table.items ks c.args.first = ap (λ (z : List ℕ). with_numbers c.written.table.items z c.written.number) (sym c.in-None-block.ensures.steps.0) ∙ c.written.invariant.left in
-    ap (λ (z : List ℕ). map (λ b. get_or z b 0) ks) (c.from_vec.ensures ∙ is) ∙ looked_up c.loop-block.table.items ks c.args.first sound.blocks_differ (subst (λ (n : ℕ). Below n ks) (sym long) sound.block_range)
+    let vs = numbered c.args.first ks in
+    let is : c.written.table.items ≡ with_values c.loop-block.table.items ks vs =
+    ap (λ (z : List ℕ). with_values c.written.table.items z (numbered c.written.number z)) (sym c.in-None-block.ensures.steps.0)
+    ∙ c.written.invariant.left in
+    ap (λ (z : List ℕ). map (λ b. get_or z b 0) ks) (c.from_vec.ensures ∙ is)
+    ∙ values_at c.loop-block.table.items ks vs (sym (numbered_length c.args.first ks)) sound.blocks_differ
+    (subst (λ (n : ℕ). Below n ks) (sym long) sound.block_range)

@@ -1,7 +1,8 @@
 use Rattle.std.proofs.Common.{◌≡◌, ◌+◌, length}
 use Rattle.ir_core.specs.Lists.{Below}
 use Rattle.ir_core.specs.Lookup.{block_numbers}
-use Rattle.inline_ends.specs.Ending.{with_numbers}
+use Rattle.inline_body.specs.Results.{with_values}
+use Rattle.inline_ends.specs.Ending.{numbered}
 use Rattle.inline_ends.proofs.numbers.number_blocks.Given as goal
 
 abbrev pub invariant-loop-block : goal.invariant-loop-block
@@ -10,7 +11,9 @@ invariant-loop-block l = length l.table.items + length l._block-iterator ≡ len
 abbrev pub invariant-written : goal.invariant-written
 invariant-written l =
     record {
-      left : with_numbers l.table.items l.block-iterator l.number ≡ with_numbers l.initial.table.items (block_numbers l.fn.callee.function.blocks) l.first;
+      left : with_values l.table.items l.block-iterator (numbered l.number l.block-iterator)
+          ≡ with_values l.initial.table.items (block_numbers l.fn.callee.function.blocks)
+          (numbered l.first (block_numbers l.fn.callee.function.blocks));
       long : length l.table.items ≡ length l.fn.callee.function.blocks;
       below : Below (length l.fn.callee.function.blocks) l.block-iterator;
       small : l.number + length l.block-iterator ≡ l.first + length l.fn.callee.function.blocks;

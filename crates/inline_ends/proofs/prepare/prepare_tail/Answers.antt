@@ -12,7 +12,7 @@ use Rattle.inline_ends.proofs.prepare.prepare_tail.Goals as goal
 pub copy_blocks-requires : goal.copy_blocks-requires
 copy_blocks-requires c =
     blocks_reached c.args.caller.now.function c.args.callee.now.function c.args.site c.values.ensures.sound c.values-2.ensures.sound c.requires.can (line_of c.inst-call.result.now) c.inst-call.ensures
-    c.in_ok-sigs.field-0 c.in_ok-sigs.ensures (record { values = c.values-3.result; slots = length c.slots.result.now; blocks = c.in_ok-number_blocks.field-0; sigs = c.in_ok-sigs.field-0.sigs.table; callees = c.in_ok-sigs.field-0.callees.table; sig_count = length c.sigs.result.now + length c.as_slice.result.now; callee_count = length c.callees.result.now + length c.as_slice-2.result.now })
+    c.args.import c.requires.imported (record { values = c.values-3.result; slots = length c.slots.result.now; blocks = c.in_ok-number_blocks.field-0; sigs = c.args.import.sigs.table; callees = c.args.import.callees.table; sig_count = length c.sigs.result.now + length c.as_slice.result.now; callee_count = length c.callees.result.now + length c.as_slice-2.result.now })
     c.values-3.ensures.count (ap length c.slots.ensures) c.in_ok-number_blocks.ensures.as_many refl refl
 
 pub returns : goal.returns
@@ -20,13 +20,13 @@ returns c =
     let f = c.args.caller.now.function in
     let g = c.args.callee.now.function in
     let l = line_of c.inst-call.result.now in
-    let n : Names = record { values = c.values-3.result; slots = length c.slots.result.now; blocks = c.in_ok-number_blocks.field-0; sigs = c.in_ok-sigs.field-0.sigs.table; callees = c.in_ok-sigs.field-0.callees.table; sig_count = length c.sigs.result.now + length c.as_slice.result.now; callee_count = length c.callees.result.now + length c.as_slice-2.result.now } in
+    let n : Names = record { values = c.values-3.result; slots = length c.slots.result.now; blocks = c.in_ok-number_blocks.field-0; sigs = c.args.import.sigs.table; callees = c.args.import.callees.table; sig_count = length c.sigs.result.now + length c.as_slice.result.now; callee_count = length c.callees.result.now + length c.as_slice-2.result.now } in
     let body = c.in_ok-body.body in
     let many : length body.block_params ≡ length g.blocks = listed (copied_block n c.inst-call.result.now.tags) body.block_params body.block_lines g.blocks c.in_ok-body.ensures.as_many c.in_ok-body.ensures.blocks in
     let some : 0 < length c.into_vec-block_params.result.items = let e = ap length c.into_vec-block_params.ensures in let h = c.requires.can.has_block in omega (arith, e, many, h) in
     let params = ap (λ z. c.remove-first.result ∷ z) c.from_vec-3.ensures ∙ (removed c.into_vec-block_params.result.items c.remove-first.new.self.items c.remove-first.result some c.remove-first.ensures.value c.remove-first.ensures.items ∙ c.into_vec-block_params.ensures) in
     tail_prepared f g c.args.site c.values.ensures.sound c.values-2.ensures.sound c.requires.can l c.inst-call.ensures
-    c.in_ok-sigs.field-0 c.in_ok-sigs.ensures n
+    c.args.import c.requires.imported n
     c.values-3.ensures.count (ap length c.slots.ensures) c.in_ok-number_blocks.ensures.as_many refl refl
     (c.in_ok-number_blocks.ensures.numbers ∙ ap (λ (z : ℕ). numbered z (block_numbers g.blocks)) c.requires.counted)
     _

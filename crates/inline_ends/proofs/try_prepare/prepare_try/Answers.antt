@@ -15,14 +15,14 @@ site_of-outer-requires c = is_tries c.args.caller.now.function c.args.callee.now
 pub try_blocks-requires-clause-can : goal.try_blocks-requires-clause-can
 try_blocks-requires-clause-can c =
     blocks_reached c.args.caller.now.function c.args.callee.now.function c.args.site c.values.ensures.sound c.values-2.ensures.sound c.requires.can (line_of c.inst-call.result.now) c.inst-call.ensures
-    c.in_ok-sigs.field-0 c.in_ok-sigs.ensures (record { values = c.values-3.result; slots = length c.slots.result.now; blocks = c.in_ok-number_try_blocks.field-0; sigs = c.in_ok-sigs.field-0.sigs.table; callees = c.in_ok-sigs.field-0.callees.table; sig_count = length c.sigs.result.now + length c.as_slice.result.now; callee_count = length c.callees.result.now + length c.as_slice-2.result.now })
+    c.args.import c.requires.imported (record { values = c.values-3.result; slots = length c.slots.result.now; blocks = c.in_ok-number_try_blocks.field-0; sigs = c.args.import.sigs.table; callees = c.args.import.callees.table; sig_count = length c.sigs.result.now + length c.as_slice.result.now; callee_count = length c.callees.result.now + length c.as_slice-2.result.now })
     c.values-3.ensures.count (ap length c.slots.ensures) c.in_ok-number_try_blocks.ensures.as_many refl refl
     (c.in_ok-number_try_blocks.ensures.numbers ∙ ap (λ (z : ℕ). numbered_with_calls z c.args.callee.now.function.blocks) c.requires.counted)
 
 pub try_blocks-requires-clause-called : goal.try_blocks-requires-clause-called
 try_blocks-requires-clause-called c =
     called c.args.caller.now.function c.args.callee.now.function c.args.site c.values.ensures.sound c.values-2.ensures.sound c.requires.can (line_of c.inst-call.result.now) c.inst-call.ensures
-    c.in_ok-sigs.field-0 c.in_ok-sigs.ensures (record { values = c.values-3.result; slots = length c.slots.result.now; blocks = c.in_ok-number_try_blocks.field-0; sigs = c.in_ok-sigs.field-0.sigs.table; callees = c.in_ok-sigs.field-0.callees.table; sig_count = length c.sigs.result.now + length c.as_slice.result.now; callee_count = length c.callees.result.now + length c.as_slice-2.result.now })
+    c.args.import c.requires.imported (record { values = c.values-3.result; slots = length c.slots.result.now; blocks = c.in_ok-number_try_blocks.field-0; sigs = c.args.import.sigs.table; callees = c.args.import.callees.table; sig_count = length c.sigs.result.now + length c.as_slice.result.now; callee_count = length c.callees.result.now + length c.as_slice-2.result.now })
     c.values-3.ensures.count (ap length c.slots.ensures) c.in_ok-number_try_blocks.ensures.as_many refl refl
     (c.in_ok-number_try_blocks.ensures.numbers ∙ ap (λ (z : ℕ). numbered_with_calls z c.args.callee.now.function.blocks) c.requires.counted)
     c.site_of-outer.result (c.site_of-outer.ensures.callees ∙ ap₂ (λ x y. x ++ y) c.callees-2.ensures c.as_slice-3.ensures)
@@ -30,7 +30,7 @@ try_blocks-requires-clause-called c =
 pub remove-first-requires : goal.remove-first-requires
 remove-first-requires c =
     let g = c.args.callee.now.function in
-    let n : Names = record { values = c.values-3.result; slots = length c.slots.result.now; blocks = c.in_ok-number_try_blocks.field-0; sigs = c.in_ok-sigs.field-0.sigs.table; callees = c.in_ok-sigs.field-0.callees.table; sig_count = length c.sigs.result.now + length c.as_slice.result.now; callee_count = length c.callees.result.now + length c.as_slice-2.result.now } in
+    let n : Names = record { values = c.values-3.result; slots = length c.slots.result.now; blocks = c.in_ok-number_try_blocks.field-0; sigs = c.args.import.sigs.table; callees = c.args.import.callees.table; sig_count = length c.sigs.result.now + length c.as_slice.result.now; callee_count = length c.callees.result.now + length c.as_slice-2.result.now } in
     let body = c.in_ok-body.body in
     let many : length body.block_params ≡ length (tried_blocks n c.site_of-outer.result g.blocks) = sym (blocks_listed body.block_params body.block_lines c.in_ok-body.ensures.as_many) ∙ ap length c.in_ok-body.ensures.blocks in
     let long = tried_length n c.site_of-outer.result g.blocks in
@@ -44,14 +44,14 @@ returns c =
     let g = c.args.callee.now.function in
     let l = line_of c.inst-call.result.now in
     let s = c.site_of-outer.result in
-    let n : Names = record { values = c.values-3.result; slots = length c.slots.result.now; blocks = c.in_ok-number_try_blocks.field-0; sigs = c.in_ok-sigs.field-0.sigs.table; callees = c.in_ok-sigs.field-0.callees.table; sig_count = length c.sigs.result.now + length c.as_slice.result.now; callee_count = length c.callees.result.now + length c.as_slice-2.result.now } in
+    let n : Names = record { values = c.values-3.result; slots = length c.slots.result.now; blocks = c.in_ok-number_try_blocks.field-0; sigs = c.args.import.sigs.table; callees = c.args.import.callees.table; sig_count = length c.sigs.result.now + length c.as_slice.result.now; callee_count = length c.callees.result.now + length c.as_slice-2.result.now } in
     let body = c.in_ok-body.body in
     let many : length body.block_params ≡ length (tried_blocks n s g.blocks) = sym (blocks_listed body.block_params body.block_lines c.in_ok-body.ensures.as_many) ∙ ap length c.in_ok-body.ensures.blocks in
     let long = tried_length n s g.blocks in
     let some : 0 < length c.into_vec-block_params.result.items = let e = ap length c.into_vec-block_params.ensures in let h = c.requires.can.has_block in omega (arith, e, many, long, h) in
     let params = ap (λ z. c.remove-first.result ∷ z) c.from_vec-3.ensures ∙ (removed c.into_vec-block_params.result.items c.remove-first.new.self.items c.remove-first.result some c.remove-first.ensures.value c.remove-first.ensures.items ∙ c.into_vec-block_params.ensures) in
     try_prepared f g c.args.site c.values.ensures.sound c.values-2.ensures.sound c.requires.can l c.inst-call.ensures
-    c.in_ok-sigs.field-0 c.in_ok-sigs.ensures n
+    c.args.import c.requires.imported n
     c.values-3.ensures.count (ap length c.slots.ensures) c.in_ok-number_try_blocks.ensures.as_many refl refl
     (c.in_ok-number_try_blocks.ensures.numbers ∙ ap (λ (z : ℕ). numbered_with_calls z g.blocks) c.requires.counted)
     s c.site_of-outer.ensures.kind c.site_of-outer.ensures.tags (c.site_of-outer.ensures.callees ∙ ap₂ (λ x y. x ++ y) c.callees-2.ensures c.as_slice-3.ensures)

@@ -1,0 +1,40 @@
+-- Members of lists and what stands at their places.
+use Rattle.std.proofs.Common.{◌≡◌, ℕ, zero, suc, ◌<◌, List, [], ◌∷◌, ◌++◌, length, slice_get, Some, map, refl, sym, ap, subst, ◌∙◌, arith, inl, inr}
+use Rattle.std.specs.Prelude.{flat_map}
+use Rattle.std.specs.List.{enumerate_from}
+use Rattle.std.proofs.lemmas.List.{length-map}
+use Rattle.std.proofs.lemmas.List.FromFn.{length-enumerate_from}
+use Rattle.ir_core.specs.Lists.{In, Each}
+use Rattle.ir_core.proofs.Members.{in_left, in_right}
+
+pub each_in : {A : Type 0} (P : A → Type 0) (xs : List A) → ((x : A) → In x xs → P x) → Each P xs
+each_in P [] go = tt
+each_in P (x ∷ xs) go = (go x (inl refl), each_in P xs (λ y i. go y (inr i)))
+
+pub each_got : {A : Type 0} (P : A → Type 0) (xs : List A) → Each P xs → (i : ℕ) (x : A) → slice_get xs i ≡ Some x → P x
+each_got P [] h i x e = absurd cc
+each_got P (y ∷ ys) h zero x e = let same : y ≡ x = cc in subst P same h.0
+each_got P (y ∷ ys) h (suc i) x e = each_got P ys h.1 i x e
+
+pub in_flat_in : {A B : Type 0} (f : A → List B) (xs : List A) (x : A) (b : B) → In x xs → In b (f x) → In b (flat_map f xs)
+in_flat_in f [] x b i j = absurd i
+in_flat_in f (y ∷ ys) x b (inl e) j = in_left b (f y) (flat_map f ys) (rw (sym e) j)
+in_flat_in f (y ∷ ys) x b (inr i) j = in_right b (f y) (flat_map f ys) (in_flat_in f ys x b i j)
+
+pub in_map : {A B : Type 0} (f : A → B) (xs : List A) (x : A) → In x xs → In (f x) (map f xs)
+in_map f [] x i = absurd i
+in_map f (y ∷ ys) x (inl e) = inl (ap f e)
+in_map f (y ∷ ys) x (inr i) = inr (in_map f ys x i)
+
+pub get_left : {A : Type 0} (xs ys : List A) (i : ℕ) → i < length xs → slice_get (xs ++ ys) i ≡ slice_get xs i
+get_left [] ys i h = absurd (omega (arith, h))
+get_left (x ∷ xs) ys zero h = refl
+get_left (x ∷ xs) ys (suc i) h = get_left xs ys i (omega (arith, h))
+
+pub get_seam : {A : Type 0} (xs : List A) (y : A) (ys : List A) → slice_get (xs ++ y ∷ ys) (length xs) ≡ Some y
+get_seam [] y ys = refl
+get_seam (x ∷ xs) y ys = get_seam xs y ys
+
+-- as many as the elements, where each is made of an element and its number
+pub numbered_long : {A B : Type 0} (f : ℕ × A → B) (k : ℕ) (xs : List A) → length (map f (enumerate_from k xs)) ≡ length xs
+numbered_long f k xs = length-map (enumerate_from k xs) f ∙ length-enumerate_from k xs

@@ -1,5 +1,0 @@
-use Rattle.clif_read.proofs.BackSimpleWhole.{reads_back}
-use Rattle.clif_read.proofs.laws.simple_text_reads_back.Goals as goal
-
-pub returns : goal.returns
-returns c = reads_back

@@ -1,0 +1,9 @@
+pub mod EachShape
+pub mod Naming
+pub mod Making
+pub mod Paths
+pub mod Rules
+pub mod ShapeRules
+pub mod ShapesWhole
+pub mod ShapesWritable
+pub mod Acceptance

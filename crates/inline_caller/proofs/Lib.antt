@@ -1,0 +1,4 @@
+pub mod Counted
+pub mod ReplacedCalls
+pub mod Indexed
+pub mod Definitions

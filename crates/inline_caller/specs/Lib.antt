@@ -1,0 +1,3 @@
+pub mod Replacing
+pub mod Standing
+pub mod Laws

@@ -1,0 +1,114 @@
+//! A function whose calls are replaced one after the other.
+ghost use Rattle.std.specs.Prelude.{◌≡◌, ◌+◌, ◌-◌, ◌<◌, ◌^◌, length, IfOk};
+ghost use Rattle.body_import.specs.Imports.{IsImportOf};
+ghost use Rattle.inline_body.specs.PlainCall.{IsSplice};
+ghost use Rattle.inline_caller.specs.Replacing.{CanReplace};
+
+use crate::putting::put_callee;
+use body_import::{Import, Index, extend_index, index_declarations, plan_import};
+use inline_body::count_blocks;
+use ir_core::{Func, Point};
+use std::alloc::{AllocError, Global};
+use std::marker::Model;
+
+/// A function whose calls are replaced one after the other. Contracts see it as the function. It keeps an index of the
+/// function's declarations and its number of blocks, so that no splice goes over the whole function.
+#[derive(Drop)]
+pub struct Caller {
+    func: Func,
+    block_count: u32,
+    index: Index,
+}
+
+impl Model for Caller {
+    ghost use Rattle.ir_core.specs.Module.{Function};
+    ghost use Rattle.inline_caller.specs.Standing.{function_of, IsCaller};
+
+    ghost Value = { Function };
+
+    ghost view = { function_of };
+
+    ghost invariant = { IsCaller };
+}
+
+impl Caller {
+    /// A caller with a copy of the function.
+    pub fn new(alloc: Global, func: &Func) -> Result<Caller, AllocError>
+        ensures { IfOk result (λ c. c ≡ func.now.function) }
+    {
+        let _ = func.values();
+        let block_count = count_blocks(func) as u32;
+        let index = index_declarations(alloc, func)?;
+        Ok(Caller {
+            func: func.copy()?,
+            block_count,
+            index,
+        })
+    }
+
+    /// The function.
+    pub fn func(&self) -> &Func
+        ensures { result.now.function ≡ self.now }
+    {
+        &self.func
+    }
+
+    /// The function, when all is replaced.
+    pub fn into_func(self) -> Func
+        ensures { result.function ≡ self }
+    {
+        self.func
+    }
+
+    /// The number of blocks. At a plain call that is replaced, the block behind the body has the number after this one.
+    pub fn block_count(&self) -> u32
+        ensures { result ≡ length self.now.blocks }
+    {
+        self.block_count
+    }
+
+    /// What the caller takes over from a callee. Time is the length of the callee's declarations, times the logarithm
+    /// of the number of the caller's.
+    pub fn plan(&self, alloc: Global, callee: &Func) -> Result<Import, AllocError>
+        requires few_sigs { length self.now.sigs + length callee.now.function.sigs < 2 ^ 32 - 1 }
+        requires few_callees { length self.now.callees + length callee.now.function.callees < 2 ^ 32 - 1 }
+        ensures { IfOk result (λ i. IsImportOf self.now callee.now.function i) }
+    {
+        plan_import(alloc, &self.index, &self.func, callee)
+    }
+
+    /// Replaces the call at the place by the callee's body. After `AllocError` the caller is gone. Time is the size of
+    /// what is put in, times the logarithm of the number of the caller's declarations.
+    pub fn splice(
+        self,
+        alloc: Global,
+        site: Point,
+        callee: &Func,
+        import: Import,
+    ) -> Result<Caller, AllocError>
+        requires imported { IsImportOf self callee.now.function import }
+        requires can { CanReplace self callee.now.function site }
+        ensures { IfOk result (λ c. IsSplice self callee.now.function site c) }
+    {
+        let Caller {
+            mut func,
+            block_count,
+            mut index,
+        } = self;
+        let _ = func.values();
+        extend_index(
+            alloc,
+            &mut index,
+            func.sigs().len() as u32,
+            func.callees().len() as u32,
+            import.sigs.added.as_slice(),
+            import.callees.added.as_slice(),
+        )?;
+        let block_count = put_callee(alloc, &mut func, block_count, import, site, callee)?;
+        Ok(Caller {
+            func,
+            block_count,
+            index,
+        })
+    }
+}

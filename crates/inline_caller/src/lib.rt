@@ -1,0 +1,12 @@
+//! A function whose calls are replaced, each by its callee's body.
+#![tactic(auto)]
+
+mod caller;
+mod kinds;
+pub mod laws;
+mod one_call;
+mod putting;
+
+pub use caller::Caller;
+pub use kinds::{CallKind, call_kind};
+pub use one_call::splice;

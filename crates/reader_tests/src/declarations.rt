@@ -1,0 +1,159 @@
+//! Names, signatures, declarations and heads of blocks in texts: what is read, and where reading stops.
+
+use crate::modules::{fault, read};
+use clif_insts::{RawName, RawNumber};
+use clif_read::{RawAttribute, RawCalleeSig, RawDecl, RawFuncName, RawFunction, RawSignature};
+use ir_core::{Conv, Ty};
+
+#[test]
+fn names_the_first_fault_of_a_declaration(rt: HostRuntime) {
+    for (text, kind, row, column) in [
+        // names
+        ("function", "Syntax", 1, 9),
+        ("function f", "Syntax", 1, 10),
+        ("function u0 %f", "Syntax", 1, 13),
+        ("function u0:%f", "Syntax", 1, 13),
+        // signatures
+        ("function %f {", "Syntax", 1, 13),
+        ("function %f(uext) {", "Syntax", 1, 13),
+        ("function %f(i64,) {", "Syntax", 1, 17),
+        ("function %f() -> fast {", "Syntax", 1, 18),
+        ("function %f() fast cold {", "Syntax", 1, 20),
+        // slots
+        ("function %f() {\nss0 = 8", "Syntax", 2, 7),
+        ("function %f() {\nss0 = explicit_slot 8, 4", "Syntax", 2, 24),
+        (
+            "function %f() {\nss0 = explicit_slot 8, align 4",
+            "Syntax",
+            2,
+            30,
+        ),
+        // signatures and callees
+        ("function %f() {\nsig0 = %g", "Syntax", 2, 8),
+        ("function %f() {\nfn0 = colocated sig0", "Syntax", 2, 17),
+        ("function %f() {\nfn0 = %g sig0 fast", "Syntax", 2, 15),
+        ("function %f() {\nfn0 = %g() fast cold", "Syntax", 2, 17),
+        // heads of blocks
+        ("function %f() {\nblock0(v0):", "Syntax", 2, 10),
+        ("function %f() {\nblock0(v0: f32):", "Unsupported", 2, 12),
+        ("function %f() {\nblock0(v0: i64,):", "Syntax", 2, 16),
+        ("function %f() {\nblock0 cold cold:", "Syntax", 2, 13),
+    ] {
+        assert_eq!(rt;
+            fault(&rt, rt.alloc(), text),
+            (kind, row, column),
+            "at {text}"
+        );
+    }
+}
+
+const DECLARED: &str = "function %ab(i64 sret uext, i8) -> i16 cold {
+    ss3 = explicit_slot 8, align = 4
+    sig0 = (i32) -> i64 tail
+    fn0 = colocated %g sig0
+    fn1 = u2:3() fast
+block0:
+}
+";
+
+/// Whether the name is `%` and these bytes, and the `%` stands at this spot.
+fn is_text(name: &RawFuncName, bytes: &[u8], at: usize) -> bool {
+    match name {
+        RawFuncName::Text { name, spot } => name.as_slice() == bytes && *spot == at,
+        RawFuncName::User { .. } => false,
+    }
+}
+
+/// Whether `DECLARED`'s signature is read.
+fn is_first_signature(signature: &RawSignature) -> bool {
+    match (signature.params.as_slice(), signature.results.as_slice()) {
+        ([first, second], [result]) => {
+            let pair: &[RawAttribute] = &[RawAttribute::Sret, RawAttribute::Uext];
+            first.ty == Ty::I64
+                && first.attributes.as_slice() == pair
+                && second.ty == Ty::I8
+                && second.attributes.as_slice().is_empty()
+                && result.ty == Ty::I16
+                && signature.conv == Some(Conv::Cold)
+        }
+        _ => false,
+    }
+}
+
+fn name_at(number: u64, spot: usize) -> RawName {
+    RawName { number, spot }
+}
+
+fn number_at(value: i128, spot: usize) -> RawNumber {
+    RawNumber { value, spot }
+}
+
+/// Whether it is `ss3 = explicit_slot 8, align = 4`.
+fn is_slot(decl: &RawDecl) -> bool {
+    match decl {
+        RawDecl::Slot { slot, size, align } => {
+            *slot == name_at(3, 50) && *size == number_at(8, 70) && *align == Some(number_at(4, 81))
+        }
+        _ => false,
+    }
+}
+
+/// Whether it is `fn0 = colocated %g sig0`.
+fn is_named_callee(decl: &RawDecl) -> bool {
+    match decl {
+        RawDecl::Callee {
+            callee,
+            colocated,
+            name,
+            sig: RawCalleeSig::Declared(sig),
+        } => {
+            *callee == name_at(0, 116)
+                && *colocated
+                && is_text(name, b"g", 132)
+                && *sig == name_at(0, 135)
+        }
+        _ => false,
+    }
+}
+
+/// Whether it is `fn1 = u2:3() fast`.
+fn is_user_callee(decl: &RawDecl) -> bool {
+    match decl {
+        RawDecl::Callee {
+            callee,
+            colocated,
+            name: RawFuncName::User { space, number },
+            sig: RawCalleeSig::Inline(signature),
+        } => {
+            *callee == name_at(1, 144)
+                && !*colocated
+                && *space == name_at(2, 150)
+                && *number == number_at(3, 153)
+                && signature.conv == Some(Conv::Fast)
+        }
+        _ => false,
+    }
+}
+
+/// Whether the declarations of `DECLARED` are read.
+fn has_declarations(function: &RawFunction) -> bool {
+    match function.decls.as_slice() {
+        [slot, _, named, user] => is_slot(slot) && is_named_callee(named) && is_user_callee(user),
+        _ => false,
+    }
+}
+
+#[test]
+fn reads_declarations(rt: HostRuntime) {
+    match read(&rt, rt.alloc(), DECLARED) {
+        Err(_) => assert!(rt; false, "no module"),
+        Ok(found) => match found.functions.as_slice() {
+            [function] => {
+                assert!(rt; is_text(&function.name, b"ab", 9));
+                assert!(rt; is_first_signature(&function.signature));
+                assert!(rt; has_declarations(function));
+            }
+            _ => assert!(rt; false, "not one function"),
+        },
+    }
+}

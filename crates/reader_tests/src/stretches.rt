@@ -1,0 +1,143 @@
+//! What no clause says: that a text is read in stretches, whatever the number of workers and the size of a stretch.
+
+use crate::modules::read;
+use clif_lex::{TextErr, tokens};
+use clif_read::{
+    RawModule, read_in_shares, read_in_stretches, read_raw_by, read_text, read_text_by,
+};
+use std::alloc::{AllocError, Global};
+use std::thread::Threads;
+
+const WORKERS: [usize; 3] = [1, 2, 5];
+
+const SIZES: [usize; 3] = [1, 70, 1000];
+
+/// How many tokens a stretch of a list takes.
+const SHARES: [usize; 4] = [0, 1, 20, 1000];
+
+/// A header, comments and three functions, of which each has one of these lines.
+fn text_of(alloc: Global, first: &str, second: &str, third: &str) -> Result<String, AllocError> {
+    format!(in alloc;
+        "; first\ntest compile\nfunction %a() {{\nblock0:\n    {first}\n    return\n}}\n; second\n\
+        function %b(i64) -> i64 {{\nblock0(v0: i64):\n    {second}\n    return v0\n}}\nfunction %c() {{\n\
+        block0:\n    {third}\n    trap int_ovf\n}}\n; last\n"
+    )
+}
+
+/// A header, comments and three functions, of which the second has this line.
+fn text_with(alloc: Global, line: &str) -> Result<String, AllocError> {
+    text_of(alloc, "nop", line, "nop")
+}
+
+/// What a text was read as: how many headers and functions, or its fault.
+fn counts(found: Result<RawModule, TextErr>) -> (usize, usize, Option<TextErr>) {
+    match found {
+        Ok(found) => (
+            found.headers.as_slice().len(),
+            found.functions.as_slice().len(),
+            None,
+        ),
+        Err(err) => (0, 0, Some(err)),
+    }
+}
+
+#[test]
+fn reads_in_stretches(rt: HostRuntime) -> Result<(), AllocError> {
+    let text = text_with(rt.alloc(), "v1 = iadd v0, v0")?;
+    for workers in WORKERS {
+        for size in SIZES {
+            match read_in_stretches(&rt, rt.alloc(), text.as_bytes(), workers, size) {
+                Some(found) => {
+                    assert_eq!(rt; found.headers.as_slice().len(), 1);
+                    assert_eq!(rt; found.functions.as_slice().len(), 3);
+                }
+                None => assert!(rt; false),
+            }
+        }
+    }
+    assert!(rt; read_text(&rt, rt.alloc(), text.as_bytes(), 4).is_ok());
+    Ok(())
+}
+
+#[test]
+fn finds_the_first_fault(rt: HostRuntime) -> Result<(), AllocError> {
+    let text = text_with(rt.alloc(), "v1 = frob v0")?;
+    let wanted = read(&rt, rt.alloc(), text.as_str()).err();
+    assert!(rt; wanted.is_some());
+    for workers in WORKERS {
+        for size in SIZES {
+            let found = read_text_by(&rt, rt.alloc(), text.as_bytes(), workers, size);
+            assert_eq!(rt; found.err(), wanted);
+        }
+    }
+    Ok(())
+}
+
+#[test]
+fn reads_in_shares(rt: HostRuntime) -> Result<(), AllocError> {
+    let text = text_with(rt.alloc(), "v1 = iadd v0, v0")?;
+    let bytes = text.as_bytes();
+    match tokens(rt.alloc(), bytes) {
+        Err(_) => assert!(rt; false),
+        Ok(list) => {
+            for workers in WORKERS {
+                for size in SHARES {
+                    match read_in_shares(&rt, rt.alloc(), bytes, &list, workers, size) {
+                        Some(found) => assert_eq!(rt; counts(Ok(found)), (1, 3, None)),
+                        None => assert!(rt; false),
+                    }
+                }
+            }
+        }
+    }
+    Ok(())
+}
+
+/// Whether a text is read by shares as one worker reads it.
+fn is_read_alike<R: Threads + Sync>(rt: &R, alloc: Global, text: &str) -> bool {
+    let Ok(list) = tokens(alloc, text.as_bytes()) else {
+        return false;
+    };
+    let wanted = counts(read(rt, alloc, text));
+    for workers in WORKERS {
+        for size in SHARES {
+            let found = read_raw_by(rt, alloc, text.as_bytes(), &list, workers, size);
+            if counts(found) != wanted {
+                return false;
+            }
+        }
+    }
+    true
+}
+
+#[test]
+fn reads_any_text_in_shares(rt: HostRuntime) {
+    for text in [
+        "",
+        "; nothing",
+        "test run\nset opt_level=speed\n; no function\n",
+        "function %a() {\nblock0:\n    return\n}\ntest run\n",
+        "function %a() {\nblock0:\n    return\n}\nfunction\n",
+        "function %a() {\nblock0:\n    function\n}\n",
+        "function %a() {\nblock0:\n    return\nfunction %b() {\nblock0:\n    return\n}\n",
+        "i64 function %a() {\nblock0:\n    return\n}\n",
+    ] {
+        assert!(rt; is_read_alike(&rt, rt.alloc(), text), "at {text}");
+    }
+}
+
+#[test]
+fn finds_the_first_fault_in_shares(rt: HostRuntime) -> Result<(), AllocError> {
+    for (first, second, third) in [
+        ("v1, v2 nop", "nop", "nop"),
+        ("nop", "v1 = frob v0", "nop"),
+        ("nop", "nop", "v1 = fadd v0, v0"),
+        ("frob", "v1, v2 nop", "}"),
+        ("nop", "}", "frob"),
+    ] {
+        let text = text_of(rt.alloc(), first, second, third)?;
+        assert!(rt; read(&rt, rt.alloc(), text.as_str()).is_err(), "at {text}");
+        assert!(rt; is_read_alike(&rt, rt.alloc(), text.as_str()), "at {text}");
+    }
+    Ok(())
+}

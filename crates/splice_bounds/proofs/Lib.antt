@@ -1,0 +1,4 @@
+pub mod Bounds
+pub mod Counts
+pub mod Ends
+pub mod Growing

@@ -1,0 +1,4 @@
+//! A splice within the limit of sizes has numbers for all its parts.
+#![tactic(auto)]
+
+pub mod laws;

@@ -1,0 +1,11 @@
+pub mod Blocks
+pub mod Budgets
+pub mod Caps
+pub mod Counting
+pub mod Examples
+pub mod Fitting
+pub mod Lines
+pub mod SpliceSizes
+pub mod Steps
+pub mod Sums
+pub mod Under

@@ -1,0 +1,4 @@
+pub mod Counts
+pub mod SizeAfter
+pub mod Laws
+pub mod Examples

@@ -60,12 +60,6 @@ callees_stay q =
 
 -- ---- the decision
 
-pub capped_within : (s limit size : ℕ) → size ≡ capped s → size ≤ limit → limit ≤ 262144 → s ≤ limit
-capped_within s limit size e h k = omega (arith, e, h, k)
-
-pub capped_over : (s limit size : ℕ) → size ≡ capped s → limit < size → limit < s
-capped_over s limit size e h = omega (arith, e, h)
-
 over_false : (a b c d : ℕ) → b < a → (nat_le a b && nat_le c d) ≡ false
 over_false a b c d h = ap (λ z. z && nat_le c d) (lt-leb a b h)
 
@@ -77,8 +71,8 @@ over_behind : (a b c d : ℕ) → d < c → (nat_le a b && nat_le c d) ≡ false
 over_behind a b c d h = ap (λ z. nat_le a b && z) (lt-leb c d h) ∙ false_behind (nat_le a b)
 
 module _ (p : Policy) (f g : Function) (at : Point) (l : Line) where
-  pub body_over : (size : ℕ) → size ≡ capped (size_of g) → p.callee_size < size → IsDecided p f g at l None
-  body_over size e h n = over_false (size_of g) p.callee_size (size_of (spliced (splicing_at n f g at l))) p.caller_size (capped_over (size_of g) p.callee_size size e h)
+  pub body_over : (size_of g ≤ p.callee_size → ⊥) → IsDecided p f g at l None
+  body_over h n = over_false (size_of g) p.callee_size (size_of (spliced (splicing_at n f g at l))) p.caller_size (omega (arith, h))
 
   pub sigs_over : p.caller_size < length f.sigs → IsDecided p f g at l None
   sigs_over h n =
@@ -90,11 +84,19 @@ module _ (p : Policy) (f g : Function) (at : Point) (l : Line) where
       let more = callees_stay (splicing_at n f g at l) in
       over_behind (size_of g) p.callee_size (size_of (spliced (splicing_at n f g at l))) p.caller_size (omega (arith, h, more))
 
-  pub splice_over : (size : ℕ) → ((n : Naming) → size ≡ capped (size_of (spliced (splicing_at n f g at l)))) → p.caller_size < size → IsDecided p f g at l None
-  splice_over size e h n = over_behind (size_of g) p.callee_size (size_of (spliced (splicing_at n f g at l))) p.caller_size (capped_over (size_of (spliced (splicing_at n f g at l))) p.caller_size size (e n) h)
+  -- the size of the splice as the code has it
+  module _ (size : ℕ) (told : (n : Naming) → size ≡ capped (size_of (spliced (splicing_at n f g at l)))) where
+    pub splice_over : p.caller_size < size → IsDecided p f g at l None
+    splice_over h n =
+        let e = told n in
+        over_behind (size_of g) p.callee_size (size_of (spliced (splicing_at n f g at l))) p.caller_size (omega (arith, e, h))
 
-  pub both_within : (size body : ℕ) → ((n : Naming) → size ≡ capped (size_of (spliced (splicing_at n f g at l)))) → size ≤ p.caller_size → p.caller_size ≤ 262144 → body ≡ capped (size_of g) → body ≤ p.callee_size → p.callee_size ≤ 262144 → (n : Naming) → takes p g (spliced (splicing_at n f g at l)) ≡ true
-  both_within size body e h k eb hb kb n =
-      true_both (nat_le (size_of g) p.callee_size) (nat_le (size_of (spliced (splicing_at n f g at l))) p.caller_size)
-      (le-leb (size_of g) p.callee_size (capped_within (size_of g) p.callee_size body eb hb kb))
-      (le-leb (size_of (spliced (splicing_at n f g at l))) p.caller_size (capped_within (size_of (spliced (splicing_at n f g at l))) p.caller_size size (e n) h k))
+    module _ (few : size ≤ p.caller_size) (limit : p.caller_size ≤ 262144) where
+      pub size_told : (n : Naming) → size ≡ size_of (spliced (splicing_at n f g at l))
+      size_told n = let e = told n in omega (arith, e, few, limit)
+
+      pub both_within : size_of g ≤ p.callee_size → (n : Naming) → takes p g (spliced (splicing_at n f g at l)) ≡ true
+      both_within body n =
+          true_both (nat_le (size_of g) p.callee_size) (nat_le (size_of (spliced (splicing_at n f g at l))) p.caller_size)
+          (le-leb (size_of g) p.callee_size body)
+          (le-leb (size_of (spliced (splicing_at n f g at l))) p.caller_size (subst (λ k. k ≤ p.caller_size) (size_told n) few))

@@ -2,7 +2,7 @@
 use Rattle.std.specs.Prelude.{◌≡◌, Option, Some, None, true, false}
 use Rattle.ir_core.specs.declared.places.Point.{Point}
 use Rattle.ir_core.specs.Module.{Line, Function}
-use Rattle.ir_core.specs.Size.{size_of, capped}
+use Rattle.ir_core.specs.Size.{size_of}
 use Rattle.ir_semantics.specs.Splice.{Naming, spliced}
 use Rattle.body_import.specs.Imports.{IsImportOf}
 use Rattle.inline_body.specs.PlainCall.{splicing_at}
@@ -19,4 +19,4 @@ abbrev pub IsDecided : Policy → Function → Function → Point → Line → O
 IsDecided p f g at l None = (n : Naming) → takes p g (spliced (splicing_at n f g at l)) ≡ false
 IsDecided p f g at l (Some t) =
     ((n : Naming) → takes p g (spliced (splicing_at n f g at l)) ≡ true) × IsImportOf f g t.import
-    × ((n : Naming) → t.size ≡ capped (size_of (spliced (splicing_at n f g at l))))
+    × ((n : Naming) → t.size ≡ size_of (spliced (splicing_at n f g at l)))

@@ -6,7 +6,7 @@ use Rattle.ir_core.specs.Edits.{lines_of}
 use Rattle.ir_core.specs.Lists.{In}
 use Rattle.ir_core.specs.Lookup.{block_numbers}
 use Rattle.ir_core.specs.Module.{Line, Block, Function, Module}
-use Rattle.ir_core.specs.Size.{size_of, capped}
+use Rattle.ir_core.specs.Size.{size_of}
 use Rattle.ir_core.specs.WellFormed.{WellFormed, IsModule}
 use Rattle.ir_semantics.specs.Accepted.{Accepted}
 use Rattle.ir_semantics.specs.Renaming.{Renaming}
@@ -70,15 +70,15 @@ Behind task left code at count =
 -- the same of the code's progress, whose size is known
 pub record IsMidway (task : Task) (left : Left) (p : Progress) : Type 0 where
   pub midway : Midway task left p.caller p.at p.inlined
-  pub size : p.size ≡ capped (size_of p.caller)
+  pub size : p.size ≡ size_of p.caller
 
 pub record IsBehind (task : Task) (left : Left) (p : Progress) : Type 0 where
   pub behind : Behind task left p.caller p.at p.inlined
-  pub size : p.size ≡ capped (size_of p.caller)
+  pub size : p.size ≡ size_of p.caller
 
 pub record IsBetween (task : Task) (rest : List Block) (p : Progress) : Type 0 where
   pub between : Between task rest p.caller p.inlined
-  pub size : p.size ≡ capped (size_of p.caller)
+  pub size : p.size ≡ size_of p.caller
 
 -- the own blocks from that of the number on, and those behind it
 abbrev pub from_block : ℕ → List Block → List Block

@@ -35,10 +35,15 @@ pub fn finish_body<B: Bodies>(
 {
     let functions = module.module();
     let own = functions.func(func);
+    let size = own.size();
+    // No memory has a function of so many parts.
+    if size == usize::MAX {
+        return Err(AllocError);
+    }
     let targets = targets(alloc, functions, order.piece.as_slice(), func, own)?;
     let progress = Progress {
         caller: Caller::new(alloc, own)?,
-        size: own.size(),
+        size,
         at: Point {
             block: Block::new(0),
             index: 0,

@@ -1,6 +1,6 @@
 use Rattle.std.proofs.Common.{◌<◌, ◌^◌, ◌+◌, ◌≡◌, length, map, sym, ap, ap₂, ◌∙◌, subst, None, Some, arith}
 use Rattle.ir_core.specs.Module.{Function}
-use Rattle.ir_core.specs.Size.{size_of, capped}
+use Rattle.ir_core.specs.Size.{size_of}
 use Rattle.ir_core.specs.Sound.{IsSound}
 use Rattle.ir_core.specs.Viewed.{line_of}
 use Rattle.inline_pass.specs.Policy.{Policy}
@@ -51,5 +51,5 @@ pub returns : goal.returns
 returns g c =
     record {
       behind = subst (λ n. Behind (finishing (policy_of c.args.policy) (g.B.Bodies.functions c.args.bodies.now) c.args.own.now.function) (left_in c.args.own.now.function c.args.block (map line_of c.args.after.now)) c.in_ok-caller.caller (record { block = n; index = 0 }) (c.args.progress.inlined + 1)) (sym c.block_behind.ensures.number) (taken (policy_of c.args.policy) (g.B.Bodies.functions c.args.bodies.now) c.args.own.now.function c.requires.ready c.args.block (line_of c.args.line.now) c.requires.own (left_in c.args.own.now.function c.args.block (map line_of c.args.after.now)) c.args.progress.caller c.args.progress.at c.args.progress.inlined c.requires.midway.midway c.requires.midway.midway.whole c.body-body.result.now.function (body_there (policy_of c.args.policy) (g.B.Bodies.functions c.args.bodies.now) c.args.own.now.function c.requires.ready c.args.block (line_of c.args.line.now) c.requires.own (left_in c.args.own.now.function c.args.block (map line_of c.args.after.now)) c.args.progress.caller c.args.progress.at c.args.progress.inlined c.requires.midway.midway c.in-Some.callee c.body-body.result.now.function (ap (λ ts. target_by ts (line_of c.args.line.now)) (sym c.requires.targets) ∙ sym c.in-Some.ensures) (subst (λ q. IsBodyOf q (g.B.Bodies.functions c.args.bodies.now) c.in-Some.callee c.body-body.result.now.function) c.requires.policy c.body-body.ensures)) c.splice_size_under.ensures c.in-Some-decided.taken (subst (IsDecided (policy_of c.args.policy) c.args.progress.caller c.body-body.result.now.function c.args.progress.at (line_of c.args.line.now)) c.in-Some-decided.is c.in_ok-decided.ensures) (can_replace (policy_of c.args.policy) (g.B.Bodies.functions c.args.bodies.now) c.args.own.now.function c.requires.ready c.args.block (line_of c.args.line.now) c.requires.own (left_in c.args.own.now.function c.args.block (map line_of c.args.after.now)) c.args.progress.caller c.args.progress.at c.args.progress.inlined c.requires.midway.midway c.requires.midway.midway.whole c.body-body.result.now.function (body_there (policy_of c.args.policy) (g.B.Bodies.functions c.args.bodies.now) c.args.own.now.function c.requires.ready c.args.block (line_of c.args.line.now) c.requires.own (left_in c.args.own.now.function c.args.block (map line_of c.args.after.now)) c.args.progress.caller c.args.progress.at c.args.progress.inlined c.requires.midway.midway c.in-Some.callee c.body-body.result.now.function (ap (λ ts. target_by ts (line_of c.args.line.now)) (sym c.requires.targets) ∙ sym c.in-Some.ensures) (subst (λ q. IsBodyOf q (g.B.Bodies.functions c.args.bodies.now) c.in-Some.callee c.body-body.result.now.function) c.requires.policy c.body-body.ensures)) c.splice_size_under.ensures c.in-Some-decided.taken (subst (IsDecided (policy_of c.args.policy) c.args.progress.caller c.body-body.result.now.function c.args.progress.at (line_of c.args.line.now)) c.in-Some-decided.is c.in_ok-decided.ensures) c.plain_call_has_numbers.ensures c.tail_call_has_numbers.ensures c.try_call_has_numbers.ensures) c.block_behind.ensures.sound c.in_ok-caller.caller c.in_ok-caller.ensures (subst IsSound c.func.ensures c.values-count.ensures.sound));
-      size = (subst (IsDecided (policy_of c.args.policy) c.args.progress.caller c.body-body.result.now.function c.args.progress.at (line_of c.args.line.now)) c.in-Some-decided.is c.in_ok-decided.ensures).2 c.in_ok-caller.ensures.naming ∙ ap (λ (z : Function). capped (size_of z)) (sym (new_is (policy_of c.args.policy) (g.B.Bodies.functions c.args.bodies.now) c.args.own.now.function c.requires.ready c.args.block (line_of c.args.line.now) c.requires.own (left_in c.args.own.now.function c.args.block (map line_of c.args.after.now)) c.args.progress.caller c.args.progress.at c.args.progress.inlined c.requires.midway.midway c.requires.midway.midway.whole c.body-body.result.now.function (body_there (policy_of c.args.policy) (g.B.Bodies.functions c.args.bodies.now) c.args.own.now.function c.requires.ready c.args.block (line_of c.args.line.now) c.requires.own (left_in c.args.own.now.function c.args.block (map line_of c.args.after.now)) c.args.progress.caller c.args.progress.at c.args.progress.inlined c.requires.midway.midway c.in-Some.callee c.body-body.result.now.function (ap (λ ts. target_by ts (line_of c.args.line.now)) (sym c.requires.targets) ∙ sym c.in-Some.ensures) (subst (λ q. IsBodyOf q (g.B.Bodies.functions c.args.bodies.now) c.in-Some.callee c.body-body.result.now.function) c.requires.policy c.body-body.ensures)) c.splice_size_under.ensures c.in-Some-decided.taken (subst (IsDecided (policy_of c.args.policy) c.args.progress.caller c.body-body.result.now.function c.args.progress.at (line_of c.args.line.now)) c.in-Some-decided.is c.in_ok-decided.ensures) (can_replace (policy_of c.args.policy) (g.B.Bodies.functions c.args.bodies.now) c.args.own.now.function c.requires.ready c.args.block (line_of c.args.line.now) c.requires.own (left_in c.args.own.now.function c.args.block (map line_of c.args.after.now)) c.args.progress.caller c.args.progress.at c.args.progress.inlined c.requires.midway.midway c.requires.midway.midway.whole c.body-body.result.now.function (body_there (policy_of c.args.policy) (g.B.Bodies.functions c.args.bodies.now) c.args.own.now.function c.requires.ready c.args.block (line_of c.args.line.now) c.requires.own (left_in c.args.own.now.function c.args.block (map line_of c.args.after.now)) c.args.progress.caller c.args.progress.at c.args.progress.inlined c.requires.midway.midway c.in-Some.callee c.body-body.result.now.function (ap (λ ts. target_by ts (line_of c.args.line.now)) (sym c.requires.targets) ∙ sym c.in-Some.ensures) (subst (λ q. IsBodyOf q (g.B.Bodies.functions c.args.bodies.now) c.in-Some.callee c.body-body.result.now.function) c.requires.policy c.body-body.ensures)) c.splice_size_under.ensures c.in-Some-decided.taken (subst (IsDecided (policy_of c.args.policy) c.args.progress.caller c.body-body.result.now.function c.args.progress.at (line_of c.args.line.now)) c.in-Some-decided.is c.in_ok-decided.ensures) c.plain_call_has_numbers.ensures c.tail_call_has_numbers.ensures c.try_call_has_numbers.ensures) c.block_behind.ensures.sound c.in_ok-caller.caller c.in_ok-caller.ensures (subst IsSound c.func.ensures c.values-count.ensures.sound)));
+      size = (subst (IsDecided (policy_of c.args.policy) c.args.progress.caller c.body-body.result.now.function c.args.progress.at (line_of c.args.line.now)) c.in-Some-decided.is c.in_ok-decided.ensures).2 c.in_ok-caller.ensures.naming ∙ ap size_of (sym (new_is (policy_of c.args.policy) (g.B.Bodies.functions c.args.bodies.now) c.args.own.now.function c.requires.ready c.args.block (line_of c.args.line.now) c.requires.own (left_in c.args.own.now.function c.args.block (map line_of c.args.after.now)) c.args.progress.caller c.args.progress.at c.args.progress.inlined c.requires.midway.midway c.requires.midway.midway.whole c.body-body.result.now.function (body_there (policy_of c.args.policy) (g.B.Bodies.functions c.args.bodies.now) c.args.own.now.function c.requires.ready c.args.block (line_of c.args.line.now) c.requires.own (left_in c.args.own.now.function c.args.block (map line_of c.args.after.now)) c.args.progress.caller c.args.progress.at c.args.progress.inlined c.requires.midway.midway c.in-Some.callee c.body-body.result.now.function (ap (λ ts. target_by ts (line_of c.args.line.now)) (sym c.requires.targets) ∙ sym c.in-Some.ensures) (subst (λ q. IsBodyOf q (g.B.Bodies.functions c.args.bodies.now) c.in-Some.callee c.body-body.result.now.function) c.requires.policy c.body-body.ensures)) c.splice_size_under.ensures c.in-Some-decided.taken (subst (IsDecided (policy_of c.args.policy) c.args.progress.caller c.body-body.result.now.function c.args.progress.at (line_of c.args.line.now)) c.in-Some-decided.is c.in_ok-decided.ensures) (can_replace (policy_of c.args.policy) (g.B.Bodies.functions c.args.bodies.now) c.args.own.now.function c.requires.ready c.args.block (line_of c.args.line.now) c.requires.own (left_in c.args.own.now.function c.args.block (map line_of c.args.after.now)) c.args.progress.caller c.args.progress.at c.args.progress.inlined c.requires.midway.midway c.requires.midway.midway.whole c.body-body.result.now.function (body_there (policy_of c.args.policy) (g.B.Bodies.functions c.args.bodies.now) c.args.own.now.function c.requires.ready c.args.block (line_of c.args.line.now) c.requires.own (left_in c.args.own.now.function c.args.block (map line_of c.args.after.now)) c.args.progress.caller c.args.progress.at c.args.progress.inlined c.requires.midway.midway c.in-Some.callee c.body-body.result.now.function (ap (λ ts. target_by ts (line_of c.args.line.now)) (sym c.requires.targets) ∙ sym c.in-Some.ensures) (subst (λ q. IsBodyOf q (g.B.Bodies.functions c.args.bodies.now) c.in-Some.callee c.body-body.result.now.function) c.requires.policy c.body-body.ensures)) c.splice_size_under.ensures c.in-Some-decided.taken (subst (IsDecided (policy_of c.args.policy) c.args.progress.caller c.body-body.result.now.function c.args.progress.at (line_of c.args.line.now)) c.in-Some-decided.is c.in_ok-decided.ensures) c.plain_call_has_numbers.ensures c.tail_call_has_numbers.ensures c.try_call_has_numbers.ensures) c.block_behind.ensures.sound c.in_ok-caller.caller c.in_ok-caller.ensures (subst IsSound c.func.ensures c.values-count.ensures.sound)));
     }

@@ -8,7 +8,7 @@ use Rattle.ir_core.specs.Lists.{In, Each}
 use Rattle.inline_acceptance.proofs.KeptLists.{in_each}
 use Rattle.ir_core.specs.Lookup.{block_numbers}
 use Rattle.ir_core.specs.Sound.{IsSound, instruction_count}
-use Rattle.std.specs.Prelude.{if◌then◌else◌, Option, Some, None, MatchOption}
+use Rattle.std.specs.Prelude.{if◌then◌else◌}
 use Rattle.ir_core.specs.Uses.{callee_of}
 use Rattle.ir_semantics.specs.Canon.{SameFunction}
 use Rattle.inline_numbering.proofs.Same.{blocks_number}
@@ -115,7 +115,3 @@ point_fits f at g i e s =
 
 pub all_own : (f : Function) (block : ℕ) (lines : List Line) → lines ≡ lines_of block f.blocks → Each (IsOwnLine f block) lines
 all_own f block lines e = subst (Each (IsOwnLine f block)) (sym e) (in_each (IsOwnLine f block) (lines_of block f.blocks) (λ l i. i))
-
-pub at_none : {X : Type 0} (o : Option X) (P : Type 0) (Q : X → Type 0) → MatchOption o P Q → ((x : X) → o ≡ Some x → ⊥) → P
-at_none None P Q h off = h
-at_none (Some x) P Q h off = absurd (off x refl)

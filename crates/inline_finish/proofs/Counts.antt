@@ -1,5 +1,5 @@
 -- How many sites are inlined: at most as many as the function has lines.
-use Rattle.std.proofs.Common.{◌≡◌, ◌⊎◌, inl, inr, ℕ, suc, ◌+◌, ◌-◌, ◌<◌, ◌≤◌, ◌^◌, List, [], ◌∷◌, ◌++◌, length, Option, Some, None, Bool, true, false, arith, length-append}
+use Rattle.std.proofs.Common.{inl, inr, ℕ, suc, ◌<◌, ◌≤◌, ◌^◌, List, [], ◌∷◌, length, Option, Some, None, Bool, true, false, arith, length-append}
 use Rattle.std.specs.Prelude.{if◌then◌else◌}
 use Rattle.ir_core.specs.declared.names.FuncName.{FuncName}
 use Rattle.ir_core.specs.declared.places.Point as place
@@ -11,7 +11,7 @@ use Rattle.inline_pass.specs.Policy.{Policy, takes}
 use Rattle.inline_pass.specs.Sites.{Point, is_site, sites_in, own_sites}
 use Rattle.inline_pass.specs.Finished.{callee_at, spliced_at, after_splice}
 use Rattle.inline_pass.specs.Inlined.{inlined_by, inlined_with}
-use Rattle.inline_pass.specs.Going.{Task, Twins, Going}
+use Rattle.inline_pass.specs.Going.{Task, Twins}
 use Rattle.inline_pass.specs.GoingLaws.{Onward}
 use Rattle.inline_finish.specs.Midway.{Left, Behind, twins_of}
 

@@ -18,7 +18,7 @@ use Rattle.call_graph.specs.Order.{names_of, piece_number}
 use Rattle.call_graph.proofs.Numbers.{some_at}
 use Rattle.call_graph.proofs.PieceNumbers.{apart_by_numbers}
 use Rattle.inline_pass.specs.Policy.{Policy}
-use Rattle.inline_pass.specs.Finished.{body_of, finished, finished_body}
+use Rattle.inline_pass.specs.Finished.{finished, finished_body}
 use Rattle.inline_pass.proofs.Passing.{then_some}
 use Rattle.inline_finish.specs.Targets.{target_of, targets_in, target_by}
 

@@ -1,12 +1,11 @@
 -- The point of an own line in the code's function: what is called there, and the splice there.
-use Rattle.std.proofs.Common.{◌≡◌, ℕ, suc, ◌<◌, ◌≤◌, List, [], ◌∷◌, ◌++◌, map, take, drop, length, Option, Some, Bool, ◌&&◌, refl, sym, ap, ap₂, ◌∙◌, subst}
+use Rattle.std.proofs.Common.{◌≡◌, ℕ, suc, ◌≤◌, List, map, take, drop, Some, Bool, ◌&&◌, sym, ap, ap₂, ◌∙◌, subst}
 use Rattle.std.specs.Prelude.{slice_get, nat_le}
 use Rattle.ir_core.specs.declared.names.FuncName.{FuncName}
 use Rattle.ir_core.specs.declared.places.Point.{Point}
-use Rattle.ir_core.specs.Module.{Line, Block, Function}
-use Rattle.ir_core.specs.Edits.{lines_of, IsPoint}
-use Rattle.ir_core.specs.Lists.{In}
-use Rattle.ir_core.specs.Lookup.{block_numbers, find_block}
+use Rattle.ir_core.specs.Module.{Line, Function}
+use Rattle.ir_core.specs.Edits.{lines_of}
+use Rattle.ir_core.specs.Lookup.{find_block}
 use Rattle.ir_core.specs.Size.{size_of}
 use Rattle.ir_core.specs.WellFormed.{WellFormed}
 use Rattle.ir_semantics.specs.Canon.{SameFunction}
@@ -17,11 +16,9 @@ use Rattle.inline_outcomes.specs.Stands.{Stands}
 use Rattle.inline_outcomes.proofs.Local.{some_same}
 use Rattle.inline_acceptance.proofs.Alone.{Free, free_same}
 use Rattle.inline_acceptance.proofs.KeptFunctions.{get_in}
-use Rattle.inline_numbering.specs.Renamed.{Renamed}
 use Rattle.inline_numbering.specs.Carried.{SiteUnder, splicing_under}
 use Rattle.inline_numbering.proofs.Same.{by_way, way_renamed, renamed_is_same}
 use Rattle.inline_numbering.proofs.Sizes.{size_renamed}
-use Rattle.inline_numbering.proofs.Typed.{block_in}
 use Rattle.inline_numbering.proofs.Places as points
 use Rattle.inline_pass.specs.Policy.{Policy, takes}
 use Rattle.inline_pass.specs.Sites.{called}

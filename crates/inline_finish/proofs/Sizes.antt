@@ -1,17 +1,15 @@
 -- Whether a policy takes a body, by sizes that stop at the greatest number.
-use Rattle.std.proofs.Common.{◌≡◌, ℕ, suc, ◌+◌, ◌-◌, ◌<◌, ◌≤◌, ◌^◌, List, [], ◌∷◌, length, Option, Some, None, Bool, true, false, ◌&&◌, refl, sym, ap, ap₂, ◌∙◌, subst, arith}
+use Rattle.std.proofs.Common.{◌≡◌, ℕ, ◌<◌, ◌≤◌, List, [], ◌∷◌, length, None, Bool, true, false, ◌&&◌, refl, ap, ◌∙◌, subst, arith}
 use Rattle.std.specs.Prelude.{nat_le, if◌then◌else◌}
 use Rattle.std.proofs.lemmas.Bool.{le-leb, lt-leb}
 use Rattle.ir_core.specs.declared.places.Point.{Point}
 use Rattle.ir_core.specs.declared.signatures.Sig.{Sig}
 use Rattle.ir_core.specs.Module.{Line, Function}
 use Rattle.ir_core.specs.Signatures.{same_sig}
-use Rattle.ir_core.specs.Size.{size_of, capped, total, sig_size, block_size}
+use Rattle.ir_core.specs.Size.{size_of, capped, total, sig_size}
 use Rattle.ir_core.proofs.Equal.{true_both}
-use Rattle.ir_semantics.specs.Import.{with_item, with_items, sigs_after, callees_after, callees_with, same_callee}
+use Rattle.ir_semantics.specs.Import.{with_item, with_items, sigs_after, callees_with, same_callee}
 use Rattle.ir_semantics.specs.Splice.{Naming, Splicing, spliced}
-use Rattle.body_import.specs.declared.declarations.Import.{Import}
-use Rattle.body_import.specs.Imports.{IsImportOf}
 use Rattle.inline_body.specs.PlainCall.{splicing_at}
 use Rattle.inline_pass.specs.Policy.{Policy, takes}
 use Rattle.inline_finish.specs.Deciding.{IsDecided}

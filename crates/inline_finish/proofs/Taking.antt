@@ -1,15 +1,15 @@
 -- At an own line that is a site: what it calls, whether the body is taken, and the step behind it.
-use Rattle.std.proofs.Common.{◌≡◌, ◌⊎◌, inl, inr, ℕ, suc, ◌+◌, ◌-◌, ◌<◌, ◌≤◌, ◌^◌, List, [], ◌∷◌, length, drop, Option, Some, None, Bool, true, false, ◌&&◌, refl, sym, ap, ap₂, ◌∙◌, subst, add-one, arith}
-use Rattle.std.specs.Prelude.{slice_get, nat_le, IsSomeAnd}
+use Rattle.std.proofs.Common.{◌≡◌, inl, inr, ℕ, suc, ◌+◌, ◌<◌, List, [], ◌∷◌, length, drop, Option, Some, None, true, false, refl, sym, ap, ◌∙◌, subst, add-one, arith}
+use Rattle.std.specs.Prelude.{slice_get, nat_le}
 use Rattle.std.proofs.lemmas.Bool.{leb-true}
 use Rattle.std.proofs.lemmas.List.{length-drop}
 use Rattle.ir_core.specs.declared.declarations.Callee.{Callee}
 use Rattle.ir_core.specs.declared.places.Point.{Point}
-use Rattle.ir_core.specs.Module.{CallTarget, Direct, Indirect, TryTarget, TryDirect, TryIndirect, Instruction, Plain, Branches, SequencePoint, Return, Call, ReturnCall, TryCall, Line, Block, Function, Module}
-use Rattle.ir_core.specs.Edits.{lines_of, IsPoint}
-use Rattle.ir_core.specs.Lists.{In, Below}
+use Rattle.ir_core.specs.Module.{Instruction, Plain, Branches, SequencePoint, Return, Call, ReturnCall, TryCall, Line, Function, Module}
+use Rattle.ir_core.specs.Edits.{lines_of}
+use Rattle.ir_core.specs.Lists.{In}
 use Rattle.ir_core.specs.Lookup.{and_then, block_numbers}
-use Rattle.ir_core.specs.Size.{size_of, capped}
+use Rattle.ir_core.specs.Size.{size_of}
 use Rattle.ir_core.specs.Sound.{IsSound}
 use Rattle.ir_core.specs.Uses.{callee_of}
 use Rattle.ir_core.specs.WellFormed.{WellFormed}
@@ -18,19 +18,18 @@ use Rattle.ir_semantics.specs.Canon.{SameFunction}
 use Rattle.ir_semantics.specs.Renaming.{Renaming}
 use Rattle.ir_semantics.specs.Splice.{Naming, sides, spliced, kind_of, Within}
 use Rattle.avail_flow.proofs.Blocks.{line_found}
-use Rattle.body_import.specs.Imports.{IsImportOf}
 use Rattle.call_graph.specs.Reach.{called_names}
 use Rattle.inline_outcomes.proofs.Local.{some_same}
 use Rattle.inline_acceptance.proofs.KeptFunctions.{in_get}
 use Rattle.inline_acceptance.proofs.KeptLists.{some_and, each_in}
-use Rattle.inline_body.specs.PlainCall.{IsPlainCall, CanSplice, Keeps, IsSplice, splicing_at}
-use Rattle.inline_ends.specs.TailCall.{IsTailCall, CanSpliceTail}
-use Rattle.inline_ends.specs.TryCallSite.{IsTryCall, CanSpliceTry}
+use Rattle.inline_body.specs.PlainCall.{IsPlainCall, IsSplice, splicing_at}
+use Rattle.inline_ends.specs.TailCall.{IsTailCall}
+use Rattle.inline_ends.specs.TryCallSite.{IsTryCall}
 use Rattle.inline_caller.specs.Replacing.{CanReplace, plain, tail, tries}
 use Rattle.inline_pass.specs.Policy.{Policy, takes}
 use Rattle.inline_pass.specs.Sites.{is_site}
-use Rattle.inline_pass.specs.Finished.{finished, finished_body, callee_at}
-use Rattle.inline_pass.specs.Going.{Task, Ahead, Twins, Going, stands, body_called, with_body, spliced_twins}
+use Rattle.inline_pass.specs.Finished.{finished}
+use Rattle.inline_pass.specs.Going.{Task, Ahead, Twins, Going, body_called, with_body, spliced_twins}
 use Rattle.inline_pass.specs.GoingLaws.{Refused, Inlines}
 use Rattle.inline_pass.specs.Putting.{Fit, finishing, KeepsCaller, Spliced}
 use Rattle.inline_pass.proofs.Finishing.{own_text}
@@ -39,13 +38,12 @@ use Rattle.inline_pass.proofs.Putting.{splices, finished_fit}
 use Rattle.splice_bounds.specs.Laws.{WithinLimit, PlainCallHasNumbers, TailCallHasNumbers, TryCallHasNumbers}
 use Rattle.splice_size.specs.Laws.{SpliceSizeUnder}
 use Rattle.inline_finish.specs.declared.deciding.Taken.{Taken}
-use Rattle.inline_finish.specs.declared.lines.Progress.{Progress}
 use Rattle.inline_finish.specs.Bodies.{IsBodyOf, HasCallees}
 use Rattle.inline_finish.specs.Deciding.{IsSite, IsDecided}
-use Rattle.inline_finish.specs.Midway.{IsReady, point_of, Twin, twins_of, Left, ahead_of, Midway, Between, Behind, IsMidway, IsBehind, behind_block, left_in, IsOwnLine}
+use Rattle.inline_finish.specs.Midway.{IsReady, point_of, Twin, twins_of, Left, ahead_of, Midway, Behind, IsOwnLine}
 use Rattle.inline_finish.specs.Targets.{targets_in, target_by}
 use Rattle.inline_finish.proofs.Places as places
-use Rattle.inline_finish.proofs.Naming.{Named, named, not_named, target_apart, body_found, no_body}
+use Rattle.inline_finish.proofs.Naming.{named, not_named, target_apart, body_found, no_body}
 
 -- ---- what an own line calls
 

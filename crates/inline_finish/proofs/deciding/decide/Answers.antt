@@ -1,4 +1,4 @@
-use Rattle.std.proofs.Common.{◌≡◌, ◌<◌, ◌≤◌, length, refl, sym, ap, ◌∙◌, arith}
+use Rattle.std.proofs.Common.{◌≡◌, ◌≤◌, length, refl, sym, ap, ◌∙◌, arith}
 use Rattle.ir_core.specs.Module.{Function}
 use Rattle.ir_core.specs.Size.{size_of, capped}
 use Rattle.ir_core.specs.Viewed.{line_of}
@@ -43,7 +43,8 @@ pub returns : goal.returns
 returns c =
     let p = policy_of c.args.policy in
     let told : (n : Naming) → c.spliced_size-size.result ≡ capped (size_of (spliced (splicing_at n c.args.caller.now c.args.body.now.function c.args.at (line_of c.args.line.now)))) =
-    λ n. c.spliced_size-size.ensures.splice (splicing_at n c.args.caller.now c.args.body.now.function c.args.at (line_of c.args.line.now)) (c.requires.site n) (sym c.requires.size) refl (sym c.in-Some.ensures.1) (sym (ap length c.slots.ensures)) c.in_ok-import.ensures in
-    (both_within p c.args.caller.now c.args.body.now.function c.args.at (line_of c.args.line.now) c.spliced_size-size.result told c.if-size-policy.false c.requires.limited.caller_size c.in-Some.ensures.0,
-    c.in_ok-import.ensures,
-    size_told p c.args.caller.now c.args.body.now.function c.args.at (line_of c.args.line.now) c.spliced_size-size.result told c.if-size-policy.false c.requires.limited.caller_size)
+    λ n. c.spliced_size-size.ensures.splice (splicing_at n c.args.caller.now c.args.body.now.function c.args.at (line_of c.args.line.now)) (c.requires.site n) (sym c.requires.size) refl (sym c.in-Some.ensures.1) (sym (ap length c.slots.ensures)) c.in_ok-import.ensures in (
+      both_within p c.args.caller.now c.args.body.now.function c.args.at (line_of c.args.line.now) c.spliced_size-size.result told c.if-size-policy.false c.requires.limited.caller_size c.in-Some.ensures.0,
+      c.in_ok-import.ensures,
+      size_told p c.args.caller.now c.args.body.now.function c.args.at (line_of c.args.line.now) c.spliced_size-size.result told c.if-size-policy.false c.requires.limited.caller_size,
+    )

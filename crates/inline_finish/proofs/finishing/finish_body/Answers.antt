@@ -1,7 +1,6 @@
-use Rattle.std.proofs.Common.{◌≡◌, ◌<◌, ℕ, Some, IfSome, slice_get, refl, sym, ap, ◌∙◌, subst, arith}
-use Rattle.ir_core.specs.Lists.{In}
+use Rattle.std.proofs.Common.{◌≡◌, ℕ, Some, IfSome, slice_get, refl, sym, ap, ◌∙◌, subst, arith}
 use Rattle.ir_core.specs.Module.{Function, Module}
-use Rattle.ir_core.specs.Size.{size_of, capped}
+use Rattle.ir_core.specs.Size.{size_of}
 use Rattle.ir_core.specs.WellFormed.{IsModule}
 use Rattle.ir_semantics.specs.Accepted.{Accepted}
 use Rattle.ir_semantics.specs.Canon.{SameFunction}

@@ -1,9 +1,7 @@
-use Rattle.std.proofs.Common.{◌<◌, ◌^◌, ◌+◌, ◌≡◌, length, map, sym, ap, ap₂, ◌∙◌, subst, None, Some, arith}
-use Rattle.ir_core.specs.Module.{Function}
+use Rattle.std.proofs.Common.{◌<◌, ◌^◌, ◌+◌, ◌≡◌, length, map, sym, ap, ◌∙◌, subst, None, arith}
 use Rattle.ir_core.specs.Size.{size_of}
 use Rattle.ir_core.specs.Sound.{IsSound}
 use Rattle.ir_core.specs.Viewed.{line_of}
-use Rattle.inline_pass.specs.Policy.{Policy}
 use Rattle.inline_pass.specs.Putting.{finishing}
 use Rattle.inline_finish.specs.Bodies.{IsBodyOf}
 use Rattle.inline_finish.specs.Building.{policy_of}

@@ -1,7 +1,5 @@
 use Rattle.std.proofs.Common.{◌+◌, ◌<◌, ◌^◌, arith}
 use Rattle.inline_finish.proofs.Steps.{point_fits}
-use Rattle.inline_finish.proofs.Taking.{site_index}
-use Rattle.inline_finish.proofs.Sizes.{sigs_within}
 use Rattle.inline_finish.proofs.lines.pass_line.Goals as goal
 
 pub overflow_add-result : goal.overflow_add-result

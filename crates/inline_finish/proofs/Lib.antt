@@ -1,0 +1,7 @@
+pub mod Blocks
+pub mod Counts
+pub mod Naming
+pub mod Places
+pub mod Sizes
+pub mod Steps
+pub mod Taking

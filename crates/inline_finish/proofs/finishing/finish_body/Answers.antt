@@ -1,0 +1,62 @@
+use Rattle.std.proofs.Common.{◌≡◌, ℕ, Some, IfSome, slice_get, refl, sym, ap, ◌∙◌, subst, arith}
+use Rattle.ir_core.specs.Module.{Function, Module}
+use Rattle.ir_core.specs.Size.{size_of}
+use Rattle.ir_core.specs.WellFormed.{IsModule}
+use Rattle.ir_semantics.specs.Accepted.{Accepted}
+use Rattle.ir_semantics.specs.Canon.{SameFunction}
+use Rattle.inline_acceptance.proofs.KeptFunctions.{get_in}
+use Rattle.inline_pass.specs.Finished.{finished}
+use Rattle.inline_finish.specs.Bodies.{HasCallees}
+use Rattle.inline_finish.specs.Building.{policy_of, IsLimited, IsBuilt}
+use Rattle.inline_finish.specs.Midway.{IsReady}
+use Rattle.inline_finish.specs.declared.bodies.Built.{Built}
+use Rattle.inline_finish.specs.declared.bodies.Policy.{Policy}
+use Rattle.inline_finish.proofs.Steps.{begins_between, ends_finished}
+use Rattle.inline_finish.proofs.finishing.finish_body.Goals as goal
+
+-- the function there, of the module that is read
+there : (m n : Module) (k : ℕ) (f : Function) → n ≡ m → slice_get n k ≡ Some f → slice_get m k ≡ Some f
+there m n k f same at = ap (λ (x : Module). slice_get x k) (sym same) ∙ at
+
+-- n is the module that is read, and m the one that the bodies are of
+ready : (p : Policy) (m n : Module) (k : ℕ) (f : Function) → IsLimited p → n ≡ m → IsModule n → Accepted n → slice_get n k ≡ Some f → IsReady (policy_of p) m f
+ready p m n k f limited same functions accepted at =
+    record {
+      functions = subst IsModule same functions;
+      accepted = subst Accepted same accepted;
+      there = get_in m k f (there m n k f same at);
+      callee_size = limited.callee_size;
+      caller_size = limited.caller_size;
+    }
+
+pub finish_blocks-requires-clause-ready : goal.finish_blocks-requires-clause-ready
+finish_blocks-requires-clause-ready g c = ready c.args.policy (g.B.Bodies.functions c.args.bodies.now) c.module-functions.result.now c.args.func c.func-own.result.now.function c.requires.limited (c.module-functions.ensures.same ∙ sym c.requires.functions) c.module-functions.ensures.functions c.module-functions.ensures.accepted c.func-own.ensures.at
+
+pub finish_blocks-requires-clause-has : goal.finish_blocks-requires-clause-has
+finish_blocks-requires-clause-has g c =
+    let f : Function = c.func-own.result.now.function in
+    let at = there c.args.«module».now c.module-functions.result.now c.args.func f c.module-functions.ensures.same c.func-own.ensures.at in
+    let has = subst (λ o. IfSome o (λ (f : Function). HasCallees c.args.«module».now f (g.B.Bodies.has c.args.bodies.now))) at c.requires.has in
+    subst (λ (m : Module). HasCallees m f (g.B.Bodies.has c.args.bodies.now)) (sym c.requires.functions) has
+
+pub finish_blocks-requires-clause-between : goal.finish_blocks-requires-clause-between
+finish_blocks-requires-clause-between g c =
+    let f : Function = c.func-own.result.now.function in
+    let exact : c.size-size.result ≡ size_of f =
+    (let e = c.size-size.ensures in let h = c.if-size.false in omega (arith, e, h)) in
+    record {
+      between = begins_between (policy_of c.args.policy) (g.B.Bodies.functions c.args.bodies.now) f (finish_blocks-requires-clause-ready g c) c.in_ok-new.field-0 c.in_ok-new.ensures 0 refl;
+      size = exact ∙ ap size_of (sym c.in_ok-new.ensures);
+    }
+
+pub returns : goal.returns
+returns g c =
+    let f : Function = c.func-own.result.now.function in
+    let p = policy_of c.args.policy in
+    let m : Module = g.B.Bodies.functions c.args.bodies.now in
+    let whole = ready c.args.policy m c.module-functions.result.now c.args.func f c.requires.limited (c.module-functions.ensures.same ∙ sym c.requires.functions) c.module-functions.ensures.functions c.module-functions.ensures.accepted c.func-own.ensures.at in
+    let ends = ends_finished p m f whole c.in_ok-progress.progress.caller c.in_ok-progress.progress.inlined c.in_ok-progress.ensures.between in
+    let built : Built = record { func = c.into_func.result; inlined = c.in_ok-progress.progress.inlined } in
+    let is : IsBuilt p m f built = (subst (SameFunction (finished p m f)) (sym c.into_func.ensures) ends.0, ends.1) in
+    let at = there c.args.«module».now c.module-functions.result.now c.args.func f c.module-functions.ensures.same c.func-own.ensures.at in
+    subst (λ o. IfSome o (λ (f : Function). IsBuilt p c.args.«module».now f built)) (sym at) (subst (λ (m : Module). IsBuilt p m f built) c.requires.functions is)

@@ -1,0 +1,5 @@
+pub mod Bodies
+pub mod Building
+pub mod Deciding
+pub mod Midway
+pub mod Targets

@@ -1,0 +1,39 @@
+//! Finished bodies, and where those of other functions come from.
+ghost use Rattle.ir_core.specs.Lists.{In};
+ghost use Rattle.ir_core.specs.Module as definitions;
+ghost use Rattle.inline_pass.specs.Policy as pass;
+ghost use Rattle.inline_finish.specs.Bodies.{IsBodyOf};
+ghost use Rattle.std.specs.Prelude.{ℕ, List};
+
+use ir_core::Func;
+
+/// Which calls are inlined: a body of at most `callee_size` goes into a function that then has at most `caller_size`.
+#[derive(Clone, Copy, Debug, PartialEq, Eq)]
+pub struct Policy {
+    pub callee_size: usize,
+    pub caller_size: usize,
+}
+
+/// The finished body of a function, and how many of its sites were inlined.
+#[derive(Drop)]
+pub struct Built {
+    pub func: Func,
+    pub inlined: u64,
+}
+
+/// Finished bodies of functions of a module.
+pub trait Bodies {
+    /// The module.
+    ghost functions: { Self → definitions.Module };
+
+    /// The policy by which they are finished.
+    ghost policy: { Self → pass.Policy };
+
+    /// The functions that there are bodies of.
+    ghost has: { Self → List ℕ };
+
+    /// The finished body of a function, up to the numbers of values and blocks.
+    fn body(&self, func: usize) -> &Func
+        requires { In func (has self.now) }
+        ensures { IsBodyOf (policy self.now) (functions self.now) func result.now.function };
+}

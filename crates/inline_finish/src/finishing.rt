@@ -1,0 +1,58 @@
+//! The finished body of a function.
+ghost use Rattle.std.specs.Prelude.{◌≡◌, ◌<◌, IfOk, IfSome, length, slice_get};
+ghost use Rattle.call_graph.specs.Orders.{IsOrderOf};
+ghost use Rattle.inline_finish.specs.Bodies.{HasCallees};
+ghost use Rattle.inline_finish.specs.Building.{policy_of, IsLimited, IsBuilt};
+
+use crate::bodies::{Bodies, Built, Policy};
+use crate::lines::{Progress, finish_blocks};
+use crate::targets::targets;
+use call_graph::Order;
+use inline_caller::Caller;
+use ir_check::Checked;
+use ir_core::{Block, Point};
+use std::alloc::{AllocError, Global};
+
+/// The finished body of a function of an accepted module, up to the numbers of values and blocks, with the number of
+/// its inlined sites. `bodies` has the finished bodies of what the function calls in other pieces. Only `AllocError`
+/// refuses.
+pub fn finish_body<B: Bodies>(
+    alloc: Global,
+    module: &Checked,
+    order: &Order,
+    func: usize,
+    bodies: &B,
+    policy: Policy,
+) -> Result<Built, AllocError>
+    requires order { IsOrderOf «module».now order.now }
+    requires there { func < length «module».now }
+    requires functions { B.functions bodies.now ≡ «module».now }
+    requires policy { B.policy bodies.now ≡ policy_of policy }
+    requires has { IfSome (slice_get «module».now func) (λ f. HasCallees «module».now f (B.has bodies.now)) }
+    requires limited { IsLimited policy }
+    ensures { IfOk result
+        (λ built. IfSome (slice_get «module».now func) (λ f. IsBuilt (policy_of policy) «module».now f built)) }
+{
+    let functions = module.module();
+    let own = functions.func(func);
+    let size = own.size();
+    // No memory has a function of so many parts.
+    if size == usize::MAX {
+        return Err(AllocError);
+    }
+    let targets = targets(alloc, functions, order.piece.as_slice(), func, own)?;
+    let progress = Progress {
+        caller: Caller::new(alloc, own)?,
+        size,
+        at: Point {
+            block: Block::new(0),
+            index: 0,
+        },
+        inlined: 0,
+    };
+    let progress = finish_blocks(alloc, own, targets.as_slice(), bodies, policy, progress)?;
+    Ok(Built {
+        func: progress.caller.into_func(),
+        inlined: progress.inlined,
+    })
+}

@@ -1,0 +1,219 @@
+//! The loop over a function's own lines.
+ghost use Rattle.std.specs.Prelude.{◌≡◌, ◌+◌, ◌∷◌, [], length, map, IfOk};
+ghost use Rattle.ir_core.specs.Edits.{IsPoint};
+ghost use Rattle.ir_core.specs.Lookup.{block_numbers};
+ghost use Rattle.ir_core.specs.Lists.{In};
+ghost use Rattle.ir_core.specs.Sound.{IsSound};
+ghost use Rattle.ir_core.specs.Uses.{callee_of};
+ghost use Rattle.ir_core.specs.Viewed.{instruction_of, line_of};
+ghost use Rattle.inline_pass.specs.Putting.{finishing};
+ghost use Rattle.inline_finish.specs.Bodies.{HasCallees};
+ghost use Rattle.inline_finish.specs.Building.{policy_of};
+ghost use Rattle.inline_finish.specs.Midway.{IsReady, IsMidway, IsBehind, IsBetween, IsOwnLine, left_in, from_block};
+ghost use Rattle.inline_finish.specs.Midway.{behind_block, passed_line};
+ghost use Rattle.inline_finish.specs.Targets.{target_by, targets_in};
+
+use crate::bodies::{Bodies, Policy};
+use crate::deciding::decide;
+use inline_caller::Caller;
+use ir_core::{Block, Func, FuncRef, Inst, InstData, Point};
+use std::alloc::{AllocError, Global};
+
+/// A function while bodies are put into it: what it is so far, its size, where the next of its own lines stands, and
+/// how many of its sites were inlined.
+#[derive(Drop)]
+pub(crate) struct Progress {
+    pub caller: Caller,
+    pub size: usize,
+    pub at: Point,
+    pub inlined: u64,
+}
+
+/// The declaration that a direct call names.
+fn called(inst: &Inst) -> Option<FuncRef>
+    ensures { result ≡ callee_of (instruction_of inst.now) }
+{
+    match inst {
+        Inst::Call { callee, .. } => Some(*callee),
+        Inst::ReturnCall { callee, .. } => Some(*callee),
+        Inst::TryCall { callee, .. } => Some(*callee),
+        _ => None,
+    }
+}
+
+/// The function in another piece that a line calls.
+fn target(targets: &[Option<usize>], line: &InstData) -> Option<usize>
+    ensures { result ≡ target_by targets.now (line_of line.now) }
+{
+    match called(&line.inst) {
+        Some(callee) => match targets.get(callee.number() as usize) {
+            Some(target) => *target,
+            None => None,
+        },
+        None => None,
+    }
+}
+
+/// Behind a line at which nothing is inlined.
+fn pass_line(progress: Progress) -> Progress
+    requires { IsPoint progress.caller progress.at }
+    ensures { result ≡ passed_line progress }
+{
+    let Progress {
+        caller,
+        size,
+        at,
+        inlined,
+    } = progress;
+    let _count = caller.func().values();
+    Progress {
+        caller,
+        size,
+        at: Point {
+            block: at.block,
+            index: at.index + 1,
+        },
+        inlined,
+    }
+}
+
+/// The number of the block behind a body that comes in.
+fn block_behind(caller: &Caller) -> Block
+    ensures number { result ≡ length caller.now.blocks + 1 }
+    ensures sound { IsSound caller.now }
+{
+    let _count = caller.func().values();
+    Block::new(caller.block_count() + 1)
+}
+
+/// Looks at one of the function's own lines, `line`, with these `after` it in the same block: where it is a site that
+/// the policy takes, the callee's finished body comes in its place.
+fn finish_line<B: Bodies>(
+    alloc: Global,
+    own: &Func,
+    targets: &[Option<usize>],
+    bodies: &B,
+    policy: Policy,
+    block: Block,
+    line: &InstData,
+    after: &[InstData],
+    progress: Progress,
+) -> Result<Progress, AllocError>
+    requires ready { IsReady (policy_of policy) (B.functions bodies.now) own.now.function }
+    requires policy { B.policy bodies.now ≡ policy_of policy }
+    requires targets { targets.now ≡ targets_in (B.functions bodies.now) own.now.function }
+    requires has { HasCallees (B.functions bodies.now) own.now.function (B.has bodies.now) }
+    requires own { IsOwnLine own.now.function block (line_of line.now) }
+    requires midway { IsMidway (finishing (policy_of policy) (B.functions bodies.now) own.now.function)
+        (left_in own.now.function block (map line_of (line.now ∷ after.now))) progress }
+    ensures { IfOk result (IsBehind (finishing (policy_of policy) (B.functions bodies.now) own.now.function)
+        (left_in own.now.function block (map line_of after.now))) }
+{
+    let callee = match target(targets, line) {
+        Some(callee) => callee,
+        None => return Ok(pass_line(progress)),
+    };
+    let body = bodies.body(callee);
+    splice_size::laws::splice_size_under();
+    let decided = decide(
+        alloc,
+        policy,
+        &progress.caller,
+        progress.size,
+        progress.at,
+        line,
+        body,
+    )?;
+    let taken = match decided {
+        Some(taken) => taken,
+        None => return Ok(pass_line(progress)),
+    };
+    let Progress {
+        caller,
+        size: _,
+        at,
+        inlined,
+    } = progress;
+    let behind = Point {
+        block: block_behind(&caller),
+        index: 0,
+    };
+    splice_bounds::laws::plain_call_has_numbers();
+    splice_bounds::laws::tail_call_has_numbers();
+    splice_bounds::laws::try_call_has_numbers();
+    let caller = caller.splice(alloc, at, body, taken.import)?;
+    let _size = own.values();
+    let _count = caller.func().values();
+    Ok(Progress {
+        caller,
+        size: taken.size,
+        at: behind,
+        inlined: inlined + 1,
+    })
+}
+
+/// Looks at the lines of one of the function's own blocks.
+fn finish_block<B: Bodies>(
+    alloc: Global,
+    own: &Func,
+    targets: &[Option<usize>],
+    bodies: &B,
+    policy: Policy,
+    block: Block,
+    progress: Progress,
+) -> Result<Progress, AllocError>
+    requires ready { IsReady (policy_of policy) (B.functions bodies.now) own.now.function }
+    requires policy { B.policy bodies.now ≡ policy_of policy }
+    requires targets { targets.now ≡ targets_in (B.functions bodies.now) own.now.function }
+    requires has { HasCallees (B.functions bodies.now) own.now.function (B.has bodies.now) }
+    requires there { In block (block_numbers own.now.function.blocks) }
+    requires between { IsBetween (finishing (policy_of policy) (B.functions bodies.now) own.now.function)
+        (from_block block own.now.function.blocks) progress }
+    ensures { IfOk result (IsBetween (finishing (policy_of policy) (B.functions bodies.now) own.now.function)
+        (behind_block block own.now.function.blocks)) }
+{
+    let Progress {
+        caller,
+        size,
+        at: _,
+        inlined,
+    } = progress;
+    let mut progress = Progress {
+        caller,
+        size,
+        at: Point { block, index: 0 },
+        inlined,
+    };
+    let mut rest = own.inst_slice(block);
+    'lines: while let Some((line, after)) = rest.split_first() {
+        progress = finish_line(
+            alloc, own, targets, bodies, policy, block, line, after, progress,
+        )?;
+        rest = after;
+    }
+    Ok(progress)
+}
+
+/// Looks at all of the function's own lines.
+pub(crate) fn finish_blocks<B: Bodies>(
+    alloc: Global,
+    own: &Func,
+    targets: &[Option<usize>],
+    bodies: &B,
+    policy: Policy,
+    progress: Progress,
+) -> Result<Progress, AllocError>
+    requires ready { IsReady (policy_of policy) (B.functions bodies.now) own.now.function }
+    requires policy { B.policy bodies.now ≡ policy_of policy }
+    requires targets { targets.now ≡ targets_in (B.functions bodies.now) own.now.function }
+    requires has { HasCallees (B.functions bodies.now) own.now.function (B.has bodies.now) }
+    requires between { IsBetween (finishing (policy_of policy) (B.functions bodies.now) own.now.function)
+        own.now.function.blocks progress }
+    ensures { IfOk result (IsBetween (finishing (policy_of policy) (B.functions bodies.now) own.now.function) []) }
+{
+    let mut progress = progress;
+    for block in own.blocks() {
+        progress = finish_block(alloc, own, targets, bodies, policy, block, progress)?;
+    }
+    Ok(progress)
+}

@@ -1,0 +1,7 @@
+//! The pass on one thread: the finished bodies of a module's functions, one after the other, from callees to callers.
+#![tactic(auto)]
+
+mod passing;
+mod places;
+
+pub use passing::{Passed, pass};

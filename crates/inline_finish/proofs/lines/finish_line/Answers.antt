@@ -3,7 +3,6 @@ use Rattle.ir_core.specs.Module.{Line, Function, Module}
 use Rattle.ir_core.specs.Size.{size_of}
 use Rattle.ir_core.specs.Sound.{IsSound}
 use Rattle.ir_core.specs.Viewed.{line_of}
-use Rattle.inline_pass.specs.Going.{Task}
 use Rattle.inline_pass.specs.Policy.{Policy}
 use Rattle.inline_pass.specs.Putting.{finishing}
 use Rattle.inline_finish.specs.Bodies.{IsBodyOf}

@@ -5,6 +5,7 @@ ghost use Rattle.inline_pass.specs.Policy as pass;
 ghost use Rattle.inline_finish.specs.Bodies.{IsBodyOf};
 ghost use Rattle.std.specs.Prelude.{ℕ, List};
 
+use ir_check::Checked;
 use ir_core::Func;
 
 /// Which calls are inlined: a body of at most `callee_size` goes into a function that then has at most `caller_size`.
@@ -19,6 +20,13 @@ pub struct Policy {
 pub struct Built {
     pub func: Func,
     pub inlined: u64,
+}
+
+/// The finished bodies of a module, in its order, and how many sites were inlined in all.
+#[derive(Drop)]
+pub struct Passed {
+    pub module: Checked,
+    pub inlined: u128,
 }
 
 /// Finished bodies of functions of a module.

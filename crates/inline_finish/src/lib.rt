@@ -8,5 +8,5 @@ mod finishing;
 mod lines;
 mod targets;
 
-pub use bodies::{Bodies, Built, Policy};
+pub use bodies::{Bodies, Built, Passed, Policy};
 pub use finishing::finish_body;

@@ -4,4 +4,4 @@
 mod passing;
 mod places;
 
-pub use passing::{Passed, pass};
+pub use passing::pass;

@@ -11,19 +11,12 @@ ghost use Rattle.module_pass.specs.Places.{AreBuilt, AllFilled};
 
 use crate::places::Places;
 use call_graph::{Order, graph, pieces};
-use inline_finish::{Built, Policy, finish_body};
+use inline_finish::{Built, Passed, Policy, finish_body};
 use inline_pass::laws::renumbered_finished_stay_accepted;
 use ir_check::Checked;
 use ir_core::{Func, Module};
 use std::alloc::{AllocError, Global};
 use std::mem;
-
-/// The module of finished bodies, and how many sites were inlined in all.
-#[derive(Drop)]
-pub struct Passed {
-    pub module: Checked,
-    pub inlined: u128,
-}
 
 /// The finished bodies of an accepted module, in its order, and how many sites were inlined: one function after the
 /// other, from callees to callers. Only `AllocError` refuses.

@@ -74,7 +74,7 @@ only_one : (v u : View) (j : ℕ) → get_elem? (v ∷ []) j ≡ some u → v �
 only_one v u j e = ⊎_elim (λ (h : get_elem? [] j ≡ some u). absurd (some-ne-none u (sym h))) (λ (h : v ≡ u). h) (at_snoc [] v u j e)
 
 module _ (job : Job) where
-  pub starts : (words : List ℕ) → length words ≡ tickets job + 1 → ((i : ℕ) → i < length words → get_or words i 0 ≡ 0) → tickets job < 4294967296
+  pub starts : (words : List ℕ) → length words ≡ tickets job + 1 → ((i : ℕ) → i < length words → get_or words i 0 ≡ 0) → tickets job < 9223372036854775808
       → Shows job (opening words (replicate (tickets job) None) (first_view job))
   starts words wide blank small = let n : ℕ = tickets job in let v : View = first_view job in record {
     events = [];
@@ -94,7 +94,7 @@ module _ (job : Job) where
     reader = λ t w e. let bad : phase.Vacant ≡ phase.Reading w = sym (start_vacant n t) ∙ e in cc;
   }
 
-  pub starts_at : (n : ℕ) (words : List ℕ) → n ≡ tickets job → length words ≡ n + 1 → ((i : ℕ) → i < length words → get_or words i 0 ≡ 0) → n < 4294967296
+  pub starts_at : (n : ℕ) (words : List ℕ) → n ≡ tickets job → length words ≡ n + 1 → ((i : ℕ) → i < length words → get_or words i 0 ≡ 0) → n < 9223372036854775808
       → Shows job (opening words (replicate n None) (first_view job))
   starts_at n words is wide blank small = subst (λ (m : ℕ). Shows job (opening words (replicate m None) (first_view job))) (sym is) (starts words (omega arith) blank (omega arith))
 

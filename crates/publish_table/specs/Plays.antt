@@ -5,7 +5,7 @@ use Rattle.std.specs.declared.sync.Arc.{Arc}
 use Rattle.std.specs.declared.alloc.Global.{Global}
 use Rattle.atomic_table.specs.Table.{Me, Step, rest}
 use Rattle.publish_table.specs.declared.job.Job.{Job}
-use Rattle.publish_table.specs.declared.job.Built.{Built}
+use Rattle.inline_finish.specs.declared.bodies.Built.{Built}
 use Rattle.publish_table.specs.declared.view.Cell.{Cell}
 use Rattle.publish_table.specs.declared.view.Cell.TheVariants.{Body, Refused}
 use Rattle.publish_table.specs.declared.view.Stage.TheVariants.{Idle, Filling, Reading}

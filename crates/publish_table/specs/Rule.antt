@@ -15,7 +15,7 @@ use Rattle.board_core.specs.declared.state.Phase.TheVariants as phase
 use Rattle.board_core.specs.declared.state.BoardEvent.{BoardEvent}
 use Rattle.board_core.specs.declared.state.BoardState.{BoardState}
 use Rattle.publish_table.specs.declared.job.Job.{Job}
-use Rattle.publish_table.specs.declared.job.Built.{Built}
+use Rattle.inline_finish.specs.declared.bodies.Built.{Built}
 use Rattle.publish_table.specs.declared.view.Cell.{Cell}
 use Rattle.publish_table.specs.declared.view.Cell.TheVariants.{Body, Refused}
 use Rattle.publish_table.specs.declared.view.Stage.TheVariants.{Idle, Filling, Reading}
@@ -92,7 +92,7 @@ pub record Shows (job : Job) (s : State (Option Cell) View) : Type 0 where
   -- the count never wraps: a seat that was answered None raises it once
   pub bounded : board.next ≤ tickets job + total ends_of s.views
   pub few : length s.views ≤ 64
-  pub small : tickets job < 4294967296
+  pub small : tickets job < 9223372036854775808
   pub each_cell : (t : ℕ) → t < tickets job
       → CellIs job t (slice_index s.words (t + 1)) (get_elem? s.homes t) (phase_at board t)
   pub each_seat : (j : ℕ) (v : View) → get_elem? s.views j ≡ some v → Knows job board j v

@@ -11,8 +11,8 @@ use Rattle.publish_table.specs.declared.board.Board.{Board}
 use Rattle.publish_table.specs.declared.board.Kept.{Kept}
 use Rattle.publish_table.specs.declared.board.Seat.{Seat}
 use Rattle.publish_table.specs.declared.job.Job.{Job}
-use Rattle.publish_table.specs.declared.job.Policy.{Policy}
-use Rattle.publish_table.specs.declared.job.Built.{Built}
+use Rattle.inline_finish.specs.declared.bodies.Policy.{Policy}
+use Rattle.inline_finish.specs.declared.bodies.Built.{Built}
 use Rattle.publish_table.specs.declared.view.Cell.{Cell}
 use Rattle.publish_table.specs.declared.view.Cell.TheVariants.{Body, Refused}
 use Rattle.publish_table.specs.declared.view.Stage.TheVariants.{Idle, Filling, Reading}
@@ -31,7 +31,7 @@ Place = place.Seat (Option Cell) View
 abbrev pub IsPlaceOf : Top → Place → Type 0
 IsPlaceOf t p =
     (p.table_id ≡ t.table_id) × (p.me.0.seats ≡ 1) × (t.table_id.words ≡ t.table_id.slots + 1)
-    × (t.table_id.slots < 4294967296)
+    × (t.table_id.slots < 9223372036854775808)
 
 -- the same seat of the same table
 abbrev pub IsSamePlace : Place → Place → Type 0

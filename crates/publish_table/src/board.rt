@@ -27,7 +27,7 @@ pub struct Board {
     pub(crate) cells: Vec<Cell>,
     ghost room: { (cells.items ≡ []) × (count ≤ vec_capacity cells) },
     ghost sized: { (table.shared.table_id.words ≡ count + 1) × (table.shared.table_id.slots ≡ count)
-        × (count < 4294967296) },
+        × (count < 9223372036854775808) },
 }
 
 /// A worker's seat at a table. Contracts see what it has noted (`View`).

@@ -11,11 +11,12 @@ ghost use Rattle.publish_table.specs.Seats.{IsPlaceOf, IsSamePlace, IsMade, IsFr
 ghost use Rattle.publish_table.specs.Seats.{view_of};
 
 use crate::board::{Board, Seat};
-use crate::job::{Job, Policy};
+use crate::job::Job;
 use crate::plays::{MakeSeat, TakeIn};
 use crate::steps::Top;
 use crate::view::{Cell, View};
 use atomic_table::{Closed, Seat as Place, Table};
+use inline_finish::Policy;
 use ir_core::Module;
 use std::alloc::{AllocError, Global};
 use std::snapshot::Snapshot;
@@ -83,7 +84,6 @@ impl Board {
         policy: Policy,
         seats: usize,
     ) -> Result<(Board, Vec<Seat>), AllocError>
-        requires size { length functions.now < 4294967296 }
         requires seats { (1 ≤ seats) × (seats ≤ 64) }
         ensures { IfOk result (λ r. IsMade functions.now policy seats r.0 r.1.items) }
     {

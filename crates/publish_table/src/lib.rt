@@ -17,5 +17,5 @@ mod tests;
 mod view;
 
 pub use board::{Board, Seat};
-pub use job::{Built, Job, Policy};
+pub use job::Job;
 pub use view::{Cell, Stage, View};

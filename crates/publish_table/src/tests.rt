@@ -1,6 +1,7 @@
 //! That a table is made with ample memory.
 
-use crate::{Board, Policy};
+use crate::Board;
+use inline_finish::Policy;
 use ir_core::Module;
 use std::alloc::AllocError;
 

@@ -1,5 +1,6 @@
 //! The cells of a table, and what a seat at it has noted.
-use crate::job::{Built, Job};
+use crate::job::Job;
+use inline_finish::Built;
 use std::alloc::Global;
 use std::collections::LinkedList;
 use std::sync::Arc;

@@ -1,4 +1,4 @@
-use Rattle.std.proofs.Common.{◌≡◌, ℕ, Some, IfSome, slice_get, refl, sym, ap, ◌∙◌, subst, arith}
+use Rattle.std.proofs.Common.{List, ◌≡◌, ℕ, Some, IfSome, slice_get, refl, sym, ap, ◌∙◌, subst, arith}
 use Rattle.ir_core.specs.Module.{Function, Module}
 use Rattle.ir_core.specs.Size.{size_of}
 use Rattle.ir_core.specs.WellFormed.{IsModule}
@@ -11,6 +11,7 @@ use Rattle.inline_finish.specs.Building.{policy_of, IsLimited, IsBuilt}
 use Rattle.inline_finish.specs.Midway.{IsReady}
 use Rattle.inline_finish.specs.declared.bodies.Built.{Built}
 use Rattle.inline_finish.specs.declared.bodies.Policy.{Policy}
+use Rattle.inline_finish.specs.declared.lines.Progress.{Progress}
 use Rattle.inline_finish.proofs.Steps.{begins_between, ends_finished}
 use Rattle.inline_finish.proofs.finishing.finish_body.Goals as goal
 
@@ -30,33 +31,48 @@ ready p m n k f limited same functions accepted at =
     }
 
 pub finish_blocks-requires-clause-ready : goal.finish_blocks-requires-clause-ready
-finish_blocks-requires-clause-ready g c = ready c.args.policy (g.B.Bodies.functions c.args.bodies.now) c.module-functions.result.now c.args.func c.func-own.result.now.function c.requires.limited (c.module-functions.ensures.same ∙ sym c.requires.functions) c.module-functions.ensures.functions c.module-functions.ensures.accepted c.func-own.ensures.at
+finish_blocks-requires-clause-ready g c =
+    let n : Module = c.module-functions.result.now in
+    let f : Function = c.func-own.result.now.function in
+    let m : Module = g.B.Bodies.functions c.args.bodies.now in
+    ready c.args.policy m n c.args.func f c.requires.limited (c.module-functions.ensures.same ∙ sym c.requires.functions)
+    c.module-functions.ensures.functions c.module-functions.ensures.accepted c.func-own.ensures.at
 
 pub finish_blocks-requires-clause-has : goal.finish_blocks-requires-clause-has
 finish_blocks-requires-clause-has g c =
+    let n : Module = c.module-functions.result.now in
     let f : Function = c.func-own.result.now.function in
-    let at = there c.args.«module».now c.module-functions.result.now c.args.func f c.module-functions.ensures.same c.func-own.ensures.at in
-    let has = subst (λ o. IfSome o (λ (f : Function). HasCallees c.args.«module».now f (g.B.Bodies.has c.args.bodies.now))) at c.requires.has in
-    subst (λ (m : Module). HasCallees m f (g.B.Bodies.has c.args.bodies.now)) (sym c.requires.functions) has
+    let at = there c.args.«module».now n c.args.func f c.module-functions.ensures.same c.func-own.ensures.at in
+    let names : List ℕ = g.B.Bodies.has c.args.bodies.now in
+    let has = subst (λ o. IfSome o (λ (f : Function). HasCallees c.args.«module».now f names)) at c.requires.has in
+    subst (λ (m : Module). HasCallees m f names) (sym c.requires.functions) has
 
 pub finish_blocks-requires-clause-between : goal.finish_blocks-requires-clause-between
 finish_blocks-requires-clause-between g c =
     let f : Function = c.func-own.result.now.function in
-    let exact : c.size-size.result ≡ size_of f =
-    (let e = c.size-size.ensures in let h = c.if-size.false in omega (arith, e, h)) in
+    let m : Module = g.B.Bodies.functions c.args.bodies.now in
+    let whole = finish_blocks-requires-clause-ready g c in
+    let size = c.size-size.ensures in
+    let less = c.if-size.false in
+    let exact : c.size-size.result ≡ size_of f = omega (arith, size, less) in
     record {
-      between = begins_between (policy_of c.args.policy) (g.B.Bodies.functions c.args.bodies.now) f (finish_blocks-requires-clause-ready g c) c.in_ok-new.field-0 c.in_ok-new.ensures 0 refl;
+      between = begins_between (policy_of c.args.policy) m f whole c.in_ok-new.field-0 c.in_ok-new.ensures 0 refl;
       size = exact ∙ ap size_of (sym c.in_ok-new.ensures);
     }
 
 pub returns : goal.returns
 returns g c =
+    let n : Module = c.module-functions.result.now in
     let f : Function = c.func-own.result.now.function in
-    let p = policy_of c.args.policy in
     let m : Module = g.B.Bodies.functions c.args.bodies.now in
-    let whole = ready c.args.policy m c.module-functions.result.now c.args.func f c.requires.limited (c.module-functions.ensures.same ∙ sym c.requires.functions) c.module-functions.ensures.functions c.module-functions.ensures.accepted c.func-own.ensures.at in
-    let ends = ends_finished p m f whole c.in_ok-progress.progress.caller c.in_ok-progress.progress.inlined c.in_ok-progress.ensures.between in
-    let built : Built = record { func = c.into_func.result; inlined = c.in_ok-progress.progress.inlined } in
+    let at = there c.args.«module».now n c.args.func f c.module-functions.ensures.same c.func-own.ensures.at in
+    let p = policy_of c.args.policy in
+    let whole =
+    ready c.args.policy m n c.args.func f c.requires.limited (c.module-functions.ensures.same ∙ sym c.requires.functions)
+    c.module-functions.ensures.functions c.module-functions.ensures.accepted c.func-own.ensures.at in
+    let progress : Progress = c.in_ok-progress.progress in
+    let ends = ends_finished p m f whole progress.caller progress.inlined c.in_ok-progress.ensures.between in
+    let built : Built = record { func = c.into_func.result; inlined = progress.inlined } in
     let is : IsBuilt p m f built = (subst (SameFunction (finished p m f)) (sym c.into_func.ensures) ends.0, ends.1) in
-    let at = there c.args.«module».now c.module-functions.result.now c.args.func f c.module-functions.ensures.same c.func-own.ensures.at in
-    subst (λ o. IfSome o (λ (f : Function). IsBuilt p c.args.«module».now f built)) (sym at) (subst (λ (m : Module). IsBuilt p m f built) c.requires.functions is)
+    subst (λ o. IfSome o (λ (f : Function). IsBuilt p c.args.«module».now f built)) (sym at)
+    (subst (λ (m : Module). IsBuilt p m f built) c.requires.functions is)

@@ -1,0 +1,10 @@
+pub mod Sums
+pub mod Orders
+pub mod Views
+pub mod Desks
+pub mod Closing
+pub mod ReadBodies
+pub mod Costs
+pub mod Gathering
+pub mod Putting
+pub mod Answering

@@ -1,0 +1,4 @@
+pub mod Held
+pub mod Plans
+pub mod Reading
+pub mod Turns

@@ -1,0 +1,18 @@
+//! The pass by workers: each one draws tickets of a shared table, finishes the body of each ticket's function by the
+//! bodies that others published, and publishes it.
+#![tactic(auto)]
+
+mod callees;
+mod outcome;
+mod passing;
+mod plan;
+mod steps;
+mod taking;
+mod workers;
+
+pub use outcome::Turn;
+pub use passing::pass_with;
+pub use plan::Plan;
+pub use steps::Steps;
+pub use taking::turn;
+pub use workers::drive;

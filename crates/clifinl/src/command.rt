@@ -22,12 +22,13 @@ use std::sync::Wait;
 use std::thread::Threads;
 
 /// Carries out what the settings ask for.
-fn carry_out<R: Threads + Wait + Sync, I: Source, O: Sink>(
+fn carry_out<R: Threads + Wait + Sync, I: Source, O: Sink, G: Gate>(
     rt: &R,
     alloc: Global,
     settings: &Settings,
     input: &mut I,
     out: &mut O,
+    gate: &G,
 ) -> Status
     ensures run { IsRunOf (shown settings.now)
         (outside (I.left input.old) (I.faults input.old) (O.written out.old) (O.faults out.old))
@@ -37,7 +38,7 @@ fn carry_out<R: Threads + Wait + Sync, I: Source, O: Sink>(
     match settings {
         Settings::Check => check(rt, alloc, input, out),
         Settings::Print => print(rt, alloc, input, out),
-        Settings::Inline(options) => inline(rt, alloc, options, input, out),
+        Settings::Inline(options) => inline(rt, alloc, options, input, out, gate),
         Settings::Run(options) => run(rt, alloc, options, input, out),
     }
 }
@@ -45,7 +46,8 @@ fn carry_out<R: Threads + Wait + Sync, I: Source, O: Sink>(
 /// All that the program does, by the words of its command line: `check` and `print` read a module from `input`, and
 /// write to `out` how many functions it has, and its canonical text; `run` runs a function of it, and writes what the
 /// run did; `inline` writes the canonical text of the module with its calls inlined, from callees to callers, as the sizes
-/// of the settings allow. A refusal is told on `err` in one line, and nothing passes the gate yet.
+/// of the settings allow, and tells the gate of each function that a worker begins. A refusal is told on `err` in one
+/// line.
 pub fn command<R: Threads + Wait + Sync, I: Source, O: Sink, E: Sink, G: Gate>(
     rt: &R,
     alloc: Global,
@@ -83,7 +85,7 @@ pub fn command<R: Threads + Wait + Sync, I: Source, O: Sink, E: Sink, G: Gate>(
             return Status::NoMemory;
         }
     };
-    let status = carry_out(rt, alloc, &settings, input, out);
+    let status = carry_out(rt, alloc, &settings, input, out, gate);
     tell(err, status);
     status
 }

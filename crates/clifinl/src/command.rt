@@ -45,9 +45,9 @@ fn carry_out<R: Threads + Wait + Sync, I: Source, O: Sink, G: Gate>(
 
 /// All that the program does, by the words of its command line: `check` and `print` read a module from `input`, and
 /// write to `out` how many functions it has, and its canonical text; `run` runs a function of it, and writes what the
-/// run did; `inline` writes the canonical text of the module with its calls inlined, from callees to callers, as the sizes
-/// of the settings allow, and tells the gate of each function that a worker begins. A refusal is told on `err` in one
-/// line.
+/// run did; `inline` writes the canonical text of the module with its calls inlined, from callees to callers, as the
+/// sizes of the settings allow, and tells the gate of each function that a worker begins. A refusal is told on `err`
+/// in one line.
 pub fn command<R: Threads + Wait + Sync, I: Source, O: Sink, E: Sink, G: Gate>(
     rt: &R,
     alloc: Global,

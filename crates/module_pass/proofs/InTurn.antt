@@ -1,6 +1,8 @@
 -- The functions in the order in use: each behind its callees in other pieces.
-use Rattle.std.proofs.Common.{◌≡◌, ◌⊎◌, inl, inr, ℕ, zero, suc, ◌+◌, ◌<◌, List, [], ◌∷◌, length, Option, Some, None, true, refl, sym, ap, ◌∙◌, subst, arith}
-use Rattle.std.specs.Prelude.{slice_get}
+use Rattle.std.proofs.Common.{◌≡◌, ◌⊎◌, inl, inr, ℕ, zero, suc, ◌<◌, List, [], ◌∷◌, length, Option, Some, None, true}
+use Rattle.std.proofs.Common.{refl, sym, ap, ◌∙◌, subst, arith}
+use Rattle.std.specs.Prelude.{slice_get, slice_index_or}
+use Rattle.std.proofs.lemmas.Option.{slice_get-get_or}
 use Rattle.ir_core.specs.declared.names.FuncName.{FuncName}
 use Rattle.ir_core.specs.Module.{Function, Module}
 use Rattle.ir_core.specs.Lookup.{find_function}
@@ -38,7 +40,8 @@ numbered m x k e =
 calls_by : Option Function → List FuncName
 calls_by o = elim o [ None ↦ [] | Some f ↦ called_names f f.blocks ]
 
-calls_are : (m : Module) (x : FuncName) (f : Function) → find_function x m ≡ Some f → calls_of m x ≡ called_names f f.blocks
+calls_are :
+    (m : Module) (x : FuncName) (f : Function) → find_function x m ≡ Some f → calls_of m x ≡ called_names f f.blocks
 unfolding calls_by
 calls_are m x f e = ap calls_by e
 
@@ -50,36 +53,65 @@ module _ (m : Module) where
   number_below [] t k e = absurd cc
   number_below (x ∷ ns) t k e = go (number_of m x) refl t e (λ u. number_below ns u k)
     where
-      go : (o : Option ℕ) → number_of m x ≡ o → (t : ℕ) → slice_get (with_number o (numbers_of m ns)) t ≡ Some k
+      go :
+          (o : Option ℕ) → number_of m x ≡ o → (t : ℕ) → slice_get (with_number o (numbers_of m ns)) t ≡ Some k
           → ((u : ℕ) → slice_get (numbers_of m ns) u ≡ Some k → k < length m) → k < length m
       go None q t e rest = rest t e
       go (Some j) q zero e rest = let s : j ≡ k = cc in subst (λ (z : ℕ). z < length m) s (numbered m x j q).0
       go (Some j) q (suc t) e rest = rest t e
 
-  -- the number of a name among them
-  number_there : (ns : List FuncName) (y : FuncName) (k : ℕ) → In y ns → number_of m y ≡ Some k
-      → (t : ℕ) × (slice_get (numbers_of m ns) t ≡ Some k)
+  -- there is a number of a name among them
+  abbrev Stands : List ℕ → ℕ → Type 0
+  Stands ks k = (t : ℕ) × (slice_get ks t ≡ Some k)
+
+  number_there :
+      (ns : List FuncName) (y : FuncName) (k : ℕ) → In y ns → number_of m y ≡ Some k → Stands (numbers_of m ns) k
   number_there [] y k i e = elim i [ ]
   number_there (x ∷ ns) y k i e = go (number_of m x) refl i (λ j. number_there ns y k j e)
     where
-      go : (o : Option ℕ) → number_of m x ≡ o → In y (x ∷ ns)
-          → (In y ns → (t : ℕ) × (slice_get (numbers_of m ns) t ≡ Some k)) → (t : ℕ) × (slice_get (with_number o (numbers_of m ns)) t ≡ Some k)
+      go :
+          (o : Option ℕ) → number_of m x ≡ o → In y (x ∷ ns) → (In y ns → Stands (numbers_of m ns) k)
+          → Stands (with_number o (numbers_of m ns)) k
       go None q (inl s) rest = absurd (let h = ap (number_of m) s in cc)
       go None q (inr i) rest = rest i
-      go (Some j) q (inl s) rest = let h = ap (number_of m) s in let same : j ≡ k = cc in (0, ap (λ (z : ℕ). Some z) same)
+      go (Some j) q (inl s) rest =
+          let h = ap (number_of m) s in let same : j ≡ k = cc in (0, ap (λ (z : ℕ). Some z) same)
       go (Some j) q (inr i) rest = let r = rest i in (suc r.0, r.1)
 
-  module _ (k : ℕ) (f : Function) (is : slice_get m k ≡ Some f) (y : FuncName) (calls : In y (called_names f f.blocks)) (other : apart m f.name y ≡ true)
-      (j : ℕ) (e : number_of m y ≡ Some j) where
-    -- what a function calls in another piece comes before it
-    callee_first : (before ns : List FuncName) → CalleesBefore m before ns → (t : ℕ) → slice_get (numbers_of m ns) t ≡ Some k
-        → In y before ⊎ ((s : ℕ) × (s < t) × (slice_get (numbers_of m ns) s ≡ Some j))
+  -- before a place of the list
+  abbrev Before : List ℕ → ℕ → ℕ → Type 0
+  Before ks t j = (s : ℕ) × (s < t) × (slice_get ks s ≡ Some j)
+
+  -- the function k, that calls y, which is in another piece and has the number j
+  module _
+      (k : ℕ) (f : Function) (is : slice_get m k ≡ Some f) (y : FuncName) (calls : In y (called_names f f.blocks))
+      (other : apart m f.name y ≡ true) (j : ℕ) (e : number_of m y ≡ Some j) where
+    callee_before :
+        (before ns : List FuncName) (x : FuncName) → CalleesBefore m before (x ∷ ns) → number_of m x ≡ Some k
+        → In y before
+    callee_before before ns x c q =
+        let h = numbered m x k q in
+        let g : h.1 ≡ f = let a = h.2 in cc in
+        let found : find_function x m ≡ Some f = h.3 ∙ ap (λ (z : Function). Some z) g in
+        let named : f.name ≡ x = ap (λ (z : Function). z.name) (sym g) ∙ h.4 in
+        let u = numbered m y j e in
+        c.1 y (subst (In y) (sym (calls_are m x f found)) calls)
+        (subst (λ (z : FuncName). apart m z y ≡ true) named other)
+        (subst (λ (z : FuncName). In z (names_of m)) u.4 (name_in m j u.1 u.2))
+
+    -- y comes before it
+    callee_first :
+        (before ns : List FuncName) → CalleesBefore m before ns → (t : ℕ) → slice_get (numbers_of m ns) t ≡ Some k
+        → In y before ⊎ Before (numbers_of m ns) t j
     callee_first before [] c t at = absurd cc
-    callee_first before (x ∷ ns) c t at = go (number_of m x) refl t at (λ u h. callee_first (x ∷ before) ns c.2 u h)
+    callee_first before (x ∷ ns) c t at =
+        go (number_of m x) refl t at (λ u h. callee_first (x ∷ before) ns c.2 u h)
       where
-        go : (o : Option ℕ) → number_of m x ≡ o → (t : ℕ) → slice_get (with_number o (numbers_of m ns)) t ≡ Some k
-            → ((u : ℕ) → slice_get (numbers_of m ns) u ≡ Some k → In y (x ∷ before) ⊎ ((s : ℕ) × (s < u) × (slice_get (numbers_of m ns) s ≡ Some j)))
-            → In y before ⊎ ((s : ℕ) × (s < t) × (slice_get (with_number o (numbers_of m ns)) s ≡ Some j))
+        go :
+            (o : Option ℕ) → number_of m x ≡ o → (t : ℕ) → slice_get (with_number o (numbers_of m ns)) t ≡ Some k
+            → ((u : ℕ) → slice_get (numbers_of m ns) u ≡ Some k
+            → In y (x ∷ before) ⊎ Before (numbers_of m ns) u j)
+            → In y before ⊎ Before (with_number o (numbers_of m ns)) t j
         go None q t at rest = elim (rest t at) [
           | inl (inl same) ↦ absurd (let h = ap (number_of m) same in cc)
           | inl (inr i) ↦ inl i
@@ -87,21 +119,19 @@ module _ (m : Module) where
         ]
         go (Some n) q zero at rest =
             let s : n ≡ k = cc in
-            let h = numbered m x n q in
-            let w : slice_get m k ≡ Some h.1 = subst (λ (z : ℕ). slice_get m z ≡ Some h.1) s h.2 in
-            let g : h.1 ≡ f = cc in
-            let found : find_function x m ≡ Some f = h.3 ∙ ap (λ (z : Function). Some z) g in
-            let named : f.name ≡ x = ap (λ (z : Function). z.name) (sym g) ∙ h.4 in
-            let u = numbered m y j e in
-            inl (c.1 y (subst (In y) (sym (calls_are m x f found)) calls) (subst (λ (z : FuncName). apart m z y ≡ true) named other)
-            (subst (λ (z : FuncName). In z (names_of m)) u.4 (name_in m j u.1 u.2)))
+            inl (callee_before before ns x c (q ∙ ap (λ (z : ℕ). Some z) s))
         go (Some n) q (suc t) at rest = elim (rest t at) [
-          | inl (inl same) ↦ (let h = ap (number_of m) same in let s : n ≡ j = cc in inr (0, omega arith, ap (λ (z : ℕ). Some z) s))
+          | inl (inl same) ↦ (let h = ap (number_of m) same in let s : n ≡ j = cc in
+              inr (0, omega arith, ap (λ (z : ℕ). Some z) s))
           | inl (inr i) ↦ inl i
           | inr r ↦ inr (suc r.0, (let l = r.1 in omega arith), r.2)
         ]
 
 -- ---- an order
+
+pub item_at :
+    (xs list : List ℕ) → xs ≡ list → (t : ℕ) → t < length xs → slice_get list t ≡ Some (slice_index_or xs t 0)
+item_at xs list same t l = ap (λ (ks : List ℕ). slice_get ks t) (sym same) ∙ slice_get-get_or xs t 0 l
 
 module _ (m : Module) (d : DifferentNames m) (order : Order) (is : IsOrderOf m order) where
   by_list : (t k : ℕ) → slice_get order.list t ≡ Some k → slice_get (numbers_of m (bottom_up m)) t ≡ Some k
@@ -114,14 +144,17 @@ module _ (m : Module) (d : DifferentNames m) (order : Order) (is : IsOrderOf m o
   pub turn_of : (k : ℕ) → k < length m → (t : ℕ) × (slice_get order.list t ≡ Some k)
   turn_of k l =
       let s = some_at m k l in
-      let r = number_there m (bottom_up m) s.0.name k ((order_is_bottom_up m d).all s.0.name (name_in m k s.0 s.1)) (number_is m d k s.0 s.1) in
+      let i = (order_is_bottom_up m d).all s.0.name (name_in m k s.0 s.1) in
+      let r = number_there m (bottom_up m) s.0.name k i (number_is m d k s.0 s.1) in
       (r.0, ap (λ (l : List ℕ). slice_get l r.0) is.list ∙ r.1)
 
   -- where the places of the first t functions are filled, there is each callee in another piece of the next one
-  pub has_callees : (places : List (Option Built)) (t k : ℕ) (f : Function) → slice_get order.list t ≡ Some k → slice_get m k ≡ Some f
+  pub has_callees :
+      (places : List (Option Built)) (t k : ℕ) (f : Function) → slice_get order.list t ≡ Some k → slice_get m k ≡ Some f
       → ((s n : ℕ) → s < t → slice_get order.list s ≡ Some n → IsFilled places n) → HasCallees m f (filled places)
   has_callees places t k f e at done y calls other j n =
-      elim (callee_first m k f at y calls other j n [] (bottom_up m) (order_is_bottom_up m d).callees_before t (by_list t k e)) [
+      let before = (order_is_bottom_up m d).callees_before in
+      elim (callee_first m k f at y calls other j n [] (bottom_up m) before t (by_list t k e)) [
         | inl i ↦ elim i [ ]
         | inr r ↦ in_filled places j (done r.0 j r.1 (ap (λ (l : List ℕ). slice_get l r.0) is.list ∙ r.2))
       ]

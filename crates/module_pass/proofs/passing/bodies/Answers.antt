@@ -1,58 +1,60 @@
-use Rattle.std.proofs.Common.{◌≡◌, ℕ, ◌+◌, ◌<◌, List, Option, Some, length, set, refl, sym, ap, ◌∙◌, subst, arith, inl, inr, slice_index_or, rules}
-use Rattle.std.specs.Prelude.{slice_get}
+use Rattle.std.proofs.Common.{◌≡◌, ℕ, ◌<◌, List, Option, Some, length, set, sym, ap, ◌∙◌, subst, arith, inl, inr}
+use Rattle.std.specs.Prelude.{slice_get, slice_index_or}
 use Rattle.std.proofs.lemmas.Bool.{cases_eq}
 use Rattle.std.proofs.lemmas.List.{length-set}
-use Rattle.std.proofs.lemmas.Option.{slice_get_within, slice_get-get_or}
+use Rattle.std.proofs.lemmas.Option.{slice_get_within}
 use Rattle.ir_core.specs.Module.{Module}
 use Rattle.inline_finish.specs.declared.bodies.Built.{Built}
 use Rattle.module_pass.specs.Places.{IsFilled}
 use Rattle.module_pass.proofs.Filled.{if_some, filled_here, filled_still}
-use Rattle.module_pass.proofs.InTurn.{below, turn_of, has_callees}
+use Rattle.module_pass.proofs.InTurn.{below, item_at, turn_of, has_callees}
 use Rattle.module_pass.proofs.passing.bodies.Goals as goal
 
 pub finish_body-requires-clause-there : goal.finish_body-requires-clause-there
 finish_body-requires-clause-there c =
-    let xs : List ℕ = c.as_slice-func-items.result.now in let t : ℕ = c.loop-func.func-index in
-    let at : slice_get xs t ≡ Some (slice_index_or xs t 0) = slice_get-get_or xs t 0 (search rules) in
-    below c.args.«module».now c.requires.names c.args.order.now c.requires.order t (slice_index_or xs t 0) (ap (λ (l : List ℕ). slice_get l t) (sym c.as_slice-func-items.ensures) ∙ at)
+    let xs = c.as_slice-func-items.result.now in let t = c.loop-func.func-index in
+    let at = item_at xs c.args.order.now.list c.as_slice-func-items.ensures t c.loop-func-test.true in
+    below c.args.«module».now c.requires.names c.args.order.now c.requires.order t (slice_index_or xs t 0) at
 
 pub finish_body-requires-clause-has : goal.finish_body-requires-clause-has
 finish_body-requires-clause-has c =
-    let m : Module = c.args.«module».now in
-    let xs : List ℕ = c.as_slice-func-items.result.now in let t : ℕ = c.loop-func.func-index in let k : ℕ = slice_index_or xs t 0 in
-    let at : slice_get c.args.order.now.list t ≡ Some k = ap (λ (l : List ℕ). slice_get l t) (sym c.as_slice-func-items.ensures) ∙ slice_get-get_or xs t 0 (search rules) in
-    if_some _ (slice_get m k) (λ f e. has_callees m c.requires.names c.args.order.now c.requires.order c.loop-func.places.built t k f at e c.loop-func.invariant.done)
+    let m = c.args.«module».now in let t = c.loop-func.func-index in
+    let xs = c.as_slice-func-items.result.now in let k : ℕ = slice_index_or xs t 0 in
+    let at = item_at xs c.args.order.now.list c.as_slice-func-items.ensures t c.loop-func-test.true in
+    if_some _ (slice_get m k) (λ f e. has_callees m c.requires.names c.args.order.now c.requires.order
+    c.loop-func.places.built t k f at e c.loop-func.invariant.done)
 
 pub put-requires-clause-there : goal.put-requires-clause-there
 put-requires-clause-there c =
-    let xs : List ℕ = c.as_slice-func-items.result.now in let t : ℕ = c.loop-func.func-index in let k : ℕ = slice_index_or xs t 0 in
-    let at : slice_get c.args.order.now.list t ≡ Some k = ap (λ (l : List ℕ). slice_get l t) (sym c.as_slice-func-items.ensures) ∙ slice_get-get_or xs t 0 (search rules) in
+    let xs = c.as_slice-func-items.result.now in let t = c.loop-func.func-index in
+    let k : ℕ = slice_index_or xs t 0 in
+    let at = item_at xs c.args.order.now.list c.as_slice-func-items.ensures t c.loop-func-test.true in
     let low = below c.args.«module».now c.requires.names c.args.order.now c.requires.order t k at in
     subst (λ (m : Module). k < length m) (sym c.loop-func.invariant.kind.0) low
 
 pub loop-func-preserved : goal.loop-func-preserved
 loop-func-preserved c =
-    let m : Module = c.args.«module».now in let places : List (Option Built) = c.loop-func.places.built in
-    let xs : List ℕ = c.as_slice-func-items.result.now in let t : ℕ = c.loop-func.func-index in let k : ℕ = slice_index_or xs t 0 in
-    let at : slice_get c.args.order.now.list t ≡ Some k = ap (λ (l : List ℕ). slice_get l t) (sym c.as_slice-func-items.ensures) ∙ slice_get-get_or xs t 0 (search rules) in
+    let m = c.args.«module».now in let places = c.loop-func.places.built in let t = c.loop-func.func-index in
+    let xs = c.as_slice-func-items.result.now in let k : ℕ = slice_index_or xs t 0 in
+    let at = item_at xs c.args.order.now.list c.as_slice-func-items.ensures t c.loop-func-test.true in
     let low = below m c.requires.names c.args.order.now c.requires.order t k at in
-    let i = c.loop-func.invariant in let more = c.put.ensures.more in let b : Built = c.in_ok-built.built in
+    let i = c.loop-func.invariant in let b : Built = c.in_ok-built.built in
     let within : k < length places = let l = i.long in omega arith in
     record {
       kind = (c.put.ensures.kind.0 ∙ i.kind.0, c.put.ensures.kind.1 ∙ i.kind.1);
-      long = ap length more ∙ (length-set places k (Some b) ∙ i.long);
-      done = λ s n l e. subst (λ (ps : List (Option Built)). IsFilled ps n) (sym more) (elim (cases_eq s t) [
-        | inl q ↦ (let there = ap (slice_get c.args.order.now.list) q in let same : k ≡ n = cc in
-            subst (IsFilled (set places k (Some b))) same (filled_here places k b within))
-        | inr q ↦ filled_still places k b n within (i.done s n (omega (arith, l, q)) e)
-      ]);
+      long = ap length c.put.ensures.more ∙ (length-set places k (Some b) ∙ i.long);
+      done = λ s n l e. subst (λ (ps : List (Option Built)). IsFilled ps n) (sym c.put.ensures.more)
+          (elim (cases_eq s t) [
+            | inl q ↦ (let there = ap (slice_get c.args.order.now.list) q in let same : k ≡ n = cc in
+                subst (IsFilled (set places k (Some b))) same (filled_here places k b within))
+            | inr q ↦ filled_still places k b within n (i.done s n (omega (arith, l, q)) e)
+          ]);
     }
 
 pub returns-clause-all : goal.returns-clause-all
 returns-clause-all c = λ k l.
-    let m : Module = c.args.«module».now in
-    let ends = c.loop-func-test.false in let items = ap length c.as_slice-func-items.ensures in let same = c.into_built.ensures.same in
-    let long = c.loop-func.invariant.long in let many = ap length same in
-    let r = turn_of m c.requires.names c.args.order.now c.requires.order k (omega arith) in
+    let ends = c.loop-func-test.false in let items = ap length c.as_slice-func-items.ensures in
+    let same = c.into_built.ensures.same in let many = ap length same in let long = c.loop-func.invariant.long in
+    let r = turn_of c.args.«module».now c.requires.names c.args.order.now c.requires.order k (omega arith) in
     let within = slice_get_within c.args.order.now.list r.0 k r.1 in
     subst (λ (ps : List (Option Built)). IsFilled ps k) (sym same) (c.loop-func.invariant.done r.0 k (omega arith) r.1)

@@ -6,6 +6,8 @@ use Rattle.module_pass.proofs.places.Places.put.Goals as goal
 
 pub invariant_of-self : goal.invariant_of-self
 invariant_of-self c =
-    built_more c.self.inside.policy c.self.inside.functions.value c.self.inside.built.items c.args.func c.args.built c.self.invariant
-    (subst (λ (t : Table). c.args.func < length t.functions) (sym c.self.view_is) c.requires.there)
-    (subst (λ (t : Table). IfSome (slice_get t.functions c.args.func) (λ f. IsBuilt (policy_of t.policy) t.functions f c.args.built)) (sym c.self.view_is) c.requires.body)
+    let p = c.self.inside in let k = c.args.func in let b = c.args.built in
+    built_more p.policy p.functions.value p.built.items k b c.self.invariant
+    (subst (λ (t : Table). k < length t.functions) (sym c.self.view_is) c.requires.there)
+    (subst (λ (t : Table). IfSome (slice_get t.functions k) (λ f. IsBuilt (policy_of t.policy) t.functions f b))
+    (sym c.self.view_is) c.requires.body)

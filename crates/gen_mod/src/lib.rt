@@ -9,7 +9,5 @@ pub mod laws;
 mod lines;
 mod names;
 mod shapes;
-#[cfg(test)]
-mod tests;
 
 pub use generated::generate;

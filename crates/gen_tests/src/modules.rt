@@ -1,6 +1,6 @@
 //! That modules are made with ample memory, and the functions that they call: as Python's integers draw them.
 
-use crate::generate;
+use gen_mod::generate;
 use ir_core::{FuncName, Module};
 use std::alloc::{AllocError, Global};
 

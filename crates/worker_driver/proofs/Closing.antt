@@ -16,7 +16,7 @@ use Rattle.publish_table.specs.declared.view.Cell.TheVariants.{Body, Refused}
 use Rattle.publish_table.specs.Plays.{total, count, fresh}
 use Rattle.publish_table.specs.Seats.{view_of, IsMade, AreAllSeats, ClosedAs, IsClosed}
 use Rattle.worker_driver.specs.Turns.{IsBoardFor, IsIdle, IsThroughAs, IsAnswer, AllAnswered, AllBodies}
-use Rattle.worker_driver.proofs.Desks.{all_cons}
+use Rattle.std.proofs.lemmas.List.Elements.{All-cons}
 use Rattle.publish_table.proofs.Moves.{below_one}
 use Rattle.publish_table.proofs.Bounds.{no_count}
 use Rattle.publish_table.specs.Rule.{below}
@@ -57,8 +57,8 @@ past : (t n : ℕ) → n ≤ t → ◌≡◌ {A = ℕ} (cond (nat_lt t n) 1 0) 0
 past t n l = grind (arith, nat_tests)
 
 all_snoc : (P : Seat → Type 0) (xs : List Seat) (s : Seat) → All P xs → P s → All P (xs ++ s ∷ [])
-all_snoc P [] s h p = all_cons P s [] p (λ k d l. absurd (omega arith))
-all_snoc P (x ∷ xs) s h p = all_cons P x (xs ++ s ∷ []) (h 0 x (omega arith)) (all_snoc P xs s (λ k d l. h (suc k) d (omega arith)) p)
+all_snoc P [] s h p = All-cons P s [] p (λ k d l. absurd (omega arith))
+all_snoc P (x ∷ xs) s h p = All-cons P x (xs ++ s ∷ []) (h 0 x (omega arith)) (all_snoc P xs s (λ k d l. h (suc k) d (omega arith)) p)
 
 module _ (functions : Module) (policy : Policy) (workers : ℕ) (b : Board) (all : List Seat) (m : IsMade functions policy workers b all) where
   pub board_for : IsBoardFor functions policy b

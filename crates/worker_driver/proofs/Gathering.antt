@@ -1,5 +1,5 @@
 -- The module of finished bodies grows by one body, and is whole at the end.
-use Rattle.std.proofs.Common.{◌≡◌, inl, inr, ℕ, zero, suc, ◌+◌, ◌<◌, ◌≤◌, List, [], ◌∷◌, ◌++◌, length, map, sum, take, Option, Some, None, Bool, true, false, refl, sym, ap, ap₂, ◌∙◌, subst, arith}
+use Rattle.std.proofs.Common.{◌≡◌, inl, inr, ℕ, zero, suc, ◌+◌, ◌<◌, ◌≤◌, List, [], ◌∷◌, ◌++◌, length, map, sum, take, Some, None, Bool, true, false, refl, sym, ap, ap₂, ◌∙◌, subst, arith}
 use Rattle.std.specs.Prelude.{slice_get, if◌then◌else◌}
 use Rattle.std.specs.List.{enumerate_from}
 use Rattle.std.proofs.lemmas.Bool.{cases_eq}
@@ -10,7 +10,7 @@ use Rattle.ir_core.specs.Module.{Function, Module}
 use Rattle.ir_core.specs.Lookup.{same_name, find_function}
 use Rattle.ir_core.specs.Lists.{In, Each}
 use Rattle.ir_core.specs.Sound.{IsSound, IsWhole}
-use Rattle.ir_core.specs.WellFormed.{WellFormed, DifferentNames, declared}
+use Rattle.ir_core.specs.WellFormed.{WellFormed, DifferentNames}
 use Rattle.ir_core.proofs.Equal.{name_equal}
 use Rattle.ir_core.proofs.Keeping.{length_numbered}
 use mathlib.Core.List.{map-append}

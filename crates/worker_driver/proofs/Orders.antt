@@ -1,5 +1,5 @@
 -- The order in use by the functions' numbers.
-use Rattle.std.proofs.Common.{◌≡◌, ◌≢◌, inl, inr, ℕ, zero, suc, ◌+◌, ◌<◌, List, [], ◌∷◌, length, Option, Some, None, eqb, cond, refl, sym, ap, ◌∙◌, subst, arith, eq-eqb, ne_eqb}
+use Rattle.std.proofs.Common.{◌≡◌, ◌≢◌, inl, inr, ℕ, zero, suc, ◌<◌, List, [], ◌∷◌, length, Option, Some, cond, refl, sym, ap, ◌∙◌, subst, arith, eq-eqb, ne_eqb}
 use Rattle.std.specs.Prelude.{slice_get}
 use Rattle.std.proofs.lemmas.Bool.{cases_eq}
 use Rattle.std.proofs.lemmas.Option.{slice_get_within}
@@ -16,7 +16,7 @@ use Rattle.call_graph.proofs.Placing.{order_is_bottom_up}
 use Rattle.publish_table.specs.Jobs.{function_of}
 use Rattle.publish_table.specs.Plays.{count}
 use Rattle.worker_driver.specs.Plans.{IsListing}
-use Rattle.worker_driver.proofs.Sums.{length_all, counted_at, spot_of, one_spot}
+use Rattle.worker_driver.proofs.Sums.{length_all, spot_of, one_spot}
 
 pub named : (m : Module) (x : FuncName) → In x (names_of m) → (k : ℕ) × (f : Function) × (slice_get m k ≡ Some f) × (f.name ≡ x)
 named [] x i = elim i [ ]

@@ -1,5 +1,5 @@
 -- One more body among those that are held.
-use Rattle.std.proofs.Common.{◌≡◌, ◌≢◌, ◌⊎◌, inl, inr, ℕ, List, [], ◌∷◌, ◌++◌, Option, Some, None, true, false, refl, sym, ◌∙◌, subst, arith}
+use Rattle.std.proofs.Common.{◌≡◌, ◌≢◌, ◌⊎◌, inl, inr, ℕ, List, [], ◌∷◌, ◌++◌, Option, Some, true, false, refl, sym, ◌∙◌, subst, arith}
 use Rattle.std.specs.Prelude.{IsSome}
 use Rattle.std.specs.Arc.{arc_value}
 use Rattle.std.specs.Ordering.{nat_cmp, is_eq}
@@ -8,6 +8,7 @@ use Rattle.std.specs.declared.sync.Arc.{Arc}
 use Rattle.std.specs.declared.alloc.Global.{Global}
 use Rattle.std.proofs.lemmas.Bool.{cases_eq}
 use Rattle.std.proofs.lemmas.Bool.Decides.{nat_tests}
+use Rattle.ir_core.proofs.Members.{in_cases}
 use Rattle.ir_core.specs.Lists.{In}
 use Rattle.ir_core.specs.Module.{Module}
 use Rattle.inline_finish.specs.declared.bodies.Built.{Built}
@@ -21,12 +22,6 @@ same_key x y e = grind (arith, nat_tests)
 
 other_key : (x y : ℕ) → x ≢ y → is_eq (nat_cmp x y) ≡ false
 other_key x y n = grind (arith, nat_tests)
-
-pub in_snoc : {A : Type 0} (xs : List A) (x y : A) → In y (xs ++ x ∷ []) → In y xs ⊎ (y ≡ x)
-in_snoc [] x y (inl e) = inr e
-in_snoc [] x y (inr i) = elim i [ ]
-in_snoc (z ∷ zs) x y (inl e) = inl (inl e)
-in_snoc (z ∷ zs) x y (inr i) = elim (in_snoc zs x y i) [ inl j ↦ inl (inr j) | inr e ↦ inr e ]
 
 module _ (p : Policy) (m : Module) (old new : BTreeMap ℕ (Arc Built Global)) (func : ℕ) (a : Arc Built Global)
     (puts : Updates nat_cmp old new func (Some a)) where
@@ -48,9 +43,10 @@ module _ (p : Policy) (m : Module) (old new : BTreeMap ℕ (Arc Built Global)) (
   pub has_put : (known after : List ℕ) → after ≡ known ++ func ∷ [] → Has old known → Has new after
   has_put known after is has k i = elim (cases_eq func k) [
     | inl q ↦ subst (λ (o : Option (Arc Built Global)). IsSome o) (sym (subst (λ (z : ℕ). get nat_cmp new z ≡ Some a) q here)) refl
-    | inr q ↦ subst (λ (o : Option (Arc Built Global)). IsSome o) (sym (elsewhere k q)) (has k (kept (in_snoc known func k (subst (In k) is i)) q))
+    | inr q ↦ subst (λ (o : Option (Arc Built Global)). IsSome o) (sym (elsewhere k q)) (has k (kept (in_cases k known (func ∷ []) (subst (In k) is i)) q))
   ]
     where
-      kept : {k : ℕ} → In k known ⊎ (k ≡ func) → func ≢ k → In k known
+      kept : {k : ℕ} → In k known ⊎ In k (func ∷ []) → func ≢ k → In k known
       kept (inl i) n = i
-      kept (inr e) n = absurd (n (sym e))
+      kept (inr (inl e)) n = absurd (n (sym e))
+      kept (inr (inr i)) n = elim i [ ]

@@ -6,6 +6,7 @@ use Rattle.ir_core.specs.declared.names.FuncName.{FuncName}
 use Rattle.ir_core.specs.Module.{Function, Module}
 use Rattle.ir_core.specs.Lists.{In}
 use Rattle.ir_core.proofs.Indexing.{place_cases}
+use Rattle.ir_core.proofs.Members.{in_left, in_right}
 use Rattle.std.proofs.lemmas.List.{length-map}
 use Rattle.std.proofs.lemmas.Option.{slice_get_within, slice_get-get_or}
 use Rattle.ir_core.specs.WellFormed.{DifferentNames}
@@ -25,7 +26,6 @@ use Rattle.inline_finish.specs.Bodies.{IsBodyOf, HasCallees}
 use Rattle.inline_finish.specs.Building.{policy_of, IsBuilt}
 use Rattle.publish_table.specs.declared.view.View.{View}
 use Rattle.publish_table.specs.Jobs.{FinishedOf, function_of}
-use Rattle.publish_table.specs.Plays.{count}
 use Rattle.worker_driver.specs.declared.plan.Plan.{Plan}
 use Rattle.worker_driver.specs.Held.{Held}
 use Rattle.worker_driver.specs.Plans.{IsPlanOf}
@@ -148,19 +148,10 @@ read_more plan func n j k c d v w so e is stay r i h l at apart = elim (cases_eq
   | inr q ↦ (let s = so i h (omega (arith, l, is, q)) at apart in (r.0 h s.0, λ t a. stay t (s.1 t a)))
 ]
 
-in_last : (xs : List ℕ) (x : ℕ) → In x (xs ++ x ∷ [])
-in_last [] x = inl refl
-in_last (y ∷ ys) x = inr (in_last ys x)
-
-in_longer : (xs : List ℕ) (x y : ℕ) → In y xs → In y (xs ++ x ∷ [])
-in_longer [] x y i = elim i [ ]
-in_longer (z ∷ zs) x y (inl e) = inl e
-in_longer (z ∷ zs) x y (inr i) = inr (in_longer zs x y i)
-
 pub apart_read : (plan : Plan) (func k : ℕ) (old new : Held) (w : View) → IsReadUnder plan old new k w → IsReadIfApart plan func old new k w
 apart_read plan func k old new w r = (
-  λ j i. subst (In j) (sym r.0) (in_longer old.known k j i),
-  λ n. (subst (In k) (sym r.0) (in_last old.known k), r.1),
+  λ j i. subst (In j) (sym r.0) (in_left j old.known (k ∷ []) i),
+  λ n. (subst (In k) (sym r.0) (in_right k old.known (k ∷ []) (inl refl)), r.1),
 )
 
 -- what a try gives where it is some

@@ -1,5 +1,5 @@
 -- Sums over the numbers of a list, and over the numbers below a bound.
-use Rattle.std.proofs.Common.{◌≡◌, ◌≢◌, inl, inr, ℕ, zero, suc, ◌+◌, ◌<◌, ◌≤◌, List, [], ◌∷◌, length, map, sum, get_or, Option, Some, None, eqb, cond, refl, sym, ap, ◌∙◌, arith, eq-eqb, ne_eqb}
+use Rattle.std.proofs.Common.{◌≡◌, inl, inr, ℕ, zero, suc, ◌+◌, ◌<◌, ◌≤◌, List, [], ◌∷◌, length, map, sum, get_or, Some, None, eqb, cond, refl, sym, ap, ◌∙◌, arith, eq-eqb, ne_eqb}
 use Rattle.std.specs.Prelude.{slice_get}
 use Rattle.std.proofs.lemmas.Bool.{cases_eq}
 use Rattle.std.proofs.lemmas.List.Sums.{sum_by-cons}
@@ -75,14 +75,29 @@ pub total_all : (g : ℕ → ℕ) (n : ℕ) (l : List ℕ) → ((k : ℕ) → In
 total_all g n l all once = exchange g n l all ∙ below_same (λ k. total (λ x. cond (eqb x k) (g k) 0) l) g n
     (λ k low. weigh_once k (g k) l (once k low))
 
-total_ones : (l : List ℕ) → total (λ x. 1) l ≡ length l
+pub total_ones : (l : List ℕ) → total (λ x. 1) l ≡ length l
 total_ones [] = refl
 total_ones (x ∷ xs) = let h = total_ones xs in omega arith
 
 pub length_all : (n : ℕ) (l : List ℕ) → ((k : ℕ) → In k l → k < n) → ((k : ℕ) → k < n → count k l ≡ 1) → length l ≡ n
 length_all n l all once = sym (total_ones l) ∙ (total_all (λ x. 1) n l all once ∙ below_ones n)
 
+below_less : (f g : ℕ → ℕ) (n : ℕ) → ((k : ℕ) → k < n → f k ≤ g k) → below f n ≤ below g n
+below_less f g zero each = omega arith
+below_less f g (suc n) each = let h = below_less f g n (λ k l. each k (omega (arith, l))) in let o = each n (omega arith) in omega arith
+
+-- a list in which no number stands twice, and each is below the bound
+pub few : (n : ℕ) (l : List ℕ) → ((k : ℕ) → In k l → k < n) → ((k : ℕ) → count k l ≤ 1) → length l ≤ n
+few n l all once =
+    let e : total (λ x. 1) l ≡ below (λ k. count k l) n = exchange (λ x. 1) n l all in
+    let a = total_ones l in let b = below_less (λ k. count k l) (λ k. 1) n (λ k low. once k) in let o = below_ones n in omega arith
+
 -- ---- where a number stands
+
+pub counted_in : (k : ℕ) (l : List ℕ) → In k l → 0 < count k l
+counted_in k [] i = elim i [ ]
+counted_in k (x ∷ xs) (inl e) = let a = ap {B = ℕ} (λ b. cond b 1 0) (eq-eqb x k (sym e)) in omega arith
+counted_in k (x ∷ xs) (inr i) = let h = counted_in k xs i in omega arith
 
 pub counted_at : (k : ℕ) (l : List ℕ) (t : ℕ) → slice_get l t ≡ Some k → 0 < count k l
 counted_at k [] t e = absurd cc

@@ -1,13 +1,15 @@
 -- How the view of a seat goes through a turn.
-use Rattle.std.proofs.Common.{◌≡◌, ℕ, ◌+◌, ◌<◌, ◌≤◌, ◌⊎◌, List, [], ◌∷◌, ◌++◌, refl, sym, ap, ◌∙◌, subst, ⊎_elim, arith, Option, Some, None, IfSome}
+use Rattle.std.proofs.Common.{◌≡◌, ◌≢◌, ℕ, ◌+◌, ◌*◌, ◌<◌, ◌≤◌, List, [], ◌∷◌, ◌++◌, length, length-append, refl, sym, ap, ◌∙◌, subst, ⊎_elim, arith}
 use Rattle.ir_core.specs.Module.{Module}
 use Rattle.inline_finish.specs.declared.bodies.Policy.{Policy}
 use Rattle.publish_table.specs.declared.view.View.{View}
 use Rattle.publish_table.specs.Plays.{total, count, with_drawn, with_read, with_refused, with_body, with_refusal, IsNew}
 use Rattle.publish_table.specs.Seats.{IsOpen}
-use Rattle.publish_table.proofs.Lists.{total_append, count_here, count_snoc, counted}
+use Rattle.publish_table.proofs.Lists.{total_append, count_here, count_else, count_snoc, counted}
 use Rattle.worker_driver.specs.Reading.{OnlyRead, ReadsStay, CalleesRead}
-use Rattle.worker_driver.specs.Turns.{IsDone, IsNoted, cost_of, inlined_at}
+use Rattle.std.proofs.lemmas.Bool.{cases_eq}
+use Rattle.worker_driver.proofs.Sums.{few, counted_in, total_ones}
+use Rattle.worker_driver.specs.Turns.{IsDone, IsNoted, IsOnce, cost_of, inlined_at}
 
 count_grows : (k t : ℕ) (l : List ℕ) → count k l ≤ count k (l ++ t ∷ [])
 count_grows k t l = let h = count_snoc k t l in omega arith
@@ -96,10 +98,35 @@ module _ (m : Module) (v w x : View) (t : ℕ) (drawn : w ≡ with_drawn v t) (n
   pub bodies_by_refusal : (y : View) → y ≡ with_refusal x t → (y.bodies ≡ v.bodies) × (y.refusals ≡ v.refusals ++ t ∷ [])
   bodies_by_refusal y is = (ap (λ (z : View). z.bodies) is ∙ bodies_same, ap (λ (z : View). z.refusals) is ∙ ap (λ (l : List ℕ). l ++ t ∷ []) refusals_same)
 
+-- ---- a seat that drew each ticket once
+
+once_more : (m : Module) (v w : View) (t : ℕ) → IsNew v t → t < length m → w.drawn ≡ v.drawn ++ t ∷ [] → IsOnce m v → IsOnce m w
+once_more m v w t new low is once = (
+  λ k. ⊎_elim (λ (e : k ≡ t). subst (λ (z : ℕ). count z w.drawn ≤ 1) (sym e) (let h = ap (count t) is ∙ count_here t v.drawn in let n = new.0 in omega arith))
+      (λ (other : k ≢ t). let h = ap (count k) is ∙ count_else k t v.drawn other in let o = once.0 k in omega arith) (cases_eq k t),
+  λ k c. ⊎_elim (λ (e : k ≡ t). subst (λ (z : ℕ). z < length m) (sym e) low) (λ h. once.1 k h) (counted k t v.drawn (subst (λ (l : List ℕ). 0 < count k l) is c)),
+)
+
+pub once_by_body : (m : Module) (v w x y : View) (t : ℕ) → w ≡ with_drawn v t → IsNew v t → t < length m → OnlyRead w x → y ≡ with_body x t → IsOnce m v → IsOnce m y
+once_by_body m v w x y t drawn new low read is = once_more m v y t new low (ap (λ (z : View). z.drawn) is ∙ all_drawn m v w x t drawn new read)
+
+pub once_by_refusal : (m : Module) (v w x y : View) (t : ℕ) → w ≡ with_drawn v t → IsNew v t → t < length m → OnlyRead w x → y ≡ with_refusal x t → IsOnce m v → IsOnce m y
+once_by_refusal m v w x y t drawn new low read is = once_more m v y t new low (ap (λ (z : View). z.drawn) is ∙ all_drawn m v w x t drawn new read)
+
+-- it filled no more tickets than there are functions
+pub few_bodies : (m : Module) (v : View) → IsDone v → IsOnce m v → length v.bodies ≤ length m
+few_bodies m v done once =
+    let d = done (λ x. 1) in let a = total_ones v.bodies in let b = total_ones v.drawn in
+    let f = few (length m) v.drawn (λ k i. once.1 k (counted_in k v.drawn i)) once.0 in omega arith
+
 -- one ticket more in the count
-pub count_more_by : (p : Policy) (m : Module) (o r : Option ℕ) (a t n : ℕ) (b b' : List ℕ) → IfSome o (λ k. cost_of p m b ≡ a + k) → b' ≡ b ++ t ∷ []
-    → n ≡ inlined_at p m t → IfSome r (λ k. (j : ℕ) × (o ≡ Some j) × (k ≡ j + (1 + n))) → IfSome r (λ k. cost_of p m b' ≡ a + k)
-count_more_by p m o None a t n b b' h is inl r = tt
-count_more_by p m None (Some k) a t n b b' h is inl r = let bad : None ≡ Some r.0 = r.1 in cc
-count_more_by p m (Some j) (Some k) a t n b b' h is inl r = let same : j ≡ r.0 = (let e : Some j ≡ Some r.0 = r.1 in cc) in let k_is = r.2 in
-    let e : cost_of p m b' ≡ cost_of p m (b ++ t ∷ []) = ap (cost_of p m) is in let f = total_append (λ (x : ℕ). 1 + inlined_at p m x) b (t ∷ []) in omega arith
+pub cost_of_more : (p : Policy) (m : Module) (old new a t n : ℕ) (b b' : List ℕ) → cost_of p m b ≡ a + old → b' ≡ b ++ t ∷ []
+    → n ≡ inlined_at p m t → new ≡ old + (1 + n) → cost_of p m b' ≡ a + new
+cost_of_more p m old new a t n b b' h is inl e =
+    let c = ap (cost_of p m) is in let f = total_append (λ (x : ℕ). 1 + inlined_at p m x) b (t ∷ []) in omega arith
+
+-- and it is not too many steps for a number of 128 bits
+pub count_bound : (m : Module) (v w : View) (c n t : ℕ) → IsDone w → IsOnce m w → w.bodies ≡ v.bodies ++ t ∷ [] → c ≤ 18446744073709551616 * length v.bodies
+    → n < 18446744073709551616 → (c + (1 + n) ≤ 18446744073709551616 * length w.bodies) × (length w.bodies ≤ length m)
+count_bound m v w c n t done once is low fits =
+    let long : length w.bodies ≡ length v.bodies + 1 = ap length is ∙ length-append v.bodies (t ∷ []) in (omega arith, few_bodies m w done once)

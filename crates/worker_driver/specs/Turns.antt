@@ -1,5 +1,5 @@
 -- What a turn does, and what all turns together do.
-use Rattle.std.specs.Prelude.{◌≡◌, ℕ, ◌+◌, ◌<◌, ◌≤◌, List, [], ◌∷◌, ◌++◌, length, slice_get, IfSome, Some, None}
+use Rattle.std.specs.Prelude.{◌≡◌, ℕ, ◌+◌, ◌<◌, ◌≤◌, List, [], ◌∷◌, ◌++◌, length, slice_get, Some, None}
 use Rattle.std.specs.Arc.{arc_value}
 use Rattle.ir_core.specs.Module.{Module}
 use Rattle.inline_pass.specs.Inlined.{inlined}
@@ -27,6 +27,10 @@ IsBoardFor m p b =
 -- each draw of the seat is filled, once: however tickets are weighed
 abbrev pub IsDone : View → Type 0
 IsDone v = (h : ℕ → ℕ) → total h v.bodies + total h v.refusals ≡ total h v.drawn
+
+-- each ticket that the seat drew is that of a function, and was drawn once
+abbrev pub IsOnce : Module → View → Type 0
+IsOnce m v = ((t : ℕ) → count t v.drawn ≤ 1) × ((t : ℕ) → 0 < count t v.drawn → t < length m)
 
 abbrev pub IsSameSeat : Seat → Seat → Type 0
 IsSameSeat s r = (r.place.id ≡ s.place.id) × ((view_of r).made ≡ (view_of s).made)
@@ -57,7 +61,7 @@ IsThrough m b s = IsSeatOf b s × IsDone (view_of s) × (0 < (view_of s).ends) �
 
 -- the desk's count is what the bodies cost that its seat filled
 abbrev pub CountsWell : Policy → Module → Desk → Type 0
-CountsWell p m d = IfSome d.count (λ n. n ≡ cost_of p m (view_of d.seat).bodies)
+CountsWell p m d = d.count ≡ cost_of p m (view_of d.seat).bodies
 
 -- a seat that has done nothing
 abbrev pub IsIdle : Board → Seat → Type 0
@@ -70,7 +74,7 @@ abbrev pub IsThroughAs : Module → Board → Seat → Seat → Type 0
 IsThroughAs m b s r = IsThrough m b r × IsSameSeat s r
 
 abbrev pub desk_of : Seat → Desk
-desk_of s = record { seat = s; count = Some 0 }
+desk_of s = record { seat = s; count = 0 }
 
 abbrev pub seat_at : Desk → Seat
 seat_at d = d.seat

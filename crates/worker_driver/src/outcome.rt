@@ -16,6 +16,5 @@ pub enum Turn {
 #[derive(Drop)]
 pub(crate) struct Desk {
     pub seat: Seat,
-    /// None where the number does not fit.
-    pub count: Option<u64>,
+    pub count: u128,
 }

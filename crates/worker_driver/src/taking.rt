@@ -8,7 +8,7 @@ ghost use Rattle.publish_table.specs.Jobs.{FinishedOf};
 ghost use Rattle.publish_table.specs.Seats.{IsSeatOf, StaysSeat, view_of};
 ghost use Rattle.worker_driver.specs.Plans.{IsPlanOf};
 ghost use Rattle.worker_driver.specs.Reading.{IsFor, ReadSoFar, CalleesRead, OnlyRead, IsReadUnder, IsReadIfApart};
-ghost use Rattle.worker_driver.specs.Turns.{IsBoardFor, IsDone, IsNoted, IsSameSeat, Tells, inlined_at};
+ghost use Rattle.worker_driver.specs.Turns.{IsBoardFor, IsDone, IsNoted, IsSameSeat, IsOnce, Tells, inlined_at};
 
 use crate::callees::Callees;
 use crate::outcome::Turn;
@@ -48,8 +48,8 @@ fn read_callee<R: Wait>(
     }
 }
 
-/// Reads the body of a function that another one calls, under its ticket, if they are in different pieces. Whether it is
-/// there now, or need not be.
+/// Reads the body of a function that another one calls, under its ticket, if they are in different pieces. Whether it
+/// is there now, or need not be.
 fn read_apart<R: Wait>(
     rt: &R,
     plan: &Plan,
@@ -159,6 +159,7 @@ pub fn turn<R: Wait, G: Gate, L: Ledger>(
     requires done { IsDone (view_of seat.old) × IsNoted «module».now (view_of seat.old) }
     ensures seat { IsSeatOf board.now seat.new × IsSameSeat seat.old seat.new }
     ensures done { IsDone (view_of seat.new) × IsNoted «module».now (view_of seat.new) }
+    ensures once { IsOnce «module».now (view_of seat.old) → IsOnce «module».now (view_of seat.new) }
     ensures tells { Tells policy «module».now result (view_of seat.old) (view_of seat.new) steps.old steps.new }
 {
     let Some(ticket) = board.draw(seat) else {

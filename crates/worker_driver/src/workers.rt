@@ -7,7 +7,8 @@ ghost use Rattle.publish_table.specs.Seats.{IsSeatOf, view_of};
 ghost use Rattle.worker_driver.specs.declared.outcome.Desk.{Desk};
 ghost use Rattle.worker_driver.specs.Plans.{IsPlanOf};
 ghost use Rattle.worker_driver.specs.Turns.{IsBoardFor, IsDone, IsNoted, IsSameSeat, IsThrough, IsReady, IsIdle};
-ghost use Rattle.worker_driver.specs.Turns.{IsThroughAs, Worked, CountsWell, cost_of, desk_of, seat_at, cost_in};
+ghost use Rattle.worker_driver.specs.Turns.{IsThroughAs, Worked, CountsWell, IsOnce, cost_of, desk_of, seat_at};
+ghost use Rattle.worker_driver.specs.Turns.{cost_in};
 
 use crate::outcome::{Desk, Turn};
 use crate::plan::Plan;
@@ -24,7 +25,7 @@ use std::sync::ledger::{Blank, Ledger};
 use std::thread;
 use std::thread::Threads;
 
-/// Takes turns until there is no ticket. The answer is what the bodies cost that were published, where that fits.
+/// Takes turns until there is no ticket. The answer is what the bodies cost that were published.
 fn work<R: Wait, G: Gate, L: Ledger>(
     rt: &R,
     alloc: Global,
@@ -36,34 +37,28 @@ fn work<R: Wait, G: Gate, L: Ledger>(
     worker: usize,
     gate: &G,
     steps: &mut Steps<L>,
-) -> Option<u64>
+) -> u128
     requires board { IsBoardFor «module».now policy board.now × IsSeatOf board.now seat.old }
     requires plan { IsPlanOf «module».now plan.now × IsLimited policy }
     requires done { IsDone (view_of seat.old) × IsNoted «module».now (view_of seat.old) }
+    requires once { IsOnce «module».now (view_of seat.old) }
     ensures seat { IsThrough «module».now board.now seat.new × IsSameSeat seat.old seat.new }
-    ensures count { IfSome result (λ n. cost_of policy «module».now (view_of seat.new).bodies
-        ≡ cost_of policy «module».now (view_of seat.old).bodies + n) }
+    ensures count { cost_of policy «module».now (view_of seat.new).bodies
+        ≡ cost_of policy «module».now (view_of seat.old).bodies + result }
 {
-    let mut count = Some(0u64);
+    let mut count = 0u128;
     for _ in rt.forever() {
         match turn(
             rt, alloc, module, plan, policy, board, seat, worker, gate, steps,
         ) {
             Turn::Ended => return count,
             Turn::Filled(_, inlined) => {
-                count = added(count, inlined);
+                count += 1 + inlined as u128;
             }
             Turn::Refused(_) => {}
         }
     }
     unreachable!()
-}
-
-/// One more than the numbers together.
-fn added(count: Option<u64>, inlined: u64) -> Option<u64>
-    ensures { IfSome result (λ n. (m : ℕ) × (count ≡ Some m) × (n ≡ m + (1 + inlined))) }
-{
-    count?.checked_add(inlined)?.checked_add(1)
 }
 
 /// A worker at its desk, with a counter of its own.
@@ -164,12 +159,21 @@ fn desks_for(alloc: Global, seats: Vec<Seat>) -> Result<Vec<Desk>, AllocError>
 {
     let mut desks = Vec::with_capacity(alloc, seats.len())?;
     for seat in seats {
-        desks.push(Desk {
-            seat,
-            count: Some(0),
-        })?;
+        desks.push(Desk { seat, count: 0 })?;
     }
     Ok(desks)
+}
+
+/// Counts so many steps.
+fn add_many<L: Ledger>(steps: &mut Steps<L>, amount: u128)
+    ensures { steps.new ≡ steps.old + amount }
+{
+    let mut left = amount;
+    while left > u64::MAX as u128 {
+        steps.add(u64::MAX);
+        left -= u64::MAX as u128;
+    }
+    steps.add(left as u64);
 }
 
 /// The seats of the desks, and the counts are added to the counter.
@@ -189,10 +193,7 @@ fn seats_of<L: Ledger>(
     let mut seats = Vec::with_capacity(alloc, desks.len())?;
     for desk in desks {
         let Desk { seat, count } = desk;
-        let Some(count) = count else {
-            return Err(AllocError);
-        };
-        steps.add(count);
+        add_many(steps, count);
         seats.push(seat)?;
     }
     Ok(seats)

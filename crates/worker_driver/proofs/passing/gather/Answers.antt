@@ -1,16 +1,14 @@
-use Rattle.std.proofs.Common.{rules, ◌≡◌, ℕ, ◌+◌, ◌<◌, ◌≤◌, List, length, map, take, Some, refl, sym, ap, ◌∙◌, subst, arith}
+use Rattle.std.proofs.Common.{rules, ◌≡◌, ℕ, ◌+◌, ◌<◌, length, map, take, Some, refl, sym, ap, ◌∙◌, subst, arith}
 use Rattle.std.specs.Prelude.{slice_get}
-use Rattle.std.specs.Arc.{arc_value}
 use Rattle.std.proofs.lemmas.List.{length-set}
 use Rattle.std.proofs.lemmas.Option.{slice_get_read}
-use Rattle.ir_core.specs.Module.{Function, Module}
+use Rattle.ir_core.specs.Module.{Module}
 use Rattle.ir_semantics.specs.Canon.{SameFunction, SameUpToNumbering}
 use Rattle.inline_pass.specs.Policy as pass
 use Rattle.inline_pass.specs.Finished.{finished}
 use Rattle.inline_pass.specs.Inlined.{inlined}
 use Rattle.inline_finish.specs.declared.bodies.Built.{Built}
 use Rattle.inline_finish.specs.Building.{policy_of}
-use Rattle.publish_table.specs.declared.view.Cell.{Cell}
 use Rattle.worker_driver.specs.declared.plan.Plan.{Plan}
 use Rattle.worker_driver.proofs.Gathering.{sum_next, same_next, new_name, whole_of}
 use Rattle.worker_driver.proofs.ReadBodies.{tickets_long}

@@ -1,12 +1,12 @@
-use Rattle.std.proofs.Common.{◌≡◌, ℕ, ◌+◌, ◌<◌, List, length, map, sym, ap, ◌∙◌, subst, arith}
+use Rattle.std.proofs.Common.{◌≡◌, ℕ, ◌+◌, List, length, ◌∙◌, subst, arith}
 use Rattle.ir_core.specs.Module.{Module}
 use Rattle.ir_core.specs.WellFormed.{DifferentNames}
 use Rattle.inline_finish.specs.declared.bodies.Policy.{Policy}
 use Rattle.publish_table.specs.declared.board.Board.{Board}
 use Rattle.publish_table.specs.declared.board.Seat.{Seat}
 use Rattle.publish_table.specs.declared.view.Cell.{Cell}
-use Rattle.publish_table.specs.Seats.{IsMade, IsClosed}
-use Rattle.worker_driver.specs.Turns.{AllAnswered, inlined_at, cost_in}
+use Rattle.publish_table.specs.Seats.{IsMade}
+use Rattle.worker_driver.specs.Turns.{inlined_at, cost_in}
 use Rattle.worker_driver.proofs.Closing.{many, all_idle, all_seats, answered, all_cost}
 use Rattle.worker_driver.proofs.Costs.{cost_all}
 use Rattle.worker_driver.proofs.passing.pass_with.Goals as goal

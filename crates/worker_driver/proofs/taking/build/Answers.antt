@@ -5,7 +5,6 @@ use Rattle.std.proofs.lemmas.Option.{slice_get_within}
 use Rattle.call_graph.specs.Numbers.{called}
 use Rattle.ir_core.specs.Module.{Function, Module}
 use Rattle.inline_finish.specs.declared.bodies.Built.{Built}
-use Rattle.inline_finish.specs.declared.bodies.Policy.{Policy}
 use Rattle.inline_finish.specs.Bodies.{HasCallees}
 use Rattle.inline_finish.specs.Building.{policy_of, IsBuilt}
 use Rattle.std.specs.declared.sync.Arc.{Arc}

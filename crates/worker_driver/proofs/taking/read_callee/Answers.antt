@@ -1,5 +1,4 @@
-use Rattle.std.proofs.Common.{rules, ◌≡◌, ℕ, ◌<◌, List, length, Some, refl, sym, ap, ◌∙◌, subst, arith}
-use Rattle.std.specs.Prelude.{slice_get}
+use Rattle.std.proofs.Common.{rules, ◌≡◌, ℕ, ◌<◌, length, refl, sym, subst, arith}
 use Rattle.std.specs.Arc.{arc_value}
 use Rattle.std.proofs.lemmas.Option.{slice_get_read}
 use Rattle.ir_core.specs.Module.{Module}
@@ -9,7 +8,6 @@ use Rattle.publish_table.specs.declared.job.Job.{Job}
 use Rattle.publish_table.specs.declared.view.View.{View}
 use Rattle.publish_table.specs.Jobs.{FinishedOf, IsFinished}
 use Rattle.publish_table.specs.Plays.{count}
-use Rattle.worker_driver.specs.Held.{Held}
 use Rattle.worker_driver.specs.declared.plan.Plan.{Plan}
 use Rattle.worker_driver.proofs.Views.{only_read_by, read_noted}
 use Rattle.worker_driver.proofs.Orders.{same_item}

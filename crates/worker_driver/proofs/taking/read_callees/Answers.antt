@@ -1,9 +1,8 @@
-use Rattle.std.proofs.Common.{◌≡◌, ℕ, ◌+◌, ◌<◌, List, length, get_or, [], Some, refl, sym, ap, ◌∙◌, subst, arith}
+use Rattle.std.proofs.Common.{◌≡◌, ℕ, ◌+◌, List, length, get_or, [], Some, refl, ap, ◌∙◌, arith}
 use Rattle.std.specs.Prelude.{slice_get}
 use Rattle.std.proofs.lemmas.Option.{slice_get-get_or, get_or_from_slice_get}
 use Rattle.call_graph.specs.Numbers.{called}
 use Rattle.publish_table.specs.declared.view.View.{View}
-use Rattle.worker_driver.specs.Held.{Held}
 use Rattle.worker_driver.specs.declared.plan.Plan.{Plan}
 use Rattle.worker_driver.proofs.Views.{only_read_both}
 use Rattle.worker_driver.proofs.ReadBodies.{read_more}

@@ -1,4 +1,4 @@
-use Rattle.std.proofs.Common.{◌≡◌, ℕ, List, ◌∷◌, ◌++◌, [], ap, ◌∙◌, sym, subst, arith, Option, IfSome}
+use Rattle.std.proofs.Common.{◌≡◌, List, ◌∷◌, ◌++◌, [], ap, ◌∙◌, sym, arith}
 use mathlib.Core.List.{map-append}
 use Rattle.ir_core.specs.Module.{Module}
 use Rattle.inline_finish.specs.declared.bodies.Policy.{Policy}
@@ -16,7 +16,7 @@ loop-desk-preserved g c = let p : Policy = c.args.policy in let m : Module = c.a
     let pushed = c.in_ok-push.ensures.items in record {
       seats = pushed ∙ (ap (λ (l : List Seat). l ++ seat ∷ []) i.seats ∙ sym (map-append seat_at c.loop-desk.yielded (c.in-Some.desk ∷ [])));
       steps =
-          let count : c.in-Some-count.count ≡ cost_of p m (view_of seat).bodies = subst (λ (o : Option ℕ). IfSome o (λ n. n ≡ cost_of p m (view_of seat).bodies)) c.in-Some-count.is h.0 in
-          let a = c.add.ensures in let b = i.steps in let e = ap (cost_in p m) pushed ∙ cost_more p m seats seat in omega arith;
+          let count : c.in-Some.desk.count ≡ cost_of p m (view_of seat).bodies = h.0 in
+          let a = c.add_many.ensures in let b = i.steps in let e = ap (cost_in p m) pushed ∙ cost_more p m seats seat in omega arith;
       left = h.1;
     }

@@ -1,6 +1,6 @@
-use Rattle.std.proofs.Common.{◌≡◌, ◌+◌, IfSome}
+use Rattle.std.proofs.Common.{◌≡◌, ◌+◌, ◌*◌, ◌≤◌, length}
 use Rattle.publish_table.specs.Seats.{IsSeatOf, view_of}
-use Rattle.worker_driver.specs.Turns.{IsDone, IsNoted, IsSameSeat, cost_of}
+use Rattle.worker_driver.specs.Turns.{IsDone, IsNoted, IsOnce, IsSameSeat, cost_of}
 use Rattle.worker_driver.proofs.workers.work.Given as goal
 
 abbrev pub invariant-loop : goal.invariant-loop
@@ -8,5 +8,7 @@ invariant-loop g l = record {
   seat : IsSeatOf l.board l.seat × IsSameSeat l.initial.seat l.seat;
   done : IsDone (view_of l.seat);
   noted : IsNoted l.«module» (view_of l.seat);
-  count : IfSome l.count (λ n. cost_of l.policy l.«module» (view_of l.seat).bodies ≡ cost_of l.policy l.«module» (view_of l.initial.seat).bodies + n);
+  once : IsOnce l.«module» (view_of l.seat);
+  count : cost_of l.policy l.«module» (view_of l.seat).bodies ≡ cost_of l.policy l.«module» (view_of l.initial.seat).bodies + l.count;
+  bound : l.count ≤ 18446744073709551616 * length (view_of l.seat).bodies;
 }

@@ -1,0 +1,5 @@
+pub mod Ends
+pub mod Examples
+pub mod LineTests
+pub mod Report
+pub mod Tested

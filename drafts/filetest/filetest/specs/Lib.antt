@@ -1,5 +1,0 @@
-pub mod Ends
-pub mod Examples
-pub mod LineTests
-pub mod Report
-pub mod Tested

@@ -1,6 +1,0 @@
-pub mod Blanks
-pub mod Commands
-pub mod Directives
-pub mod Examples
-pub mod Tests
-pub mod Views

@@ -76,7 +76,7 @@ in_named m (k ∷ ks) [] a n i = elim i [ ]
 in_named m (k ∷ ks) (o ∷ ns) a n (inl q) = (k, a.0.0, inl refl, a.0.1, a.0.2 ∙ sym q)
 in_named m (k ∷ ks) (o ∷ ns) a n (inr i) = let r = in_named m ks ns a.1 n i in (r.0, r.1, inr r.2, r.3, r.4)
 
-name_in : (m : Module) (k : ℕ) (f : Function) → slice_get m k ≡ Some f → In f.name (names_of m)
+pub name_in : (m : Module) (k : ℕ) (f : Function) → slice_get m k ≡ Some f → In f.name (names_of m)
 name_in [] k f e = absurd cc
 name_in (a ∷ m) zero f e = let w : a ≡ f = cc in inl (ap (λ (g : Function). g.name) (sym w))
 name_in (a ∷ m) (suc k) f e = inr (name_in m k f e)

@@ -19,8 +19,6 @@ mod reader;
 mod stop;
 mod tables;
 mod targets;
-#[cfg(test)]
-mod tests;
 mod types;
 
 pub use arguments::{comma_value, more_names, more_values, values};

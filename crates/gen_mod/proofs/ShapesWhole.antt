@@ -14,24 +14,9 @@ use Rattle.gen_mod.specs.Shapes.{iconst, pure, call, returned, brif, try_call}
 use Rattle.gen_mod.specs.Shapes.{adding, calling_two, trying, choosing}
 use Rattle.gen_mod.specs.Generated.{function}
 use Rattle.gen_mod.proofs.EachShape.{of_function}
+use Rattle.ir_semantics.proofs.Ranges.{from_differ, in_from}
 
 -- ---- numbers one after the other
-
-from_least : (k n v : ℕ) → In v (from k n) → k ≤ v
-from_least k zero v i = elim i [ ]
-from_least k (suc n) v (inl e) = omega (arith, e)
-from_least k (suc n) v (inr r) = let q = from_least (suc k) n v r in omega (arith, q)
-
-from_differ : (k n : ℕ) → Different (from k n)
-from_differ k zero = tt
-from_differ k (suc n) = ((λ i. absurd (let q = from_least (suc k) n k i in omega (arith, q))), from_differ (suc k) n)
-
-in_from : (k n v : ℕ) → k ≤ v → v < k + n → In v (from k n)
-in_from k zero v low high = absurd (omega (arith, low, high))
-in_from k (suc n) v low high = elim (cases_eq v k) [
-  | inl e ↦ inl e
-  | inr e ↦ inr (in_from (suc k) n v (omega (arith, low, e)) (omega (arith, high)))
-]
 
 -- ---- lines
 

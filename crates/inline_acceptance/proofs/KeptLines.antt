@@ -34,6 +34,7 @@ use Rattle.inline_acceptance.proofs.KeptPaths.{Sound}
 use Rattle.inline_acceptance.proofs.KeptTypes.{Apart, caller_typed, callee_typed, types_from}
 use Rattle.inline_acceptance.proofs.KeptRules.{Leaves, used_under, targets_used_under, called_used_under, vals_typed, targets_counts, targets_types, call_counts, call_types, counts_under, types_under, convention_under, signature_under, slot_under}
 use Rattle.inline_acceptance.proofs.KeptSite.{LineKept, each_split, table_counts, TriesFacts}
+use Rattle.ir_semantics.proofs.Ranges.{length_from}
 
 -- a splice of whole and accepted functions
 pub record Setting (m : Module) (S : Splicing) : Type 0 where
@@ -82,10 +83,6 @@ value_used [] = refl
 value_used (v ∷ vs) = ap (λ z. v ∷ z) (value_used vs)
 
 -- ---- arguments that are results
-
-length_from : (i j : ℕ) → length (from i j) ≡ j
-length_from i zero = refl
-length_from i (suc j) = ap suc (length_from (suc i) j)
 
 rets_counts : (i j n : ℕ) → i + j ≤ n → Each (ArgCounts (Some n)) (map arg.Ret (from i j))
 rets_counts i zero n h = tt

@@ -21,6 +21,7 @@ use Rattle.inline_acceptance.proofs.KeptLists.{each_in, in_each, each_map, in_ma
 use Rattle.inline_acceptance.proofs.KeptForms.{form_under, tags_written}
 use Rattle.inline_acceptance.proofs.KeptNumbers.{canonical_typed}
 use Rattle.inline_acceptance.proofs.KeptCanon.{back_typed}
+use Rattle.inline_acceptance.proofs.KeptLists.{targets_under}
 
 -- ---- sizes
 
@@ -58,21 +59,6 @@ own_under r (ReturnCall t args) = address_under r t args
 own_under r (TryCall (TryDirect k) s args n u) = refl
 own_under r (TryCall (TryIndirect a) s args n u) = refl
 
-table_under : (r : Renaming) (es : List (Entry BlockCall)) → table_targets (map (entry_under r) es) ≡ map (target_under r) (table_targets es)
-table_under r [] = refl
-table_under r (e ∷ es) = ap (λ z. target_under r e.target ∷ z) (table_under r es)
-
-targets_under : (r : Renaming) (i : Instruction) → targets (instruction_under r i) ≡ map (target_under r) (targets i)
-targets_under r (Branches (Jump t)) = refl
-targets_under r (Branches (Brif v a b)) = refl
-targets_under r (Branches (BrTable v default ts)) = refl
-targets_under r (TryCall t sig args normal table) = ap (λ z. target_under r normal ∷ z) (table_under r table)
-targets_under r (Plain p) = refl
-targets_under r SequencePoint = refl
-targets_under r (Return a) = refl
-targets_under r (Call a b) = refl
-targets_under r (ReturnCall a b) = refl
-
 entries_same : (r : Renaming) (i : Instruction) → entry_count (instruction_under r i) ≡ entry_count i
 entries_same r (Branches (Jump t)) = refl
 entries_same r (Branches (Brif v t u)) = refl
@@ -84,7 +70,7 @@ entries_same r (Return a) = refl
 entries_same r (Call a b) = refl
 entries_same r (ReturnCall a b) = refl
 
-operands_same : (r : Renaming) (i : Instruction) → operand_count (instruction_under r i) ≡ operand_count i
+pub operands_same : (r : Renaming) (i : Instruction) → operand_count (instruction_under r i) ≡ operand_count i
 operands_same r i =
     let a = ap length (own_under r i) ∙ length_map r.value (operands i) in
     let b = ap (total argument_count) (targets_under r i) ∙ total_map (target_under r) argument_count argument_count (λ t. length_map (arg_under r) t.args) (targets i) in ap₂ (λ x y. x + y) a b

@@ -41,7 +41,7 @@ whole_counts f w v =
     ]
 
 -- some lines give no results
-no_results : (f : Function) (l : Line) (i : Instruction) → InstructionCounts f l i → NoResults i l
+pub no_results : (f : Function) (l : Line) (i : Instruction) → InstructionCounts f l i → NoResults i l
 no_results f l (Return vs) h = h.0
 no_results f l (ReturnCall t args) h = (some_and (signature_of f t) (λ s. (length args ≡ length s.params) × ((length l.results ≡ 0) × (length s.results ≡ length f.sig.results))) h).2.1.0
 no_results f l (TryCall t sig args normal table) h =

@@ -12,7 +12,7 @@ use Rattle.ir_core.proofs.Splitting.{Split, split, at_block_none, numbers_split,
 use Rattle.inline_body.specs.Opened.{taken, parted, with_more}
 use Rattle.inline_body.proofs.Found.{in_middle}
 use Rattle.inline_body.proofs.SiteBlocks.{taken_at, numbers_join}
-use Rattle.inline_body.proofs.SiteOpening.{cut_list}
+use Rattle.ir_core.proofs.Cutting.{cut_list}
 use Rattle.inline_body.specs.declared.blocks.BlockLines.{BlockLines}
 use Rattle.inline_body.specs.Inlined.{blocks_from}
 use Rattle.inline_body.specs.WithBody.{with_body, empty_from, behind, blocks_with_lines, all_of, numbers_of}

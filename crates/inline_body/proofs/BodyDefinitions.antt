@@ -16,20 +16,12 @@ use Rattle.inline_body.specs.Named.{names_of}
 use Rattle.inline_body.specs.Inlined.{inlined_line, inlined_lines, results_from, inlined_block, blocks_from}
 use Rattle.inline_body.specs.WithBody.{all_of, lines_in, numbers_of}
 use Rattle.inline_body.specs.Results.{is_tail_call, tail_calls, tail_calls_in, starts_along, OneTail}
+use Rattle.ir_semantics.proofs.Ranges.{from_in, from_differ}
 
 pub map_in : (h : ℕ → ℕ) (v : ℕ) (xs : List ℕ) → In v (map h xs) → (u : ℕ) × In u xs × (v ≡ h u)
 map_in h v [] i = elim i [ ]
 map_in h v (x ∷ xs) (inl e) = (x, inl refl, e)
 map_in h v (x ∷ xs) (inr i) = let m = map_in h v xs i in (m.0, inr m.1, m.2)
-
-from_in : (k n u : ℕ) → In u (from k n) → (k ≤ u) × (u < k + n)
-from_in k zero u i = elim i [ ]
-from_in k (suc n) u (inl e) = (omega (arith, e), omega (arith, e))
-from_in k (suc n) u (inr i) = let h = from_in (suc k) n u i in let a = h.0 in let b = h.1 in (omega (arith, a), omega (arith, b))
-
-from_differ : (k n : ℕ) → Different (from k n)
-from_differ k zero = tt
-from_differ k (suc n) = (λ i. let h = (from_in (suc k) n k i).0 in omega (arith, h), from_differ (suc k) n)
 
 pub shifted_differ : (base : ℕ) (xs : List ℕ) → Different xs → Different (map (λ v. base + v) xs)
 shifted_differ base [] d = tt

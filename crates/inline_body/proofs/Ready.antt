@@ -164,7 +164,7 @@ call_args (Return vs) h n b = absurd h
 call_args (ReturnCall t args) h n b = absurd h
 call_args (TryCall t sig args normal table) h n b = absurd h
 
-is_within : (i : Instruction) → IsPlainCall i → kind_of i ≡ Within
+pub is_within : (i : Instruction) → IsPlainCall i → kind_of i ≡ Within
 is_within (Call t args) h = refl
 is_within (Plain p) h = absurd h
 is_within (Branches c) h = absurd h

@@ -11,11 +11,7 @@ use Rattle.ir_core.proofs.Splitting.{Split, split, definitions_split, definition
 use Rattle.ir_core.proofs.Counting.{definitions_below}
 use Rattle.inline_body.specs.Opened.{taken}
 use Rattle.inline_body.proofs.SiteBlocks.{taken_at, numbers_join}
-
-pub cut_list : (ls : List Line) (i : ℕ) (l : Line) → slice_get ls i ≡ Some l → ls ≡ take i ls ++ (l ∷ drop (suc i) ls)
-cut_list [] i l e = cc
-cut_list (x ∷ ls) zero l e = let q : x ≡ l = cc in ap (λ z. z ∷ ls) q
-cut_list (x ∷ ls) (suc i) l e = ap (λ z. x ∷ z) (cut_list ls i l e)
+use Rattle.ir_core.proofs.Cutting.{cut_list}
 
 -- six lists joined in another way
 regroup : (P Q A R B S : List ℕ) → P ++ ((Q ++ (A ++ (R ++ B))) ++ S) ≡ (P ++ (Q ++ A)) ++ (R ++ (B ++ S))

@@ -10,7 +10,7 @@ use Rattle.inline_acceptance.specs.Alone.{CallSite, AloneParts}
 use Rattle.inline_numbering.proofs.AnyNumbers.{splice_of_any_numbers}
 use Rattle.inline_body.specs.PlainCall.{splicing_at}
 use Rattle.inline_body.proofs.Ready.{spliced_at}
-use Rattle.inline_body.proofs.SiteOpening.{cut_list}
+use Rattle.ir_core.proofs.Cutting.{cut_list}
 use Rattle.inline_caller.specs.Laws.{SpliceIsDefinitions}
 
 pub splice_is_definitions : SpliceIsDefinitions

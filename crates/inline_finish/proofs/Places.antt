@@ -25,11 +25,12 @@ use Rattle.inline_pass.specs.Sites.{called}
 use Rattle.inline_pass.specs.Going.{Task, Ahead, Twins, Going, before_line, stands, body_called, with_body}
 use Rattle.inline_pass.specs.Putting.{Fit, code_splice}
 use Rattle.inline_pass.proofs.Going.{here_is, get_first}
-use Rattle.inline_pass.proofs.Passing.{Found, found, then_some, cut_list, at_place, splice_is}
+use Rattle.inline_pass.proofs.Passing.{Found, found, then_some, at_place, splice_is}
 use Rattle.inline_pass.proofs.Others as others
 use Rattle.splice_bounds.specs.Laws.{WithinLimit}
 use Rattle.splice_size.specs.Laws.{Sited, SpliceSizeUnder}
 use Rattle.inline_finish.specs.Midway.{point_of}
+use Rattle.ir_core.proofs.Cutting.{cut_list}
 
 abbrev takes_of : Policy → ℕ → ℕ → Bool
 takes_of p body result = nat_le body p.callee_size && nat_le result p.caller_size

@@ -22,6 +22,7 @@ use Rattle.call_graph.specs.Reach.{called_names}
 use Rattle.inline_outcomes.proofs.Local.{some_same}
 use Rattle.inline_acceptance.proofs.KeptFunctions.{in_get}
 use Rattle.inline_acceptance.proofs.KeptLists.{some_and, each_in}
+use Rattle.inline_body.proofs.Ready.{is_within}
 use Rattle.inline_body.specs.PlainCall.{IsPlainCall, IsSplice, splicing_at}
 use Rattle.inline_ends.specs.TailCall.{IsTailCall}
 use Rattle.inline_ends.specs.TryCallSite.{IsTryCall}
@@ -158,15 +159,6 @@ module _ (p : Policy) (m : Module) (f : Function) (ready : IsReady p m f) (block
             go SequencePoint e is = let z : None ≡ Some there.index = sym (ap callee_of e) ∙ is in absurd cc
             go (Return a) e is = let z : None ≡ Some there.index = sym (ap callee_of e) ∙ is in absurd cc
 
-        plain_within : (i : Instruction) → IsPlainCall i → kind_of i ≡ Within
-        plain_within (Call t' args) h' = refl
-        plain_within (Plain a) h' = absurd h'
-        plain_within (Branches a) h' = absurd h'
-        plain_within SequencePoint h' = absurd h'
-        plain_within (Return a) h' = absurd h'
-        plain_within (ReturnCall t' args) h' = absurd h'
-        plain_within (TryCall t' sg args a u) h' = absurd h'
-
         pub line_at : slice_get (lines_of at.block code.blocks) at.index ≡ Some l
         line_at = places.line_in task ahead l twins at count mid.going mid.fit whole there.body h there.called there.fit there.same
 
@@ -212,7 +204,7 @@ module _ (p : Policy) (m : Module) (f : Function) (ready : IsReady p m f) (block
 
               by : CanReplace code h at → Behind task left made (record { block = length code.blocks + 1; index = 0 }) (suc count)
               by (plain c) =
-                  let kind : kind_of l.inst ≡ Within = subst (λ (z : Line). kind_of z.inst ≡ Within) (some_same (sym c.found ∙ line_at)) (plain_within c.line.inst c.plain) in
+                  let kind : kind_of l.inst ≡ Within = subst (λ (z : Line). kind_of z.inst ≡ Within) (some_same (sym c.found ∙ line_at)) (is_within c.line.inst c.plain) in
                   inl (record {
                     place = (mid.place.0, suc mid.place.1);
                     twin = next_twin;

@@ -17,7 +17,7 @@ use Rattle.inline_numbering.proofs.Same.{renamed_itself, renamed_is_same}
 use Rattle.inline_numbering.proofs.Sides.{joined, sides_carry}
 use Rattle.inline_numbering.proofs.Places.{splice_renamed, splice_stays_whole}
 
-line_itself : (l : Line) → line_under same_numbers l ≡ l
+pub line_itself : (l : Line) → line_under same_numbers l ≡ l
 line_itself l = let e : l ∷ [] ≡ line_under same_numbers l ∷ [] = lines_same (l ∷ []) in cc
 
 module _ (q : Splicing) (site : CallSite q) (parts : AloneParts q) where

@@ -18,6 +18,7 @@ use Rattle.inline_numbering.proofs.Same as same
 use Rattle.inline_numbering.proofs.Carried as carried
 use Rattle.inline_numbering.proofs.Sides as numbers
 use Rattle.inline_numbering.proofs.Typed as typed
+use Rattle.ir_core.proofs.Cutting.{cut_list}
 
 pub splice_carried : SpliceCarried
 splice_carried t r s p m c h k bs apart = carried.carried t r s p.naming m p.caller c p.callee h p.at p.before p.site p.behind k bs apart
@@ -61,11 +62,6 @@ pub drop_map : (f : Line → Line) (i : ℕ) (ls : List Line) → drop i (map f 
 drop_map f zero ls = refl
 drop_map f (suc i) [] = refl
 drop_map f (suc i) (x ∷ ls) = drop_map f i ls
-
-cut_list : (ls : List Line) (i : ℕ) (l : Line) → slice_get ls i ≡ Some l → ls ≡ take i ls ++ (l ∷ drop (suc i) ls)
-cut_list [] i l h = cc
-cut_list (x ∷ ls) zero l h = ap (λ z. z ∷ ls) (some_same h)
-cut_list (x ∷ ls) (suc i) l h = ap (λ z. x ∷ z) (cut_list ls i l h)
 
 -- what is spliced there, by the block and the line that are found
 abbrev at_line : Naming → Function → ℕ → ℕ → Function → Block → Option Line → Function

@@ -1,4 +1,5 @@
 pub mod Finishing
+pub mod Gathering
 pub mod Going
 pub mod Holding
 pub mod InOrder

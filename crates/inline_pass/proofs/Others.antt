@@ -45,11 +45,12 @@ use Rattle.inline_pass.specs.Inlined.{inlined_by, inlined_with, inlined}
 use Rattle.inline_pass.specs.OtherBodies.{SameBody, FinishedRespectNumbers}
 use Rattle.inline_pass.specs.GoingLaws.{own_names}
 use Rattle.inline_pass.proofs.Going.{callee_stays}
-use Rattle.inline_pass.proofs.Passing.{Found, found, then_some, at_place, splice_is, cut_list}
+use Rattle.inline_pass.proofs.Passing.{Found, found, then_some, at_place, splice_is}
 use Rattle.inline_pass.proofs.Tracking.{f_none, ren_off}
 use Rattle.inline_pass.proofs.Finishing.{finished_equation}
 use Rattle.inline_pass.proofs.InOrder.{finished_named, finished_signed}
 use Rattle.inline_pass.proofs.Preserving.{finished_accepted}
+use Rattle.ir_core.proofs.Cutting.{cut_list}
 
 -- ---- blocks that are there or not
 

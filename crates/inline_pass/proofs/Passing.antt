@@ -24,16 +24,12 @@ use Rattle.inline_pass.specs.Policy.{Policy, takes}
 use Rattle.inline_pass.specs.Sites.{Point, own_sites, point_behind, called}
 use Rattle.inline_pass.specs.Finished.{inline_by, body_of}
 use Rattle.inline_pass.specs.Pass.{finish, pass_by, pass}
+use Rattle.ir_core.proofs.Cutting.{cut_list}
 
 -- what an optional step found
 pub then_some : {A B : Type 0} (o : Option A) (go : A → Option B) (b : B) → and_then o go ≡ Some b → (a : A) × (o ≡ Some a) × (go a ≡ Some b)
 then_some None go b h = cc
 then_some (Some a) go b h = (a, refl, h)
-
-pub cut_list : (ls : List Line) (i : ℕ) (l : Line) → slice_get ls i ≡ Some l → ls ≡ take i ls ++ (l ∷ drop (suc i) ls)
-cut_list [] i l h = cc
-cut_list (x ∷ ls) zero l h = ap (λ z. z ∷ ls) (some_same h)
-cut_list (x ∷ ls) (suc i) l h = ap (λ z. x ∷ z) (cut_list ls i l h)
 
 -- the point of a call
 pub record Found (b : Function) (at i : ℕ) (x : FuncName) : Type 0 where

@@ -17,7 +17,8 @@ use Rattle.inline_outcomes.proofs.Places.{find_hit, find_skip, append_none, g_of
 use Rattle.inline_outcomes.proofs.Merging.{own_callee}
 use Rattle.inline_outcomes.proofs.Linking.{distinct_sides}
 use Rattle.inline_pass.specs.Sites.{Point, point_behind, called}
-use Rattle.inline_pass.proofs.Passing.{found, cut_list}
+use Rattle.inline_pass.proofs.Passing.{found}
+use Rattle.ir_core.proofs.Cutting.{cut_list}
 
 -- a call at the point is of a declared callee whose name is among these
 pub record Names (names : List FuncName) (b : Function) (q : Point) : Type 0 where

@@ -2,6 +2,7 @@ pub mod Adding
 pub mod Changing
 pub mod Copying
 pub mod Counting
+pub mod Cutting
 pub mod Equal
 pub mod Indexing
 pub mod Inserting

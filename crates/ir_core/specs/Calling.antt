@@ -1,5 +1,5 @@
--- A worked example, which the tests build: %f, whose call of %g has a handler for tag3, and what it is once the call is
--- replaced by the body of %g, which calls %h and returns the result.
+-- A worked example, which the tests (`core_tests`) build: %f, whose call of %g has a handler for tag3, and what it is
+-- once the call is replaced by the body of %g, which calls %h and returns the result.
 use Rattle.std.specs.Prelude.{ℕ, List, [], ◌∷◌, Some, None, false}
 use Rattle.ir_core.specs.declared.declarations.Callee.{Callee}
 use Rattle.ir_core.specs.declared.instructions.Arg.{Arg}

@@ -16,8 +16,6 @@ mod places;
 mod room;
 mod signatures;
 mod size;
-#[cfg(test)]
-mod tests;
 mod values;
 
 pub use boxed::Boxed;

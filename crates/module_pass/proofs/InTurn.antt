@@ -21,13 +21,9 @@ use Rattle.inline_finish.specs.Bodies.{HasCallees}
 use Rattle.inline_finish.specs.declared.bodies.Built.{Built}
 use Rattle.module_pass.specs.Places.{IsFilled, filled}
 use Rattle.module_pass.proofs.Filled.{in_filled}
+use Rattle.call_graph.proofs.Bridging.{name_in}
 
 -- ---- names and numbers
-
-name_in : (m : Module) (k : ℕ) (f : Function) → slice_get m k ≡ Some f → In f.name (names_of m)
-name_in [] k f e = absurd cc
-name_in (g ∷ m) zero f e = let q : f ≡ g = cc in inl (ap (λ (z : Function). z.name) q)
-name_in (g ∷ m) (suc k) f e = inr (name_in m k f e)
 
 -- the function that a name has, at its number
 numbered : (m : Module) (x : FuncName) (k : ℕ) → number_of m x ≡ Some k

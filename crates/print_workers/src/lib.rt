@@ -3,7 +3,5 @@
 
 mod cuts;
 mod parts;
-#[cfg(test)]
-mod tests;
 
 pub use parts::{PrintErr, print_with};

@@ -12,8 +12,6 @@ mod job;
 pub mod laws;
 mod plays;
 mod steps;
-#[cfg(test)]
-mod tests;
 mod view;
 
 pub use board::{Board, Seat};

@@ -1,5 +1,5 @@
-//! Tests of the readers of modules and names. They stand in a crate of their own, since a crate with tests
-//! is proved once more with them.
+//! Tests of the readers of instructions, modules, names and scripts. They stand in a crate of their own, since a crate
+//! with tests is proved once more with them.
 #![tactic(auto)]
 
 #[cfg(test)]
@@ -7,8 +7,12 @@ mod declarations;
 #[cfg(test)]
 mod forms;
 #[cfg(test)]
+mod instructions;
+#[cfg(test)]
 mod modules;
 #[cfg(test)]
 mod names;
+#[cfg(test)]
+mod scripts;
 #[cfg(test)]
 mod stretches;

@@ -12,8 +12,6 @@ mod scripts;
 mod symbol;
 mod symbols;
 mod terminal;
-#[cfg(test)]
-mod tests;
 mod values;
 mod writes;
 

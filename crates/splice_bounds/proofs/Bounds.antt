@@ -23,7 +23,8 @@ use Rattle.splice_bounds.proofs.Counts.{line_count, block_count, blocks_sized, c
 use Rattle.splice_bounds.proofs.Counts.{plain_calls_counted, sigs_longer, sigs_sized, tail_calls_counted, total_cut}
 use Rattle.splice_bounds.proofs.Counts.{types_counted}
 use Rattle.splice_bounds.proofs.Growing.{Stays, blocks_grow, body_tails, found_within, stays_within}
-use Rattle.splice_bounds.proofs.Ends.{lines_there, one_tail, plain_within, tail_is_last, try_is_last}
+use Rattle.inline_body.proofs.Ready.{is_within}
+use Rattle.splice_bounds.proofs.Ends.{lines_there, one_tail, tail_is_last, try_is_last}
 
 has_block : (g : Function) → WellFormed g → 0 < length g.blocks
 has_block g w = by g.blocks refl
@@ -107,7 +108,7 @@ module _ (n : Naming) (f g : Function) (at : Point) (l : Line) (w : WithinLimit 
 
   pub plain : IsPlainCall l.inst → CanSplice f g at
   plain h =
-      let k = plain_within l.inst h in
+      let k = is_within l.inst h in
       let stays = stays_within p k in
       let types = caller_types stays in
       let blocks = caller_blocks stays in

@@ -86,15 +86,6 @@ try_leaves f l (Return vs) e h c = absurd h
 try_leaves f l (Call t args) e h c = absurd h
 try_leaves f l (ReturnCall t args) e h c = absurd h
 
-pub plain_within : (i : Instruction) → IsPlainCall i → kind_of i ≡ Within
-plain_within (Call t args) h = refl
-plain_within (Plain s) h = absurd h
-plain_within (Branches b) h = absurd h
-plain_within SequencePoint h = absurd h
-plain_within (Return vs) h = absurd h
-plain_within (ReturnCall t args) h = absurd h
-plain_within (TryCall t sig args normal table) h = absurd h
-
 module _
     (f : Function) (whole : WellFormed f) (ok : RulesHold [] f) (a i : ℕ) (b : Block)
     (found : find_block a f.blocks ≡ Some b) (l : Line) (get : slice_get b.lines i ≡ Some l) where

@@ -18,10 +18,7 @@ use Rattle.inline_body.specs.Results.{is_tail_call, tail_calls, tail_calls_in}
 use Rattle.inline_outcomes.proofs.Local.{some_same}
 use Rattle.inline_outcomes.proofs.Places.{find_hit, find_skip}
 use Rattle.splice_bounds.proofs.Counts.{line_count, block_count, lines_under, block_same, blocks_under}
-
-from_length : (i n : ℕ) → length (from i n) ≡ n
-from_length i zero = refl
-from_length i (suc n) = ap suc (from_length (suc i) n)
+use Rattle.ir_semantics.proofs.Ranges.{length_from}
 
 -- a block takes no more than all of them
 pub found_within : (x : ℕ) (bs : List Block) (b : Block) → find_block x bs ≡ Some b
@@ -38,7 +35,7 @@ module _ (p : Splicing) where
 
   new_length : (c : ℕ) → length (new_results p c) ≡ length p.site.results
   new_length c =
-      let many = length p.site.results in length-map (from 0 many) (p.naming.new_value c) ∙ from_length 0 many
+      let many = length p.site.results in length-map (from 0 many) (p.naming.new_value c) ∙ length_from 0 many
 
   line_tails : (c j : ℕ) (i : Line) (inst : Instruction) (q : Fragment)
       → length p.site.results * (if is_tail_call inst then 1 else 0) + total line_count q.lines

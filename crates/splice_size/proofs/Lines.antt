@@ -14,6 +14,7 @@ use Rattle.splice_size.specs.Counts.{counts_by}
 use Rattle.splice_size.specs.SizeAfter.{table_size, taking_tags}
 use Rattle.inline_acceptance.proofs.KeptSizes.{line_same, total_map}
 use Rattle.inline_acceptance.proofs.KeptLists.{length_map}
+use Rattle.ir_semantics.proofs.Ranges.{length_from}
 
 -- what acceptance says of a line: it has no results where it leaves the function, and a return has no tags
 abbrev pub Fits : Line → Instruction → Type 0
@@ -27,10 +28,6 @@ abbrev pub fragment_size : Fragment → ℕ
 fragment_size q = total line_size q.lines + total block_size q.more
 
 -- ---- numbers of operands and of entries
-
-pub length_from : (i n : ℕ) → length (from i n) ≡ n
-length_from i zero = refl
-length_from i (suc n) = ap suc (length_from (suc i) n)
 
 bare : Instruction → Line
 bare i = record { inst = i; ty = None; results = []; tags = [] }

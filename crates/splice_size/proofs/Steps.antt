@@ -14,8 +14,9 @@ use Rattle.splice_size.specs.Counts.{counts_by, line_counts, summed}
 use Rattle.splice_size.specs.SizeAfter.{body_size}
 use Rattle.inline_acceptance.proofs.KeptLists.{length_map}
 use Rattle.splice_size.proofs.Lines as lines
-use Rattle.splice_size.proofs.Lines.{Fits, fragment_size, as_try_same, call_same, entries_join, entries_same, length_from, try_same}
+use Rattle.splice_size.proofs.Lines.{Fits, fragment_size, as_try_same, call_same, entries_join, entries_same, try_same}
 use Rattle.splice_size.proofs.Sums.{body_plus}
+use Rattle.ir_semantics.proofs.Ranges.{length_from}
 
 module _ (p : Splicing) where
   abbrev tag_count : ℕ

@@ -5,6 +5,5 @@ pub mod Desks
 pub mod Closing
 pub mod ReadBodies
 pub mod Costs
-pub mod Gathering
 pub mod Putting
 pub mod Answering

@@ -17,16 +17,12 @@ use Rattle.publish_table.specs.Jobs.{function_of}
 use Rattle.publish_table.specs.Plays.{count}
 use Rattle.worker_driver.specs.Plans.{IsListing}
 use Rattle.worker_driver.proofs.Sums.{length_all, spot_of, one_spot}
+use Rattle.call_graph.proofs.Bridging.{name_in}
 
 pub named : (m : Module) (x : FuncName) → In x (names_of m) → (k : ℕ) × (f : Function) × (slice_get m k ≡ Some f) × (f.name ≡ x)
 named [] x i = elim i [ ]
 named (f ∷ m) x (inl e) = (0, f, refl, sym e)
 named (f ∷ m) x (inr i) = let r = named m x i in (suc r.0, r.1, r.2, r.3)
-
-pub name_in : (m : Module) (k : ℕ) (f : Function) → slice_get m k ≡ Some f → In f.name (names_of m)
-name_in [] k f e = absurd cc
-name_in (g ∷ m) zero f e = let q : f ≡ g = cc in inl (ap (λ (z : Function). z.name) q)
-name_in (g ∷ m) (suc k) f e = inr (name_in m k f e)
 
 pub same_item : {A : Type 0} (l : List A) (k : ℕ) (a b : A) → slice_get l k ≡ Some a → slice_get l k ≡ Some b → a ≡ b
 same_item l k a b e h = cc

@@ -32,7 +32,8 @@ use Rattle.worker_driver.specs.Plans.{IsPlanOf}
 use Rattle.std.proofs.lemmas.Bool.{cases_eq}
 use Rattle.worker_driver.specs.Reading.{ReadSoFar, ReadsStay, CalleesRead, IsNotedRead, IsReadUnder, IsReadIfApart, piece_at}
 use Rattle.worker_driver.specs.Turns.{inlined_at}
-use Rattle.worker_driver.proofs.Orders.{named, name_in, found, at_ticket, ticket_of, many, place_in, same_item}
+use Rattle.call_graph.proofs.Bridging.{name_in}
+use Rattle.worker_driver.proofs.Orders.{named, found, at_ticket, ticket_of, many, place_in, same_item}
 
 -- ---- one ticket
 

@@ -1,8 +1,8 @@
 //! That a table is made with ample memory.
 
-use crate::Board;
 use inline_finish::Policy;
 use ir_core::Module;
+use publish_table::Board;
 use std::alloc::AllocError;
 
 #[test]

@@ -3,7 +3,7 @@ use Rattle.ir_core.specs.Module.{Function}
 use Rattle.ir_core.specs.Edits.{at_block}
 use Rattle.ir_core.specs.Viewed.{line_of}
 use Rattle.ir_core.proofs.Taking.{without_last, left_function}
-use Rattle.ir_core.proofs.tests.take_call.Goals as goal
+use Rattle.core_tests.proofs.functions.take_call.Goals as goal
 
 pub returns-clause-function : goal.returns-clause-function
 returns-clause-function c =

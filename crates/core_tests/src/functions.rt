@@ -7,9 +7,12 @@ ghost use Rattle.ir_core.specs.Sound.{IsWhole};
 ghost use Rattle.ir_core.specs.Viewed.{instruction_of, line_of};
 ghost use Rattle.ir_core.specs.Calling as spec;
 
-use super::*;
 use debug_tags::Tags;
 use exn_tables::{Entry, Table};
+use ir_core::{
+    Arg, Block, BlockCall, Boxed, Callee, Conv, Ext, Func, FuncName, FuncRef, Inst, InstData, List,
+    Module, Param, Purpose, Room, Sig, SigRef, SlotDecl, Ty, Value, Values,
+};
 use std::alloc::{AllocError, Global};
 
 /// A parameter of a signature, of 64 bits.

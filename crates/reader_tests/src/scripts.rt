@@ -1,7 +1,7 @@
 //! That texts are read with ample memory, and where they go wrong.
 
-use crate::{ScriptErr, number_list, script};
 use host_script::Act;
+use script_text::{ScriptErr, number_list, script};
 
 #[test]
 fn reads_replies(rt: HostRuntime) {

@@ -1,9 +1,10 @@
--- The module of finished bodies grows by one body, and is whole at the end.
+-- The module of finished bodies grows by one body, and a body that is the finished one up to numbering is whole.
 use Rattle.std.proofs.Common.{◌≡◌, inl, inr, ℕ, zero, suc, ◌+◌, ◌<◌, ◌≤◌, List, [], ◌∷◌, ◌++◌, length, map, sum, take, Some, None, Bool, true, false, refl, sym, ap, ap₂, ◌∙◌, subst, arith}
 use Rattle.std.specs.Prelude.{slice_get, if◌then◌else◌}
 use Rattle.std.specs.List.{enumerate_from}
 use Rattle.std.proofs.lemmas.Bool.{cases_eq}
 use Rattle.std.proofs.lemmas.List.Sums.{sum_by-append}
+use mathlib.Core.List.{map-append}
 use Rattle.ir_core.specs.declared.names.FuncName.{FuncName}
 use Rattle.ir_core.specs.declared.signatures.Ty.{Ty}
 use Rattle.ir_core.specs.Module.{Function, Module}
@@ -13,7 +14,6 @@ use Rattle.ir_core.specs.Sound.{IsSound, IsWhole}
 use Rattle.ir_core.specs.WellFormed.{WellFormed, DifferentNames}
 use Rattle.ir_core.proofs.Equal.{name_equal}
 use Rattle.ir_core.proofs.Keeping.{length_numbered}
-use mathlib.Core.List.{map-append}
 use Rattle.ir_semantics.specs.Canon.{canonical, canonical_module, SameFunction, SameUpToNumbering}
 use Rattle.call_graph.proofs.Numbers.{one_place}
 use Rattle.inline_pass.specs.Policy.{Policy}
@@ -22,7 +22,7 @@ use Rattle.inline_pass.proofs.InOrder.{finished_named}
 
 -- ---- a front of a list, and the next item
 
-take_more : {A : Type 0} (l : List A) (i : ℕ) (a : A) → slice_get l i ≡ Some a → take (suc i) l ≡ take i l ++ a ∷ []
+pub take_more : {A : Type 0} (l : List A) (i : ℕ) (a : A) → slice_get l i ≡ Some a → take (suc i) l ≡ take i l ++ a ∷ []
 take_more [] i a e = absurd cc
 take_more (x ∷ xs) zero a e = let q : x ≡ a = cc in ap (λ z. z ∷ []) q
 take_more (x ∷ xs) (suc i) a e = ap (λ z. x ∷ z) (take_more xs i a e)

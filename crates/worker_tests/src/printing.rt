@@ -2,12 +2,12 @@
 ghost use Rattle.std.specs.Prelude.{IfOk};
 ghost use Rattle.ir_core.specs.Sound.{IsWhole};
 
-use crate::{PrintErr, print_with};
 use clif_numbers::numbering;
 use clif_print::print;
 use clk_flow::MemSink;
 use debug_tags::Tags;
 use ir_core::{Conv, Func, FuncName, Inst, InstData, List, Module, Sig, Values};
+use print_workers::{PrintErr, print_with};
 use std::alloc::{AllocError, Global};
 
 const TEXT: &[u8] = b"function u0:0() fast {\nblock0:\n    return\n}\n\n\

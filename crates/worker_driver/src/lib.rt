@@ -6,13 +6,12 @@ mod callees;
 mod outcome;
 mod passing;
 mod plan;
-mod steps;
 mod taking;
 mod workers;
 
 pub use outcome::Turn;
 pub use passing::pass_with;
 pub use plan::Plan;
-pub use steps::Steps;
+pub use step_counter::Steps;
 pub use taking::turn;
 pub use workers::drive;

@@ -10,7 +10,6 @@ ghost use Rattle.worker_driver.specs.Plans.{IsPlanOf};
 ghost use Rattle.worker_driver.specs.Turns.{AllAnswered, AllBodies};
 
 use crate::plan::Plan;
-use crate::steps::Steps;
 use crate::workers::drive;
 use clk_flow::Gate;
 use inline_finish::{Built, Passed, Policy};
@@ -18,6 +17,7 @@ use inline_pass::laws::renumbered_finished_stay_accepted;
 use ir_check::Checked;
 use ir_core::{Func, Module};
 use publish_table::{Board, Cell};
+use step_counter::Steps;
 use std::alloc::{AllocError, Global};
 use std::mem;
 use std::sync::ledger::Ledger;

@@ -13,12 +13,12 @@ ghost use Rattle.worker_driver.specs.Turns.{IsBoardFor, IsDone, IsNoted, IsSameS
 use crate::callees::Callees;
 use crate::outcome::Turn;
 use crate::plan::Plan;
-use crate::steps::Steps;
 use clk_flow::Gate;
 use inline_finish::{Built, Policy, finish_body};
 use ir_check::Checked;
 use ir_core::Module;
 use publish_table::{Board, Cell, Seat};
+use step_counter::Steps;
 use std::alloc::Global;
 use std::sync::ledger::Ledger;
 use std::sync::{Arc, Wait};

@@ -12,12 +12,12 @@ ghost use Rattle.worker_driver.specs.Turns.{cost_in};
 
 use crate::outcome::{Desk, Turn};
 use crate::plan::Plan;
-use crate::steps::Steps;
 use crate::taking::turn;
 use clk_flow::Gate;
 use inline_finish::Policy;
 use ir_check::Checked;
 use publish_table::{Board, Seat};
+use step_counter::Steps;
 use std::alloc::{AllocError, Global};
 use std::marker::Brand;
 use std::sync::Wait;

@@ -1,4 +1,6 @@
-//! A counter of steps, which clauses alone read.
+//! A counter of steps, which clauses alone read: what a call costs is said by how far it has risen.
+#![tactic(auto)]
+
 ghost use Rattle.std.specs.Prelude.{◌≡◌, ◌+◌, ◌<◌, ℕ};
 
 use std::marker::Model;

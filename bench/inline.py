@@ -49,7 +49,7 @@ def blocks_of_a_callee(count):
 
 
 def refused_sites(count):
-    """Calls of a large body that no policy of the usual size takes."""
+    """Calls of a large body that the callee size refuses, or, where that is wide, the caller size."""
     lines = '    nop\n' * 60_000
     return f'function %g() fast {{\nblock0:\n{lines}    return\n}}\n\n' + caller('    call fn0()\n' * count)
 
@@ -77,6 +77,8 @@ SHAPES = [
     ('different callees of one caller', 20_000, callees, WIDEST),
     ('blocks of a callee', 60_000, blocks_of_a_callee, WIDEST),
     ('sites of a large body that is refused', 40_000, refused_sites, []),
+    ('sites of a large body that the caller size refuses', 40_000, refused_sites,
+     ['--callee-size', '262144', '--caller-size', '50000']),
     ('functions in a chain', 65_536, chain, []),
     ('entries of a table, and calls under it', 360, entries_and_calls, WIDEST),
 ]

@@ -2,7 +2,7 @@
 ghost use Rattle.std.specs.Prelude.{◌≡◌, ℕ, IfErr, IfOk, IsSome};
 ghost use Rattle.clif_check.specs.Faults as spec;
 ghost use Rattle.clif_check.specs.Faults.{IsAccepted, IsAcceptedRaw, IsFault, IsRawFault};
-ghost use Rattle.clif_meaning.specs.Reads.{FromText};
+ghost use Rattle.clif_meaning.specs.Meaning.{HasBlocks};
 ghost use Rattle.clif_meaning.specs.Spots.{spot_of};
 ghost use Rattle.ir_check.specs.Faults.{FirstFault};
 ghost use Rattle.ir_check.specs.Kinds.{rule_of};
@@ -40,10 +40,14 @@ pub fn check_text<R: Threads + Sync>(
     }
 }
 
-/// The accepted module that a raw module means, or the first fault of its names, or the first rule that it does not
-/// keep.
-fn check_raw(alloc: Global, raw: &RawModule) -> Result<Checked, TextErr>
-    requires { FromText raw.now }
+/// The accepted module that a raw module means, each of whose functions has a block. Takes time linear in it, but for
+/// logarithms.
+///
+/// # Errors
+///
+/// The first fault of its names and numbers, then the first rule that it does not keep.
+pub fn check_raw(alloc: Global, raw: &RawModule) -> Result<Checked, TextErr>
+    requires { HasBlocks raw.now }
     ensures accepted { IfOk result (λ m. IsAcceptedRaw raw.now m) }
     ensures fault { IfErr result (λ e. IsRawFault raw.now e) }
 {

@@ -4,4 +4,4 @@
 mod checking;
 pub mod laws;
 
-pub use checking::check_text;
+pub use checking::{check_raw, check_text};

@@ -1,8 +1,7 @@
 //! Name resolution.
 ghost use Rattle.std.specs.Prelude.{◌≡◌, ◌<◌, IfErr, IfOk, length};
 ghost use Rattle.clif_names.specs.Faults.{IsNamesFault, NoFault};
-ghost use Rattle.clif_meaning.specs.Meaning.{Means};
-ghost use Rattle.clif_meaning.specs.Reads.{FromText};
+ghost use Rattle.clif_meaning.specs.Meaning.{HasBlocks, Means};
 ghost use Rattle.clif_meaning.specs.Spots.{spots};
 
 use crate::building::build;
@@ -20,7 +19,7 @@ use std::alloc::Global;
 /// The first fault of names and numbers: the one with the smallest spot, and at one spot the one whose kind is listed
 /// first. `NoMemory`.
 pub fn resolve(alloc: Global, raw: &RawModule) -> Result<(Module, Places), TextErr>
-    requires text { FromText raw.now }
+    requires blocks { HasBlocks raw.now }
     ensures meant { IfOk result (λ r. NoFault raw.now × Means raw.now r.0) }
     ensures places { IfOk result (λ r. r.1 ≡ spots raw.now) }
     ensures fault { IfErr result (λ e. IsNamesFault raw.now e) }

@@ -1,2 +1,3 @@
 pub mod Addressing
 pub mod Answers
+pub mod Ready

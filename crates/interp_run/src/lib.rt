@@ -6,9 +6,11 @@
 mod act;
 mod addresses;
 mod calls;
+mod linked;
 mod run;
 mod signatures;
 mod steps;
 
 pub use interp::{End, Event, Outcome, Shown};
+pub use linked::LinkedModule;
 pub use run::{RunErr, run_module};

@@ -1,19 +1,14 @@
 //! The run of an accepted module.
-ghost use Rattle.std.specs.Prelude.{◌≡◌, ◌≢◌, Err, IfOk, IfErr};
+ghost use Rattle.std.specs.Prelude.{◌≡◌, IfOk, IfErr};
 ghost use Rattle.ir_semantics.specs.Accepted.{Accepted};
-ghost use Rattle.ir_semantics.specs.Machine.{Stuck};
-ghost use Rattle.interp.specs.Outcome.{end_of};
-ghost use Rattle.interp.specs.State.{stop_of};
 ghost use Rattle.interp_run.specs.Answers.{IsRunOf, IsRefusal};
 ghost use Rattle.interp_run.specs.declared.run.RunErr.TheVariants.{NoMemory};
 
-use crate::addresses::find_addresses;
-use crate::steps::run_function;
+use crate::linked::LinkedModule;
 use byte_store::Memory;
 use host_script::Script;
-use interp::link::link;
-use interp::{End, Outcome, Stop, fit_values};
-use ir_core::{FuncName, List, Module};
+use interp::Outcome;
+use ir_core::{FuncName, Module};
 use std::alloc::{AllocError, Global};
 use std::error::Error;
 use std::fmt;
@@ -49,17 +44,6 @@ impl From<AllocError> for RunErr {
     }
 }
 
-/// How a run is over that is not stuck.
-fn end_of_run(stop: Stop) -> End
-    requires { stop_of stop ≢ Stuck }
-    ensures { end_of result ≡ stop_of stop }
-{
-    match stop {
-        Stop::At(end) => end,
-        Stop::Stuck => unreachable!(),
-    }
-}
-
 /// Runs a function of an accepted module by its name, with numbers for its parameters, for so many steps, or fewer
 /// where the run is over before. What a step costs does not depend on the size of the module, and frames take memory
 /// of their own, so that a run may be as deep as memory allows. On a refusal the memory is dropped.
@@ -76,26 +60,6 @@ pub fn run_module<'m>(
     ensures outcome { IfOk result (IsRunOf «module».now entry.now args.now script.now memory steps) }
     ensures refused { IfErr result (IsRefusal «module».now entry.now args.now) }
 {
-    // That its functions are whole and have different names, any call on it tells.
-    let _count = module.len();
-    let Some(at) = module.find(entry) else {
-        return Err(RunErr::NoEntry);
-    };
-    let mut values = Vec::new(alloc);
-    let params = module.func(at).sig().params.as_slice();
-    if !fit_values(params, args, &mut values)? {
-        return Err(RunErr::BadArgs);
-    }
-    let program = link(alloc, module)?;
-    let addresses = find_addresses(alloc, module)?;
-    let replies = script.replies.as_slice();
-    let done = run_function(
-        alloc, &program, &addresses, at, &values, replies, memory, steps,
-    )?;
-    let world = done.world;
-    Ok(Outcome {
-        events: List::from_vec(world.events),
-        memory: world.memory,
-        end: end_of_run(done.stop),
-    })
+    let linked = LinkedModule::of_module(alloc, module)?;
+    linked.run(alloc, entry, args, script, memory, steps)
 }

@@ -18,6 +18,6 @@ mod values;
 
 pub use entries::find_entry;
 pub use interp::{End, Event, Outcome, Shown};
-pub use interp_run::RunErr;
-pub use running::{run, run_spelled};
+pub use interp_run::{LinkedModule, RunErr};
+pub use running::{link, run, run_spelled};
 pub use text::{end_line, event_line, print_run, run_text};

@@ -1,5 +1,5 @@
 //! The run of an accepted module.
-ghost use Rattle.std.specs.Prelude.{IfErr, IfOk};
+ghost use Rattle.std.specs.Prelude.{◌≡◌, IfErr, IfOk};
 ghost use Rattle.interp_run.specs.Answers.{IsRunOf, IsRefusal};
 ghost use Rattle.program_run.specs.EntryName.{IsRunOfSpelled, IsRefusalOfSpelled};
 
@@ -7,10 +7,18 @@ use crate::entries::find_entry;
 use byte_store::Memory;
 use host_script::Script;
 use interp::Outcome;
-use interp_run::{RunErr, run_module};
+use interp_run::{LinkedModule, RunErr, run_module};
 use ir_check::Checked;
 use ir_core::FuncName;
-use std::alloc::Global;
+use std::alloc::{AllocError, Global};
+
+/// The accepted module, ready for several runs: what its names and addresses stand for is found once. `run` of what is
+/// handed out answers as `run` below does.
+pub fn link<'m>(alloc: Global, checked: &'m Checked) -> Result<LinkedModule<'m>, AllocError>
+    ensures { IfOk result (λ linked. linked ≡ checked.now) }
+{
+    LinkedModule::of_module(alloc, checked.module())
+}
 
 /// Runs a function of an accepted module by its name, with numbers for its parameters, for so many steps, or fewer
 /// where the run is over before. What a step costs does not depend on the size of the module, and frames take memory

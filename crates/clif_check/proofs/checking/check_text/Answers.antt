@@ -1,8 +1,9 @@
+use Rattle.clif_resolve.proofs.BlockWords.{text_has_blocks}
 use Rattle.clif_check.proofs.Stages.{accepted_text, fault_of_text, unread_is_fault}
 use Rattle.clif_check.proofs.checking.check_text.Goals as goal
 
 pub check_raw-requires : goal.check_raw-requires
-check_raw-requires g c = (c.args.text.now, c.in-Ok.ensures.found)
+check_raw-requires g c = text_has_blocks _ (c.args.text.now, c.in-Ok.ensures.found)
 
 pub returns-in-Ok-clause-accepted : goal.returns-in-Ok-clause-accepted
 returns-in-Ok-clause-accepted g c = accepted_text c.args.text.now _ c.check_raw.result c.in-Ok.ensures.found c.check_raw.ensures.accepted

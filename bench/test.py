@@ -1,0 +1,51 @@
+#!/usr/bin/env python3
+"""Speed and memory of `test` on a large file, and how it grows.
+
+    python3 bench/test.py PATH/clifinl [SCALE]
+
+`rt ci`, or `rt run` in crates/clifinl, builds the program and leaves it in out/. A file of 65,000 functions and about
+60 MB (SCALE times as many), each function with one directive, and its half, by the processor's clock: twice the file
+should take at most 2.2 times the time. One file for each command that has checks of its own."""
+import os
+import sys
+import tempfile
+
+from timing import median, run
+
+LINES = ''.join(f'    v{i + 1} = iadd_imm v{i}, {i}\n' for i in range(33))
+
+KINDS = [
+    ('runs', 'test run\n', '; run: %f{0}(5) == 533\n'),
+    ('lines of the canonical text', 'test cat\n', '; check: return v33\n'),
+    ('lines after the pass', 'test inline\n', '; check: return v33\n'),
+    ('output of the pass, all of it', 'test inline precise-output\n', '; (no functions inlined into %f{0})\n'),
+    ('functions by themselves', 'test verifier\n', ''),
+]
+
+
+def text(header, directive, count):
+    """So many functions, each with its directive."""
+    functions = (f'function %f{i}(i64) -> i64 {{\nblock0(v0: i64):\n{LINES}    return v33\n}}\n' + directive.format(i)
+                 for i in range(count))
+    return header + ''.join(functions)
+
+
+def main():
+    if len(sys.argv) < 2:
+        sys.exit(__doc__)
+    program = os.path.abspath(sys.argv[1])
+    count = int(65_000 * (float(sys.argv[2]) if len(sys.argv) > 2 else 1.0))
+    with tempfile.TemporaryDirectory() as folder:
+        path = os.path.join(folder, 'text')
+        for name, header, directive in KINDS:
+            took = []
+            for number in (count // 2, count):
+                with open(path, 'w', encoding='ascii') as file:
+                    size = file.write(text(header, directive, number))
+                took.append(median([run([program, 'test'], path) for _ in range(3)]))
+            print('%-30s %.1f MB, %.2f s of the processor, %.2f times its half, %.1f bytes a byte of text' % (
+                name, size / 1e6, took[1].processor, took[1].processor / took[0].processor, took[1].memory / size))
+
+
+if __name__ == '__main__':
+    main()

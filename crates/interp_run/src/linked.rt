@@ -60,6 +60,13 @@ impl<'m> LinkedModule<'m> {
         Ok(LinkedModule { program, addresses })
     }
 
+    /// The module.
+    pub fn module(&self) -> &Module
+        ensures { result.now ≡ self.now }
+    {
+        self.program.module
+    }
+
     /// Runs a function of the module by its name, with numbers for its parameters, for so many steps, or fewer where
     /// the run is over before. What a run costs does not depend on the size of the module, but for the search for the
     /// name, and frames take memory of their own, so that a run may be as deep as memory allows. `NoEntry` exactly

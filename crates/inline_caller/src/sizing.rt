@@ -1,5 +1,5 @@
 //! The size of a caller with a call replaced, before anything is changed.
-ghost use Rattle.std.specs.Prelude.{◌≡◌, ◌×◌, ◌+◌, ◌-◌, ◌<◌, ◌^◌, [], length, IfOk};
+ghost use Rattle.std.specs.Prelude.{◌≡◌, ◌+◌, ◌-◌, ◌<◌, ◌^◌, [], length, IfOk};
 ghost use Rattle.ir_core.specs.Edits.{IsPoint};
 ghost use Rattle.ir_core.specs.Size.{size_of, capped};
 ghost use Rattle.ir_semantics.specs.Accepted.{RulesHold};
@@ -27,12 +27,15 @@ pub fn size_with_body(
         → size ≡ capped (size_of (splice_with n caller.now.function site.block site.index callee.now.function))) }
 {
     let _ = callee.values();
+    // No memory holds a function whose size no number of the type tells.
     let size = caller.size();
-    // No memory has a function of so many parts.
     if size == usize::MAX {
         return Err(AllocError);
     }
-    let counts = count_within(callee, usize::MAX).ok_or(AllocError)?;
+    let counts = match count_within(callee, usize::MAX) {
+        Some(counts) => counts,
+        None => return Err(AllocError),
+    };
     let index = index_declarations(alloc, caller)?;
     let import = plan_import(alloc, &index, caller, callee)?;
     let line = caller.inst(site);

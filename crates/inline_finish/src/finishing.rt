@@ -56,7 +56,15 @@ pub fn finish_body<B: Bodies, L: Ledger>(
         },
         inlined: 0,
     };
-    let progress = finish_blocks(alloc, own, targets.as_slice(), bodies, policy, progress, steps)?;
+    let progress = finish_blocks(
+        alloc,
+        own,
+        targets.as_slice(),
+        bodies,
+        policy,
+        progress,
+        steps,
+    )?;
     steps.tick();
     let inlined = progress.inlined;
     let func = progress.caller.into_func();

@@ -120,7 +120,6 @@ fn finish_line<B: Bodies, L: Ledger>(
     };
     let body = bodies.body(callee);
     let counts = bodies.counts(callee);
-    splice_size::laws::renamed_keeps_counts();
     splice_size::laws::splice_size_under();
     let decided = decide(
         alloc,

@@ -5,12 +5,13 @@ use Rattle.ir_core.specs.Sound.{IsSound}
 use Rattle.ir_core.specs.Viewed.{line_of}
 use Rattle.inline_pass.specs.Policy.{Policy}
 use Rattle.inline_pass.specs.Putting.{finishing}
-use Rattle.inline_finish.specs.Bodies.{IsBodyOf}
+use Rattle.inline_finish.specs.Bodies.{IsBodyOf, AreCountsOf}
 use Rattle.inline_finish.specs.Building.{policy_of}
 use Rattle.inline_finish.specs.Deciding.{IsDecided}
 use Rattle.inline_finish.specs.Midway.{Left, Behind, IsBehind, left_in}
 use Rattle.inline_finish.specs.Targets.{target_by, targets_in}
 use Rattle.inline_finish.proofs.Counts.{count_fits}
+use Rattle.inline_finish.proofs.Sizes.{counts_there}
 use Rattle.inline_finish.proofs.Steps.{point_there, still}
 use Rattle.inline_finish.proofs.Taking.{has_target, refused_none, body_there, site_there, refused_some, can_replace, new_is, taken}
 use Rattle.inline_finish.proofs.lines.finish_line.Goals as goal
@@ -28,8 +29,8 @@ pass_line-requires g c =
     let left : Left = left_in f c.args.block (map line_of c.args.after.now) in
     point_there (finishing p m f) l left.lines left.rest c.args.progress.caller c.args.progress.at c.args.progress.inlined c.requires.midway.midway
 
-pub returns-in-None : goal.returns-in-None
-returns-in-None g c =
+pub returns-in-None-clause-behind : goal.returns-in-None-clause-behind
+returns-in-None-clause-behind g c =
     let p : Policy = policy_of c.args.policy in
     let m : Module = g.B.Bodies.functions c.args.bodies.now in
     let f : Function = c.args.own.now.function in
@@ -69,6 +70,15 @@ decide-requires-clause-site g c =
     let there = body_there p m f c.requires.ready c.args.block l c.requires.own left code at n mid c.in-Some.callee h is body in
     site_there p m f c.requires.ready c.args.block l c.requires.own left code at n mid mid.whole h there
 
+pub decide-requires-clause-counts : goal.decide-requires-clause-counts
+decide-requires-clause-counts g c =
+    let p : Policy = policy_of c.args.policy in
+    let m : Module = g.B.Bodies.functions c.args.bodies.now in
+    let h : Function = c.body-body.result.now.function in
+    let body = subst (λ q. IsBodyOf q m c.in-Some.callee h) c.requires.policy c.body-body.ensures in
+    let counts = subst (λ q. AreCountsOf q m c.in-Some.callee c.counts-counts.result) c.requires.policy c.counts-counts.ensures in
+    counts_there p m c.in-Some.callee h c.counts-counts.result body counts
+
 pub pass_line-requires-in-None-decided : goal.pass_line-requires-in-None-decided
 pass_line-requires-in-None-decided g c =
     let p : Policy = policy_of c.args.policy in
@@ -78,8 +88,8 @@ pass_line-requires-in-None-decided g c =
     let left : Left = left_in f c.args.block (map line_of c.args.after.now) in
     point_there (finishing p m f) l left.lines left.rest c.args.progress.caller c.args.progress.at c.args.progress.inlined c.requires.midway.midway
 
-pub returns-in-None-decided : goal.returns-in-None-decided
-returns-in-None-decided g c =
+pub returns-in-None-decided-clause-behind : goal.returns-in-None-decided-clause-behind
+returns-in-None-decided-clause-behind g c =
     let p : Policy = policy_of c.args.policy in
     let m : Module = g.B.Bodies.functions c.args.bodies.now in
     let f : Function = c.args.own.now.function in
@@ -143,8 +153,8 @@ overflow_add-result g c =
     count_fits (finishing p m f) left c.in_ok-caller.caller (record { block = length code.blocks + 1; index = 0 }) (n + 1) behind c.values-size.ensures.sound in
     omega (arith, few)
 
-pub returns : goal.returns
-returns g c =
+pub returns-clause-behind : goal.returns-clause-behind
+returns-clause-behind g c =
     let p : Policy = policy_of c.args.policy in
     let m : Module = g.B.Bodies.functions c.args.bodies.now in
     let f : Function = c.args.own.now.function in

@@ -64,11 +64,11 @@ module _ (f g : Function) where
 pub at_least : (p : Splicing) → Sited p → size_after (size_of p.caller) p.site (counts_of p.callee) (length p.callee.slots) ≤ size_of (spliced p)
 at_least p site = by (new_sigs p.caller p.callee) (new_callees p.caller p.callee) (over p.caller p.callee)
   where
-    by : (sigs : List Sig) (callees : List Callee) → TakesOver p.caller p.callee sigs callees → size_after (size_of p.caller) p.site (counts_of p.callee) (length p.callee.slots) ≤ size_of (spliced p)
-    by sigs callees over = joined (size_of (spliced p)) (size_of p.caller - line_size p.site) (put_size p.site (counts_of p.callee)) (length p.callee.slots) (length callees) (total sig_size sigs) (size_of_splice p site sigs callees over)
+    without : (all rest put slots callees sigs : ℕ) → all ≡ rest + (put + ((slots + callees) + sigs)) → rest + (put + slots) ≤ all
+    without all rest put slots callees sigs e = omega (arith, e)
 
-    joined : (all rest put slots callees sigs : ℕ) → all ≡ rest + (put + ((slots + callees) + sigs)) → rest + (put + slots) ≤ all
-    joined all rest put slots callees sigs e = omega (arith, e)
+    by : (sigs : List Sig) (callees : List Callee) → TakesOver p.caller p.callee sigs callees → size_after (size_of p.caller) p.site (counts_of p.callee) (length p.callee.slots) ≤ size_of (spliced p)
+    by sigs callees takes = without (size_of (spliced p)) (size_of p.caller - line_size p.site) (put_size p.site (counts_of p.callee)) (length p.callee.slots) (length callees) (total sig_size sigs) (size_of_splice p site sigs callees takes)
 
 pub within_caller : SiteWithin
 within_caller p stands = let h = site_within p p.caller.blocks stands.block stands.block_found stands.lines in omega (arith, h)

@@ -16,5 +16,5 @@ returns c = λ n.
     let size = c.size-size.ensures in
     let less = c.if-size.false in
     let exact : size_of f ≡ c.size-size.result = omega (arith, size, less) in
-    c.spliced_size.ensures.splice (splicing_at n f g c.args.site l) sited exact refl (sym c.in-Some.ensures.1) (sym (ap length c.slots.ensures)) c.in_ok-import.ensures
+    c.spliced_size.ensures.splice (splicing_at n f g c.args.site l) sited exact refl (sym c.in-Some.ensures.1) (sym (ap length c.slots-slots.ensures)) c.in_ok-import.ensures
     ∙ ap (λ (z : Function). capped (size_of z)) (spliced_at n f g c.args.site l c.requires.there.0 c.inst-line.ensures)

@@ -17,7 +17,7 @@ returns-then-size-policy c =
     let l : Line = line_of c.args.line.now in
     let told : (n : Naming) → c.spliced_size-size.result ≡ capped (size_of (spliced (splicing_at n f g c.args.at l))) =
     λ n. c.spliced_size-size.ensures.splice (splicing_at n f g c.args.at l) (c.requires.site n) (sym c.requires.size) refl
-    (sym c.in-Some.ensures.1) (sym (ap length c.slots.ensures)) c.in_ok-import.ensures in
+    (sym c.in-Some.ensures.1) (sym (ap length c.slots-slots.ensures)) c.in_ok-import.ensures in
     splice_over p f g c.args.at l c.spliced_size-size.result told c.if-size-policy.true
 
 pub returns : goal.returns
@@ -28,7 +28,7 @@ returns c =
     let l : Line = line_of c.args.line.now in
     let told : (n : Naming) → c.spliced_size-size.result ≡ capped (size_of (spliced (splicing_at n f g c.args.at l))) =
     λ n. c.spliced_size-size.ensures.splice (splicing_at n f g c.args.at l) (c.requires.site n) (sym c.requires.size) refl
-    (sym c.in-Some.ensures.1) (sym (ap length c.slots.ensures)) c.in_ok-import.ensures in
+    (sym c.in-Some.ensures.1) (sym (ap length c.slots-slots.ensures)) c.in_ok-import.ensures in
     let few = c.if-size-policy.false in
     let limit = c.requires.limited.caller_size in (
       both_within p f g c.args.at l c.spliced_size-size.result told few limit c.in-Some.ensures.0,

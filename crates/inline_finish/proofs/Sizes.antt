@@ -1,5 +1,5 @@
 -- Whether a policy takes a body, by sizes that stop at the greatest number.
-use Rattle.std.proofs.Common.{◌≡◌, ℕ, ◌-◌, ◌<◌, ◌≤◌, List, [], ◌∷◌, length, Option, Some, None, Bool, true, false, ◌&&◌, refl, sym, ap, ◌∙◌, subst, arith}
+use Rattle.std.proofs.Common.{◌≡◌, ℕ, ◌+◌, ◌-◌, ◌<◌, ◌≤◌, List, [], ◌∷◌, length, Option, Some, None, Bool, true, false, ◌&&◌, refl, sym, ap, ◌∙◌, subst, arith}
 use Rattle.std.specs.Prelude.{nat_le, slice_get, IsSomeAnd, SomeIff}
 use Rattle.std.proofs.lemmas.Bool.{le-leb, lt-leb}
 use Rattle.ir_core.specs.declared.places.Point.{Point}
@@ -64,6 +64,10 @@ module _ (f g : Function) (at : Point) (l : Line) (site : IsSite f g at l) where
 
   pub callees_beside : length f.callees ≤ size_of f - line_size l
   callees_beside = let line = line_within in omega (arith, line)
+
+-- what is no more than a limit that the least size keeps to
+pub rest_within : (rest put least limit : ℕ) → least ≡ capped (rest + put) → least ≤ limit → limit ≤ 262144 → rest ≤ limit
+rest_within rest put least limit e few small = omega (arith, e, few, small)
 
 -- ---- the decision
 

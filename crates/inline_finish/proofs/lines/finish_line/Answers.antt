@@ -53,6 +53,15 @@ body-body-requires g c =
     let is = named m f l c.args.targets.now (Some c.in-Some.callee) c.requires.targets c.in-Some.ensures in
     has_target p m f c.requires.ready c.args.block l c.requires.own c.in-Some.callee (g.B.Bodies.has c.args.bodies.now) is c.requires.has
 
+pub counts-counts-requires : goal.counts-counts-requires
+counts-counts-requires g c =
+    let p : Policy = policy_of c.args.policy in
+    let m : Module = g.B.Bodies.functions c.args.bodies.now in
+    let f : Function = c.args.own.now.function in
+    let l : Line = line_of c.args.line.now in
+    let is = named m f l c.args.targets.now (Some c.in-Some.callee) c.requires.targets c.in-Some.ensures in
+    has_target p m f c.requires.ready c.args.block l c.requires.own c.in-Some.callee (g.B.Bodies.has c.args.bodies.now) is c.requires.has
+
 pub decide-requires-clause-site : goal.decide-requires-clause-site
 decide-requires-clause-site g c =
     let p : Policy = policy_of c.args.policy in
@@ -148,7 +157,7 @@ overflow_add-result g c =
     c.plain_call_has_numbers.ensures c.tail_call_has_numbers.ensures c.try_call_has_numbers.ensures in
     let after = subst IsSound c.func.ensures c.values-count.ensures.sound in
     let behind = taken p m f c.requires.ready c.args.block l c.requires.own left code at n mid mid.whole h there c.splice_size_under.ensures c.in-Some-decided.taken decided
-    can c.block_behind.ensures.sound c.in_ok-caller.caller c.in_ok-caller.ensures after in
+    can c.block_behind.ensures.sound c.in_ok-caller.caller c.in_ok-caller.ensures.ok after in
     let few : n + 1 < 2 ^ 32 =
     count_fits (finishing p m f) left c.in_ok-caller.caller (record { block = length code.blocks + 1; index = 0 }) (n + 1) behind c.values-size.ensures.sound in
     omega (arith, few)
@@ -174,10 +183,10 @@ returns-clause-behind g c =
     c.plain_call_has_numbers.ensures c.tail_call_has_numbers.ensures c.try_call_has_numbers.ensures in
     let after = subst IsSound c.func.ensures c.values-count.ensures.sound in
     let behind = taken p m f c.requires.ready c.args.block l c.requires.own left code at n mid mid.whole h there c.splice_size_under.ensures c.in-Some-decided.taken decided
-    can c.block_behind.ensures.sound c.in_ok-caller.caller c.in_ok-caller.ensures after in
+    can c.block_behind.ensures.sound c.in_ok-caller.caller c.in_ok-caller.ensures.ok after in
     let new = new_is p m f c.requires.ready c.args.block l c.requires.own left code at n mid mid.whole h there c.splice_size_under.ensures c.in-Some-decided.taken decided
-    can c.block_behind.ensures.sound c.in_ok-caller.caller c.in_ok-caller.ensures after in
+    can c.block_behind.ensures.sound c.in_ok-caller.caller c.in_ok-caller.ensures.ok after in
     record {
       behind = subst (λ b. Behind (finishing p m f) left c.in_ok-caller.caller (record { block = b; index = 0 }) (n + 1)) (sym c.block_behind.ensures.number) behind;
-      size = decided.2 c.in_ok-caller.ensures.naming ∙ ap size_of (sym new);
+      size = decided.2 c.in_ok-caller.ensures.ok.naming ∙ ap size_of (sym new);
     }

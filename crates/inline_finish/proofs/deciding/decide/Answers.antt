@@ -1,4 +1,4 @@
-use Rattle.std.proofs.Common.{◌≡◌, ◌+◌, ◌-◌, ◌<◌, ◌≤◌, ◌^◌, ℕ, length, Option, Some, refl, sym, ap, subst, ◌∙◌, arith}
+use Rattle.std.proofs.Common.{◌≡◌, ◌+◌, ◌-◌, ◌<◌, ◌≤◌, ◌^◌, ℕ, length, Option, Some, refl, sym, ap, subst, arith}
 use Rattle.ir_core.specs.Module.{Line, Function}
 use Rattle.ir_core.specs.Size.{size_of, capped, line_size}
 use Rattle.ir_core.specs.Viewed.{line_of}

@@ -1,4 +1,4 @@
-use Rattle.std.proofs.Common.{ap₂, arith, length, sym, subst, ◌≤◌, ◌∙◌}
+use Rattle.std.proofs.Common.{ap₂, arith, length, subst, ◌≤◌, ◌∙◌}
 use Rattle.ir_core.specs.Size.{size_of}
 use Rattle.ir_core.specs.Viewed.{line_of}
 use Rattle.ir_semantics.specs.Splice.{spliced}

@@ -2,3 +2,4 @@ pub mod Counted
 pub mod ReplacedCalls
 pub mod Indexed
 pub mod Definitions
+pub mod Sited

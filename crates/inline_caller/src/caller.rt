@@ -1,5 +1,5 @@
 //! A function whose calls are replaced one after the other.
-ghost use Rattle.std.specs.Prelude.{◌≡◌, ◌+◌, ◌-◌, ◌<◌, ◌^◌, length, IfOk};
+ghost use Rattle.std.specs.Prelude.{◌≡◌, ◌+◌, ◌-◌, ◌<◌, ◌^◌, length, IfOk, OnOk, OnErr};
 ghost use Rattle.body_import.specs.Imports.{IsImportOf};
 ghost use Rattle.inline_body.specs.PlainCall.{IsSplice};
 ghost use Rattle.inline_caller.specs.Replacing.{CanReplace};
@@ -10,6 +10,8 @@ use inline_body::count_blocks;
 use ir_core::{Func, Point};
 use std::alloc::{AllocError, Global};
 use std::marker::Model;
+use std::sync::ledger::Ledger;
+use step_counter::Steps;
 
 /// A function whose calls are replaced one after the other. Contracts see it as the function. It keeps an index of the
 /// function's declarations and its number of blocks, so that no splice goes over the whole function.
@@ -77,18 +79,22 @@ impl Caller {
         plan_import(alloc, &self.index, &self.func, callee)
     }
 
-    /// Replaces the call at the place by the callee's body. After `AllocError` the caller is gone. Time is the size of
-    /// what is put in, times the logarithm of the number of the caller's declarations.
-    pub fn splice(
+    /// Replaces the call at the place by the callee's body, and counts a step. After `AllocError` the caller is gone, and
+    /// no step was counted. Time is the size of what is put in, times the logarithm of the number of the caller's
+    /// declarations.
+    pub fn splice<L: Ledger>(
         self,
         alloc: Global,
         site: Point,
         callee: &Func,
         import: Import,
+        steps: &mut Steps<L>,
     ) -> Result<Caller, AllocError>
         requires imported { IsImportOf self callee.now.function import }
         requires can { CanReplace self callee.now.function site }
-        ensures { IfOk result (λ c. IsSplice self callee.now.function site c) }
+        ensures ok { IfOk result (λ c. IsSplice self callee.now.function site c) }
+        ensures counted { OnOk result (steps.new ≡ steps.old + 1) }
+        ensures uncounted { OnErr result (steps.new ≡ steps.old) }
     {
         let Caller {
             mut func,
@@ -105,6 +111,7 @@ impl Caller {
             import.callees.added.as_slice(),
         )?;
         let block_count = put_callee(alloc, &mut func, block_count, import, site, callee)?;
+        steps.tick();
         Ok(Caller {
             func,
             block_count,

@@ -6,7 +6,9 @@ mod kinds;
 pub mod laws;
 mod one_call;
 mod putting;
+mod sizing;
 
 pub use caller::Caller;
 pub use kinds::{CallKind, call_kind};
 pub use one_call::splice;
+pub use sizing::size_with_body;

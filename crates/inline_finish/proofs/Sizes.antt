@@ -1,41 +1,48 @@
 -- Whether a policy takes a body, by sizes that stop at the greatest number.
-use Rattle.std.proofs.Common.{◌≡◌, ℕ, ◌<◌, ◌≤◌, List, [], ◌∷◌, length, None, Bool, true, false, ◌&&◌, refl, ap, ◌∙◌, subst, arith}
-use Rattle.std.specs.Prelude.{nat_le, if◌then◌else◌}
+use Rattle.std.proofs.Common.{◌≡◌, ℕ, ◌+◌, ◌-◌, ◌<◌, ◌≤◌, List, [], ◌∷◌, length, Option, Some, None, Bool, true, false, ◌&&◌, refl, sym, ap, ◌∙◌, subst, arith}
+use Rattle.std.specs.Prelude.{nat_le, slice_get, IsSomeAnd, SomeIff}
 use Rattle.std.proofs.lemmas.Bool.{le-leb, lt-leb}
 use Rattle.ir_core.specs.declared.places.Point.{Point}
 use Rattle.ir_core.specs.declared.signatures.Sig.{Sig}
-use Rattle.ir_core.specs.Module.{Line, Function}
-use Rattle.ir_core.specs.Signatures.{same_sig}
-use Rattle.ir_core.specs.Size.{size_of, capped, total, sig_size}
+use Rattle.ir_core.specs.Module.{Line, Function, Module}
+use Rattle.ir_core.specs.Size.{size_of, capped, total, sig_size, line_size, block_size}
 use Rattle.ir_core.proofs.Equal.{true_both}
-use Rattle.ir_semantics.specs.Import.{with_item, with_items, sigs_after, callees_with, same_callee}
-use Rattle.ir_semantics.specs.Splice.{Naming, Splicing, spliced}
+use Rattle.ir_semantics.specs.Canon.{SameFunction}
+use Rattle.ir_semantics.specs.Splice.{Naming, sides, spliced}
+use Rattle.inline_numbering.proofs.Same.{by_way, way_renamed}
+use Rattle.inline_numbering.proofs.Sizes.{size_renamed}
 use Rattle.inline_body.specs.PlainCall.{splicing_at}
 use Rattle.inline_pass.specs.Policy.{Policy, takes}
-use Rattle.inline_finish.specs.Deciding.{IsDecided}
+use Rattle.inline_pass.specs.Finished.{finished}
+use Rattle.splice_size.specs.declared.counts.Counts.{Counts}
+use Rattle.splice_size.specs.Counts.{counts_of}
+use Rattle.splice_size.proofs.Blocks.{site_within}
+use Rattle.splice_size.proofs.SpliceSizes.{counts_renamed}
+use Rattle.inline_finish.specs.Bodies.{IsBodyOf, AreCountsOf}
+use Rattle.inline_finish.specs.Building.{AreCounts}
+use Rattle.inline_finish.specs.Deciding.{IsSite, IsDecided}
 
--- ---- lists with more items
+-- ---- what counts does not see numbers
 
-item_grows : {A : Type 0} (same : A → A → Bool) (ys : List A) (x : A) → length ys ≤ length (with_item same ys x)
-item_grows same [] x = omega arith
-item_grows same (y ∷ ys) x = go (same y x) (item_grows same ys x)
+pub same_counts : (p : Policy) (g h : Function) → SameFunction g h → (counts : Option Counts) → AreCounts p g counts → AreCounts p h counts
+same_counts p g h same counts is =
+    let r = way_renamed g h same in
+    subst (λ n. SomeIff counts (n ≤ p.callee_size) (counts_of h)) (sym (size_renamed (by_way g h) g h r))
+    (subst (λ k. SomeIff counts (size_of g ≤ p.callee_size) k) (sym (counts_renamed (by_way g h) g h r)) is)
+
+-- of a body that is there
+pub counts_there : (p : Policy) (m : Module) (k : ℕ) (h : Function) (counts : Option Counts) → IsBodyOf p m k h → AreCountsOf p m k counts → AreCounts p h counts
+counts_there p m k h counts = go (slice_get m k)
   where
-    go : (b : Bool) → length ys ≤ length (with_item same ys x) → length (y ∷ ys) ≤ length (if b then y ∷ ys else y ∷ with_item same ys x)
-    go true h = omega arith
-    go false h = omega (arith, h)
+    go : (o : Option Function) → IsSomeAnd o (λ g. SameFunction (finished p m g) h) → IsSomeAnd o (λ g. AreCounts p (finished p m g) counts) → AreCounts p h counts
+    go None same is = elim same [ ]
+    go (Some g) same is = same_counts p (finished p m g) h same counts is
 
-items_grow : {A : Type 0} (same : A → A → Bool) (ys xs : List A) → length ys ≤ length (with_items same ys xs)
-items_grow same ys [] = omega arith
-items_grow same ys (x ∷ xs) =
-    let one = item_grows same ys x in
-    let more = items_grow same (with_item same ys x) xs in
-    omega (arith, one, more)
+-- ---- what a function has beside a call is at most its size without the call
 
 sigs_count : (ss : List Sig) → length ss ≤ total sig_size ss
 sigs_count [] = omega arith
 sigs_count (s ∷ ss) = let h = sigs_count ss in omega (arith, h)
-
--- ---- what a function has is at most its size
 
 pub sigs_within : (f : Function) → length f.sigs ≤ size_of f
 sigs_within f = let h = sigs_count f.sigs in omega (arith, h)
@@ -43,18 +50,24 @@ sigs_within f = let h = sigs_count f.sigs in omega (arith, h)
 pub callees_within : (f : Function) → length f.callees ≤ size_of f
 callees_within f = omega arith
 
--- the caller's signatures and callee declarations are in the splice
-sigs_stay : (q : Splicing) → length q.caller.sigs ≤ size_of (spliced q)
-sigs_stay q =
-    let one = items_grow same_sig q.caller.sigs q.callee.sigs in
-    let other = sigs_within (spliced q) in
-    omega (arith, one, other)
+module _ (f g : Function) (at : Point) (l : Line) (site : IsSite f g at l) where
+  line_within : line_size l ≤ total block_size f.blocks
+  line_within =
+      let stands = (site sides).stands in
+      site_within (splicing_at sides f g at l) f.blocks stands.block stands.block_found stands.lines
 
-callees_stay : (q : Splicing) → length q.caller.callees ≤ size_of (spliced q)
-callees_stay q =
-    let one = items_grow (same_callee (sigs_after q.caller q.callee)) q.caller.callees (callees_with q.caller q.callee q.callee.callees) in
-    let other = callees_within (spliced q) in
-    omega (arith, one, other)
+  pub sigs_beside : length f.sigs ≤ size_of f - line_size l
+  sigs_beside =
+      let line = line_within in
+      let sigs = sigs_count f.sigs in
+      omega (arith, line, sigs)
+
+  pub callees_beside : length f.callees ≤ size_of f - line_size l
+  callees_beside = let line = line_within in omega (arith, line)
+
+-- what is no more than a limit that the least size keeps to
+pub rest_within : (rest put least limit : ℕ) → least ≡ capped (rest + put) → least ≤ limit → limit ≤ 262144 → rest ≤ limit
+rest_within rest put least limit e few small = omega (arith, e, few, small)
 
 -- ---- the decision
 
@@ -72,14 +85,10 @@ module _ (p : Policy) (f g : Function) (at : Point) (l : Line) where
   pub body_over : (size_of g ≤ p.callee_size → ⊥) → IsDecided p f g at l None
   body_over h n = over_false (size_of g) p.callee_size (size_of (spliced (splicing_at n f g at l))) p.caller_size (omega (arith, h))
 
-  pub sigs_over : p.caller_size < length f.sigs → IsDecided p f g at l None
-  sigs_over h n =
-      let more = sigs_stay (splicing_at n f g at l) in
-      over_behind (size_of g) p.callee_size (size_of (spliced (splicing_at n f g at l))) p.caller_size (omega (arith, h, more))
-
-  pub callees_over : p.caller_size < length f.callees → IsDecided p f g at l None
-  callees_over h n =
-      let more = callees_stay (splicing_at n f g at l) in
+  -- what the splice has at least is too large
+  pub least_over : (least : ℕ) → ((n : Naming) → least ≤ size_of (spliced (splicing_at n f g at l))) → p.caller_size < least → IsDecided p f g at l None
+  least_over least most h n =
+      let more = most n in
       over_behind (size_of g) p.callee_size (size_of (spliced (splicing_at n f g at l))) p.caller_size (omega (arith, h, more))
 
   -- the size of the splice as the code has it

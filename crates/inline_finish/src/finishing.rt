@@ -11,6 +11,7 @@ use call_graph::Order;
 use inline_caller::Caller;
 use ir_check::Checked;
 use ir_core::{Block, Point};
+use splice_size::count_within;
 use std::alloc::{AllocError, Global};
 use std::sync::ledger::Ledger;
 use step_counter::Steps;
@@ -55,9 +56,22 @@ pub fn finish_body<B: Bodies, L: Ledger>(
         },
         inlined: 0,
     };
-    let progress = finish_blocks(alloc, own, targets.as_slice(), bodies, policy, progress)?;
+    let progress = finish_blocks(
+        alloc,
+        own,
+        targets.as_slice(),
+        bodies,
+        policy,
+        progress,
+        steps,
+    )?;
+    steps.tick();
+    let inlined = progress.inlined;
+    let func = progress.caller.into_func();
+    let counts = count_within(&func, policy.callee_size);
     Ok(Built {
-        func: progress.caller.into_func(),
-        inlined: progress.inlined,
+        func,
+        inlined,
+        counts,
     })
 }

@@ -1,5 +1,5 @@
 //! The loop over a function's own lines.
-ghost use Rattle.std.specs.Prelude.{◌≡◌, ◌+◌, ◌∷◌, [], length, map, IfOk};
+ghost use Rattle.std.specs.Prelude.{◌≡◌, ◌+◌, ◌≤◌, ◌∷◌, [], length, map, IfOk};
 ghost use Rattle.ir_core.specs.Edits.{IsPoint};
 ghost use Rattle.ir_core.specs.Lookup.{block_numbers};
 ghost use Rattle.ir_core.specs.Lists.{In};
@@ -18,6 +18,8 @@ use crate::deciding::decide;
 use inline_caller::Caller;
 use ir_core::{Block, Func, FuncRef, Inst, InstData, Point};
 use std::alloc::{AllocError, Global};
+use std::sync::ledger::Ledger;
+use step_counter::Steps;
 
 /// A function while bodies are put into it: what it is so far, its size, where the next of its own lines stands, and
 /// how many of its sites were inlined.
@@ -88,7 +90,7 @@ fn block_behind(caller: &Caller) -> Block
 
 /// Looks at one of the function's own lines, `line`, with these `after` it in the same block: where it is a site that
 /// the policy takes, the callee's finished body comes in its place.
-fn finish_line<B: Bodies>(
+fn finish_line<B: Bodies, L: Ledger>(
     alloc: Global,
     own: &Func,
     targets: &[Option<usize>],
@@ -98,6 +100,7 @@ fn finish_line<B: Bodies>(
     line: &InstData,
     after: &[InstData],
     progress: Progress,
+    steps: &mut Steps<L>,
 ) -> Result<Progress, AllocError>
     requires ready { IsReady (policy_of policy) (B.functions bodies.now) own.now.function }
     requires policy { B.policy bodies.now ≡ policy_of policy }
@@ -106,14 +109,17 @@ fn finish_line<B: Bodies>(
     requires own { IsOwnLine own.now.function block (line_of line.now) }
     requires midway { IsMidway (finishing (policy_of policy) (B.functions bodies.now) own.now.function)
         (left_in own.now.function block (map line_of (line.now ∷ after.now))) progress }
-    ensures { IfOk result (IsBehind (finishing (policy_of policy) (B.functions bodies.now) own.now.function)
+    ensures behind { IfOk result (IsBehind (finishing (policy_of policy) (B.functions bodies.now) own.now.function)
         (left_in own.now.function block (map line_of after.now))) }
+    ensures counted { IfOk result (λ p. steps.new + progress.inlined ≡ steps.old + p.inlined) }
+    ensures rises { steps.old ≤ steps.new }
 {
     let callee = match target(targets, line) {
         Some(callee) => callee,
         None => return Ok(pass_line(progress)),
     };
     let body = bodies.body(callee);
+    let counts = bodies.counts(callee);
     splice_size::laws::splice_size_under();
     let decided = decide(
         alloc,
@@ -123,6 +129,7 @@ fn finish_line<B: Bodies>(
         progress.at,
         line,
         body,
+        counts,
     )?;
     let taken = match decided {
         Some(taken) => taken,
@@ -141,7 +148,7 @@ fn finish_line<B: Bodies>(
     splice_bounds::laws::plain_call_has_numbers();
     splice_bounds::laws::tail_call_has_numbers();
     splice_bounds::laws::try_call_has_numbers();
-    let caller = caller.splice(alloc, at, body, taken.import)?;
+    let caller = caller.splice(alloc, at, body, taken.import, steps)?;
     let _size = own.values();
     let _count = caller.func().values();
     Ok(Progress {
@@ -153,7 +160,7 @@ fn finish_line<B: Bodies>(
 }
 
 /// Looks at the lines of one of the function's own blocks.
-fn finish_block<B: Bodies>(
+fn finish_block<B: Bodies, L: Ledger>(
     alloc: Global,
     own: &Func,
     targets: &[Option<usize>],
@@ -161,6 +168,7 @@ fn finish_block<B: Bodies>(
     policy: Policy,
     block: Block,
     progress: Progress,
+    steps: &mut Steps<L>,
 ) -> Result<Progress, AllocError>
     requires ready { IsReady (policy_of policy) (B.functions bodies.now) own.now.function }
     requires policy { B.policy bodies.now ≡ policy_of policy }
@@ -169,8 +177,10 @@ fn finish_block<B: Bodies>(
     requires there { In block (block_numbers own.now.function.blocks) }
     requires between { IsBetween (finishing (policy_of policy) (B.functions bodies.now) own.now.function)
         (from_block block own.now.function.blocks) progress }
-    ensures { IfOk result (IsBetween (finishing (policy_of policy) (B.functions bodies.now) own.now.function)
+    ensures between { IfOk result (IsBetween (finishing (policy_of policy) (B.functions bodies.now) own.now.function)
         (behind_block block own.now.function.blocks)) }
+    ensures counted { IfOk result (λ p. steps.new + progress.inlined ≡ steps.old + p.inlined) }
+    ensures rises { steps.old ≤ steps.new }
 {
     let Progress {
         caller,
@@ -187,7 +197,7 @@ fn finish_block<B: Bodies>(
     let mut rest = own.inst_slice(block);
     'lines: while let Some((line, after)) = rest.split_first() {
         progress = finish_line(
-            alloc, own, targets, bodies, policy, block, line, after, progress,
+            alloc, own, targets, bodies, policy, block, line, after, progress, steps,
         )?;
         rest = after;
     }
@@ -195,13 +205,14 @@ fn finish_block<B: Bodies>(
 }
 
 /// Looks at all of the function's own lines.
-pub(crate) fn finish_blocks<B: Bodies>(
+pub(crate) fn finish_blocks<B: Bodies, L: Ledger>(
     alloc: Global,
     own: &Func,
     targets: &[Option<usize>],
     bodies: &B,
     policy: Policy,
     progress: Progress,
+    steps: &mut Steps<L>,
 ) -> Result<Progress, AllocError>
     requires ready { IsReady (policy_of policy) (B.functions bodies.now) own.now.function }
     requires policy { B.policy bodies.now ≡ policy_of policy }
@@ -209,11 +220,13 @@ pub(crate) fn finish_blocks<B: Bodies>(
     requires has { HasCallees (B.functions bodies.now) own.now.function (B.has bodies.now) }
     requires between { IsBetween (finishing (policy_of policy) (B.functions bodies.now) own.now.function)
         own.now.function.blocks progress }
-    ensures { IfOk result (IsBetween (finishing (policy_of policy) (B.functions bodies.now) own.now.function) []) }
+    ensures between { IfOk result (IsBetween (finishing (policy_of policy) (B.functions bodies.now) own.now.function) []) }
+    ensures counted { IfOk result (λ p. steps.new + progress.inlined ≡ steps.old + p.inlined) }
+    ensures rises { steps.old ≤ steps.new }
 {
     let mut progress = progress;
     for block in own.blocks() {
-        progress = finish_block(alloc, own, targets, bodies, policy, block, progress)?;
+        progress = finish_block(alloc, own, targets, bodies, policy, block, progress, steps)?;
     }
     Ok(progress)
 }

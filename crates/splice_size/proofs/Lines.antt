@@ -1,5 +1,5 @@
 -- The size of what a line of the callee becomes at a site.
-use Rattle.std.proofs.Common.{◌≡◌, ℕ, zero, suc, ◌+◌, ◌*◌, List, [], ◌++◌, length, map, None, refl, ap, ap₂, ◌∙◌, sym, arith, length-append}
+use Rattle.std.proofs.Common.{◌≡◌, ℕ, suc, ◌+◌, ◌*◌, List, [], ◌++◌, length, map, None, refl, ap, ap₂, ◌∙◌, sym, arith, length-append}
 use Rattle.std.specs.Prelude.{⊤}
 use Rattle.exn_tables.specs.declared.table.Entry.{Entry}
 use Rattle.debug_tags.specs.declared.tags.Tag.{Tag}

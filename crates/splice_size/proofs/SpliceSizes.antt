@@ -2,14 +2,18 @@
 use Rattle.std.proofs.Common.{◌≡◌, ℕ, ◌+◌, ◌-◌, ◌≤◌, List, ◌∷◌, [], ◌++◌, length, map, ap, ap₂, ◌∙◌, sym, subst, arith, length-append}
 use Rattle.ir_core.specs.declared.declarations.Callee.{Callee}
 use Rattle.ir_core.specs.declared.declarations.SlotDecl.{SlotDecl}
+use Rattle.ir_core.specs.declared.signatures.Sig.{Sig}
 use Rattle.ir_core.specs.Lists.{In, Different}
 use Rattle.ir_core.specs.Lookup.{block_numbers}
 use Rattle.ir_core.specs.Module.{Line, Function}
+use Rattle.ir_core.specs.Signatures.{same_sig}
 use Rattle.ir_core.specs.Size.{block_size, line_size, sig_size, size_of, total}
 use Rattle.ir_core.proofs.Sizing.{total_join}
-use Rattle.ir_semantics.specs.Import.{callees_after, sigs_after}
+use Rattle.ir_semantics.specs.Import.{callees_after, callees_with, same_callee, sigs_after}
 use Rattle.ir_semantics.specs.Renaming.{Renaming, block_under, line_under}
 use Rattle.ir_semantics.specs.Splice.{Naming, Splicing, sides, spliced, spliced_blocks}
+use Rattle.body_import.specs.Merged.{keep, news}
+use Rattle.body_import.proofs.Decided.{kept_news}
 use Rattle.inline_outcomes.proofs.Linking.{lines_same, same_numbers}
 use Rattle.inline_acceptance.proofs.KeptSizes.{block_same, total_map}
 use Rattle.inline_numbering.specs.Carried.{Carries, SiteUnder, splicing_under}
@@ -19,8 +23,8 @@ use Rattle.inline_numbering.proofs.Same.{blocks_number, renamed_itself}
 use Rattle.inline_numbering.proofs.Sides.{all_sigs, joined, sides_carry}
 use Rattle.inline_numbering.proofs.Typed.{block_in, same_before}
 use Rattle.splice_size.specs.Counts.{block_counts, counts_of, summed}
-use Rattle.splice_size.specs.Laws.{SizeOfSplice, SiteWithin, SizeByCounts, RenamedKeepsCounts, SizeAfterUnder, SpliceSizeUnder}
-use Rattle.splice_size.specs.SizeAfter.{put_size}
+use Rattle.splice_size.specs.Laws.{Sited, TakesOver, SizeOfSplice, SiteWithin, SizeByCounts, RenamedKeepsCounts, SizeAfterUnder, SpliceSizeUnder}
+use Rattle.splice_size.specs.SizeAfter.{put_size, size_after}
 use Rattle.splice_size.proofs.Blocks.{blocks_size, site_within}
 use Rattle.splice_size.proofs.Fitting.{all_fit, ends}
 use Rattle.splice_size.proofs.Under.{blocks_same, blocks_whole, site_same}
@@ -40,6 +44,31 @@ size_of_splice p site sigs callees over =
   where
     declarations : (slots fs gs callees fc nc sigs fg ng after site before put : ℕ) → slots ≡ fs + gs → callees ≡ fc + nc → sigs ≡ fg + ng → after + site ≡ before + put → site ≤ before → (slots + callees) + sigs + after ≡ (((fs + fc) + fg + before) - site) + (put + ((gs + nc) + ng))
     declarations slots fs gs callees fc nc sigs fg ng after site before put a b c d e = omega (arith, a, b, c, d, e)
+
+-- the declarations that f takes over from g: those that are new to it
+module _ (f g : Function) where
+  new_sigs : List Sig
+  new_sigs = keep (news same_sig f.sigs g.sigs) g.sigs
+
+  new_callees : List Callee
+  new_callees = keep (news (same_callee (sigs_after f g)) f.callees (callees_with f g g.callees)) (callees_with f g g.callees)
+
+  over : TakesOver f g new_sigs new_callees
+  unfolding new_sigs new_callees
+  over = record {
+    sigs_are = kept_news same_sig f.sigs g.sigs;
+    callees_are = kept_news (same_callee (sigs_after f g)) f.callees (callees_with f g g.callees);
+  }
+
+-- a splice is at least as large as without them
+pub at_least : (p : Splicing) → Sited p → size_after (size_of p.caller) p.site (counts_of p.callee) (length p.callee.slots) ≤ size_of (spliced p)
+at_least p site = by (new_sigs p.caller p.callee) (new_callees p.caller p.callee) (over p.caller p.callee)
+  where
+    without : (all rest put slots callees sigs : ℕ) → all ≡ rest + (put + ((slots + callees) + sigs)) → rest + (put + slots) ≤ all
+    without all rest put slots callees sigs e = omega (arith, e)
+
+    by : (sigs : List Sig) (callees : List Callee) → TakesOver p.caller p.callee sigs callees → size_after (size_of p.caller) p.site (counts_of p.callee) (length p.callee.slots) ≤ size_of (spliced p)
+    by sigs callees takes = without (size_of (spliced p)) (size_of p.caller - line_size p.site) (put_size p.site (counts_of p.callee)) (length p.callee.slots) (length callees) (total sig_size sigs) (size_of_splice p site sigs callees takes)
 
 pub within_caller : SiteWithin
 within_caller p stands = let h = site_within p p.caller.blocks stands.block stands.block_found stands.lines in omega (arith, h)

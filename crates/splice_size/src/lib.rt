@@ -7,4 +7,4 @@ mod sizes;
 mod spliced;
 
 pub use counts::{Counts, count_within};
-pub use spliced::spliced_size;
+pub use spliced::{least_spliced_size, spliced_size};

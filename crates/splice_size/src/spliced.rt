@@ -1,5 +1,5 @@
 //! The size that a function would have with a call replaced by the body of its callee.
-ghost use Rattle.std.specs.Prelude.{◌≡◌, ◌+◌, ◌-◌, ◌*◌, length};
+ghost use Rattle.std.specs.Prelude.{◌≡◌, ◌+◌, ◌-◌, ◌*◌, ◌≤◌, length};
 ghost use Rattle.ir_core.specs.Size.{total, line_size, sig_size, size_of, capped};
 ghost use Rattle.ir_core.specs.Viewed.{line_of};
 ghost use Rattle.ir_semantics.specs.Splice.{Splicing, Within, Last, Tries, spliced};
@@ -32,9 +32,31 @@ pub fn spliced_size(
         → counts_of p.callee ≡ callee.now → length p.callee.slots ≡ slots → IsImportOf p.caller p.callee import.now
         → result ≡ capped (size_of (spliced p)) }
 {
-    let rest = size_without(caller_size, site);
     let declared = slots.saturating_add(import.callees.added.as_slice().len());
     let added = declared.saturating_add(sigs_size(import.sigs.added.as_slice()));
+    size_with(caller_size, site, callee, added)
+}
+
+/// The least that `spliced_size` answers for any import: the size without the signatures and the callee declarations
+/// that the function takes over. Time is the length of the call's line.
+pub fn least_spliced_size(
+    caller_size: usize,
+    site: &InstData,
+    callee: &Counts,
+    slots: usize,
+) -> usize
+    ensures number { result ≡ capped (size_after caller_size (line_of site.now) callee.now slots) }
+    ensures least { (p : Splicing) → Sited p → size_of p.caller ≡ caller_size → p.site ≡ line_of site.now
+        → counts_of p.callee ≡ callee.now → length p.callee.slots ≡ slots → result ≤ size_of (spliced p) }
+{
+    size_with(caller_size, site, callee, slots)
+}
+
+/// The size of a function of the size with the body in place of the call, and declarations of the size that come in.
+fn size_with(caller_size: usize, site: &InstData, callee: &Counts, added: usize) -> usize
+    ensures { result ≡ capped (size_after caller_size (line_of site.now) callee.now added) }
+{
+    let rest = size_without(caller_size, site);
     rest.saturating_add(put_in_place(site, callee).saturating_add(added))
 }
 

@@ -12,6 +12,7 @@ use Rattle.inline_finish.specs.Midway.{IsReady}
 use Rattle.inline_finish.specs.declared.bodies.Built.{Built}
 use Rattle.inline_finish.specs.declared.bodies.Policy.{Policy}
 use Rattle.inline_finish.specs.declared.lines.Progress.{Progress}
+use Rattle.inline_finish.proofs.Sizes.{same_counts}
 use Rattle.inline_finish.proofs.Steps.{begins_between, ends_finished}
 use Rattle.inline_finish.proofs.finishing.finish_body.Goals as goal
 
@@ -60,8 +61,8 @@ finish_blocks-requires-clause-between g c =
       size = exact ∙ ap size_of (sym c.in_ok-new.ensures);
     }
 
-pub returns : goal.returns
-returns g c =
+pub returns-clause-built : goal.returns-clause-built
+returns-clause-built g c =
     let n : Module = c.module-functions.result.now in
     let f : Function = c.func-own.result.now.function in
     let m : Module = g.B.Bodies.functions c.args.bodies.now in
@@ -71,8 +72,10 @@ returns g c =
     ready c.args.policy m n c.args.func f c.requires.limited (c.module-functions.ensures.same ∙ sym c.requires.functions)
     c.module-functions.ensures.functions c.module-functions.ensures.accepted c.func-own.ensures.at in
     let progress : Progress = c.in_ok-progress.progress in
-    let ends = ends_finished p m f whole progress.caller progress.inlined c.in_ok-progress.ensures.between in
-    let built : Built = record { func = c.into_func.result; inlined = progress.inlined } in
-    let is : IsBuilt p m f built = (subst (SameFunction (finished p m f)) (sym c.into_func.ensures) ends.0, ends.1) in
+    let ends = ends_finished p m f whole progress.caller progress.inlined c.in_ok-progress.ensures.between.between in
+    let same : SameFunction (finished p m f) c.into_func-func.result.function = subst (SameFunction (finished p m f)) (sym c.into_func-func.ensures) ends.0 in
+    let built : Built = record { func = c.into_func-func.result; inlined = progress.inlined; counts = c.count_within-counts.result } in
+    let counts = same_counts p c.into_func-func.result.function (finished p m f) (same.1, same.0, sym same.2) c.count_within-counts.result c.count_within-counts.ensures in
+    let is : IsBuilt p m f built = (same, ends.1, counts) in
     subst (λ o. IfSome o (λ (f : Function). IsBuilt p c.args.«module».now f built)) (sym at)
     (subst (λ (m : Module). IsBuilt p m f built) c.requires.functions is)

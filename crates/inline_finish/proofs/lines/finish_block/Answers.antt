@@ -1,4 +1,4 @@
-use Rattle.std.proofs.Common.{List, map, ap}
+use Rattle.std.proofs.Common.{List, map, refl, ap, arith}
 use Rattle.std.proofs.lemmas.List.{nil_from_length}
 use Rattle.ir_core.specs.Module.{Line, Function}
 use Rattle.ir_core.specs.Viewed.{line_of}
@@ -17,10 +17,12 @@ lines-init g c =
     record {
       own = all_own f c.args.block lines c.inst_slice-rest.ensures;
       behind = enters task f c.args.block lines c.args.progress c.requires.there c.inst_slice-rest.ensures c.requires.between;
+      counted = refl;
+      rises = omega arith;
     }
 
-pub returns : goal.returns
-returns g c =
+pub returns-clause-between : goal.returns-clause-between
+returns-clause-between g c =
     let f : Function = c.args.own.now.function in
     let task : Task = finishing (policy_of c.args.policy) (g.B.Bodies.functions c.args.bodies.now) f in
     let left : Left = left_in f c.args.block (map line_of c.lines.rest.now) in

@@ -1,4 +1,4 @@
-use Rattle.std.proofs.Common.{map, length}
+use Rattle.std.proofs.Common.{◌≡◌, ◌+◌, ◌≤◌, map, length}
 use Rattle.ir_core.specs.Lists.{Each}
 use Rattle.ir_core.specs.Viewed.{line_of}
 use Rattle.inline_pass.specs.Putting.{finishing}
@@ -10,6 +10,8 @@ abbrev pub invariant-lines : goal.invariant-lines
 invariant-lines g l = record {
   own : Each (IsOwnLine l.own.function l.block) (map line_of l.rest);
   behind : IsBehind (finishing (policy_of l.policy) (g.B.Bodies.functions l.bodies) l.own.function) (left_in l.own.function l.block (map line_of l.rest)) l.progress;
+  counted : l.steps + l.initial.progress.inlined ≡ l.initial.steps + l.progress.inlined;
+  rises : l.initial.steps ≤ l.steps;
 }
 
 abbrev pub decreases-lines : goal.decreases-lines

@@ -5,12 +5,13 @@ use Rattle.ir_core.specs.Sound.{IsSound}
 use Rattle.ir_core.specs.Viewed.{line_of}
 use Rattle.inline_pass.specs.Policy.{Policy}
 use Rattle.inline_pass.specs.Putting.{finishing}
-use Rattle.inline_finish.specs.Bodies.{IsBodyOf}
+use Rattle.inline_finish.specs.Bodies.{IsBodyOf, AreCountsOf}
 use Rattle.inline_finish.specs.Building.{policy_of}
 use Rattle.inline_finish.specs.Deciding.{IsDecided}
 use Rattle.inline_finish.specs.Midway.{Left, Behind, IsBehind, left_in}
 use Rattle.inline_finish.specs.Targets.{target_by, targets_in}
 use Rattle.inline_finish.proofs.Counts.{count_fits}
+use Rattle.inline_finish.proofs.Sizes.{counts_there}
 use Rattle.inline_finish.proofs.Steps.{point_there, still}
 use Rattle.inline_finish.proofs.Taking.{has_target, refused_none, body_there, site_there, refused_some, can_replace, new_is, taken}
 use Rattle.inline_finish.proofs.lines.finish_line.Goals as goal
@@ -28,8 +29,8 @@ pass_line-requires g c =
     let left : Left = left_in f c.args.block (map line_of c.args.after.now) in
     point_there (finishing p m f) l left.lines left.rest c.args.progress.caller c.args.progress.at c.args.progress.inlined c.requires.midway.midway
 
-pub returns-in-None : goal.returns-in-None
-returns-in-None g c =
+pub returns-in-None-clause-behind : goal.returns-in-None-clause-behind
+returns-in-None-clause-behind g c =
     let p : Policy = policy_of c.args.policy in
     let m : Module = g.B.Bodies.functions c.args.bodies.now in
     let f : Function = c.args.own.now.function in
@@ -45,6 +46,15 @@ returns-in-None g c =
 
 pub body-body-requires : goal.body-body-requires
 body-body-requires g c =
+    let p : Policy = policy_of c.args.policy in
+    let m : Module = g.B.Bodies.functions c.args.bodies.now in
+    let f : Function = c.args.own.now.function in
+    let l : Line = line_of c.args.line.now in
+    let is = named m f l c.args.targets.now (Some c.in-Some.callee) c.requires.targets c.in-Some.ensures in
+    has_target p m f c.requires.ready c.args.block l c.requires.own c.in-Some.callee (g.B.Bodies.has c.args.bodies.now) is c.requires.has
+
+pub counts-counts-requires : goal.counts-counts-requires
+counts-counts-requires g c =
     let p : Policy = policy_of c.args.policy in
     let m : Module = g.B.Bodies.functions c.args.bodies.now in
     let f : Function = c.args.own.now.function in
@@ -69,6 +79,15 @@ decide-requires-clause-site g c =
     let there = body_there p m f c.requires.ready c.args.block l c.requires.own left code at n mid c.in-Some.callee h is body in
     site_there p m f c.requires.ready c.args.block l c.requires.own left code at n mid mid.whole h there
 
+pub decide-requires-clause-counts : goal.decide-requires-clause-counts
+decide-requires-clause-counts g c =
+    let p : Policy = policy_of c.args.policy in
+    let m : Module = g.B.Bodies.functions c.args.bodies.now in
+    let h : Function = c.body-body.result.now.function in
+    let body = subst (λ q. IsBodyOf q m c.in-Some.callee h) c.requires.policy c.body-body.ensures in
+    let counts = subst (λ q. AreCountsOf q m c.in-Some.callee c.counts-counts.result) c.requires.policy c.counts-counts.ensures in
+    counts_there p m c.in-Some.callee h c.counts-counts.result body counts
+
 pub pass_line-requires-in-None-decided : goal.pass_line-requires-in-None-decided
 pass_line-requires-in-None-decided g c =
     let p : Policy = policy_of c.args.policy in
@@ -78,8 +97,8 @@ pass_line-requires-in-None-decided g c =
     let left : Left = left_in f c.args.block (map line_of c.args.after.now) in
     point_there (finishing p m f) l left.lines left.rest c.args.progress.caller c.args.progress.at c.args.progress.inlined c.requires.midway.midway
 
-pub returns-in-None-decided : goal.returns-in-None-decided
-returns-in-None-decided g c =
+pub returns-in-None-decided-clause-behind : goal.returns-in-None-decided-clause-behind
+returns-in-None-decided-clause-behind g c =
     let p : Policy = policy_of c.args.policy in
     let m : Module = g.B.Bodies.functions c.args.bodies.now in
     let f : Function = c.args.own.now.function in
@@ -138,13 +157,13 @@ overflow_add-result g c =
     c.plain_call_has_numbers.ensures c.tail_call_has_numbers.ensures c.try_call_has_numbers.ensures in
     let after = subst IsSound c.func.ensures c.values-count.ensures.sound in
     let behind = taken p m f c.requires.ready c.args.block l c.requires.own left code at n mid mid.whole h there c.splice_size_under.ensures c.in-Some-decided.taken decided
-    can c.block_behind.ensures.sound c.in_ok-caller.caller c.in_ok-caller.ensures after in
+    can c.block_behind.ensures.sound c.in_ok-caller.caller c.in_ok-caller.ensures.ok after in
     let few : n + 1 < 2 ^ 32 =
     count_fits (finishing p m f) left c.in_ok-caller.caller (record { block = length code.blocks + 1; index = 0 }) (n + 1) behind c.values-size.ensures.sound in
     omega (arith, few)
 
-pub returns : goal.returns
-returns g c =
+pub returns-clause-behind : goal.returns-clause-behind
+returns-clause-behind g c =
     let p : Policy = policy_of c.args.policy in
     let m : Module = g.B.Bodies.functions c.args.bodies.now in
     let f : Function = c.args.own.now.function in
@@ -164,10 +183,10 @@ returns g c =
     c.plain_call_has_numbers.ensures c.tail_call_has_numbers.ensures c.try_call_has_numbers.ensures in
     let after = subst IsSound c.func.ensures c.values-count.ensures.sound in
     let behind = taken p m f c.requires.ready c.args.block l c.requires.own left code at n mid mid.whole h there c.splice_size_under.ensures c.in-Some-decided.taken decided
-    can c.block_behind.ensures.sound c.in_ok-caller.caller c.in_ok-caller.ensures after in
+    can c.block_behind.ensures.sound c.in_ok-caller.caller c.in_ok-caller.ensures.ok after in
     let new = new_is p m f c.requires.ready c.args.block l c.requires.own left code at n mid mid.whole h there c.splice_size_under.ensures c.in-Some-decided.taken decided
-    can c.block_behind.ensures.sound c.in_ok-caller.caller c.in_ok-caller.ensures after in
+    can c.block_behind.ensures.sound c.in_ok-caller.caller c.in_ok-caller.ensures.ok after in
     record {
       behind = subst (λ b. Behind (finishing p m f) left c.in_ok-caller.caller (record { block = b; index = 0 }) (n + 1)) (sym c.block_behind.ensures.number) behind;
-      size = decided.2 c.in_ok-caller.ensures.naming ∙ ap size_of (sym new);
+      size = decided.2 c.in_ok-caller.ensures.ok.naming ∙ ap size_of (sym new);
     }

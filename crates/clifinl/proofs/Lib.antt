@@ -5,4 +5,6 @@ pub mod Beginnings
 pub mod Spots
 pub mod RunEnds
 pub mod InlineEnds
+pub mod GenEnds
+pub mod Measures
 pub mod Asked

@@ -1,6 +1,6 @@
 -- What `gen` writes, and how it ends: it makes a module, and writes its text, or what the pass over it does, in numbers.
-use Rattle.std.specs.Prelude.{◌≡◌, ℕ, ◌+◌, ◌⊎◌, Bool, false, List, length, Option, Some, None, codes, decimal, ◌++◌, is_some}
-use Rattle.std.specs.Prelude.{if◌then◌else◌, slice_get}
+use Rattle.std.specs.Prelude.{◌≡◌, ℕ, ◌+◌, ◌⊎◌, Bool, false, List, ◌++◌, length, slice_get, count_by, codes, decimal}
+use Rattle.std.specs.Prelude.{Option, Some, None, is_some, if◌then◌else◌}
 use Rattle.clk_flow.specs.Faults.{Rose}
 use Rattle.gen_mod.specs.Generated.{generated}
 use Rattle.inline_pass.specs.Finished.{passed}
@@ -28,11 +28,8 @@ calls_within m f l =
       | Some callee ↦ is_some (find_function callee.name m)
     ]
 
-abbrev pub one_if : Bool → ℕ
-one_if b = if b then 1 else 0
-
 abbrev pub block_sites : Module → Function → Block → ℕ
-block_sites m f b = total (λ l. one_if (calls_within m f l)) b.lines
+block_sites m f b = count_by (calls_within m f) b.lines
 
 abbrev pub function_sites : Module → Function → ℕ
 function_sites m f = total (block_sites m f) f.blocks

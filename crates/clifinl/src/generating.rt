@@ -1,7 +1,7 @@
 //! The command `gen`.
 ghost use Rattle.std.specs.Prelude.{◌≡◌, ◌<◌, ◌⊎◌, IfOk};
 ghost use Rattle.ir_semantics.specs.Accepted.{Accepted};
-ghost use Rattle.ir_text.specs.Text.{text_of};
+ghost use Rattle.ir_text.specs.Writable.{Writable};
 ghost use Rattle.settings.specs.Shown.{gen_shown, inline_shown};
 ghost use Rattle.clifinl.specs.GenCommand.{gen_text, summary_of, summary_text};
 ghost use Rattle.clifinl.specs.InlineCommand.{policy_of};
@@ -38,6 +38,7 @@ pub(crate) fn generated<R: Threads + Wait + Sync, O: Sink, G: Gate>(
         (O.written out.old) (O.written out.new) (O.faults out.old) (O.faults out.new) result }
     ensures nothing { (out.new ≡ out.old) ⊎ ((result ≡ Status.Done) ⊎ (result ≡ Status.WriteFault)) }
 {
+    gen_mod::laws::generated_is_accepted();
     let Ok(module) = generate(alloc, options.number, options.functions) else {
         return Status::NoMemory;
     };
@@ -59,7 +60,8 @@ fn write_passed<R: Threads + Wait + Sync, O: Sink, G: Gate>(
     out: &mut O,
     gate: &G,
 ) -> Status
-    requires { Accepted «module» }
+    requires accepted { Accepted «module» }
+    requires writable { Writable «module» }
     ensures wrote { Wrote (summary_text (summary_of (policy_of (inline_shown options.now)) «module»))
         (O.written out.old) (O.written out.new) (O.faults out.old) (O.faults out.new) result }
     ensures nothing { (out.new ≡ out.old) ⊎ ((result ≡ Status.Done) ⊎ (result ≡ Status.WriteFault)) }
@@ -82,6 +84,7 @@ fn summarize<R: Threads + Wait + Sync, G: Gate, L: Ledger>(
     gate: &G,
     blank: Blank,
 ) -> Result<Summary, AllocError>
+    requires writable { Writable checked.now }
     requires blank { (blank.name ≡ L.name) × (blank.parts ≡ L.parts) × (0 < blank.parts) }
     ensures { IfOk result (λ s. measured s ≡ summary_of (policy_of (inline_shown options.now)) checked.now) }
 {

@@ -1,11 +1,12 @@
 //! What the pass does to a module, in numbers.
-ghost use Rattle.std.specs.Prelude.{◌≡◌, ◌+◌, ◌⊎◌, IfOk, OnOk, OnErr};
+ghost use Rattle.std.specs.Prelude.{◌≡◌, ◌+◌, ◌≤◌, ◌⊎◌, IfOk, OnOk, OnErr, count_by, map};
 ghost use Rattle.std.specs.Io.KnownBytes.{Appends};
 ghost use Rattle.clk_flow.specs.Faults.{HasCause};
 ghost use Rattle.clk_flow.specs.Whole.{AppendsPrefix};
-ghost use Rattle.ir_core.specs.Size.{capped, size_of, total};
+ghost use Rattle.ir_core.specs.Size.{size_of, total};
 ghost use Rattle.ir_core.specs.Uses.{callee_of};
 ghost use Rattle.ir_core.specs.Viewed.{instruction_of, line_of};
+ghost use Rattle.ir_text.specs.Writable.{Writable};
 ghost use Rattle.settings.specs.Shown.{inline_shown};
 ghost use Rattle.clifinl.specs.GenCommand.{calls_within, function_sites, sites_in, summary_of, summary_text};
 ghost use Rattle.clifinl.specs.InlineCommand.{policy_of};
@@ -53,9 +54,13 @@ pub(crate) fn measure<R: Threads + Wait + Sync, G: Gate, L: Ledger>(
     gate: &G,
     steps: &mut Steps<L>,
 ) -> Result<Summary, AllocError>
+    requires { Writable checked.now }
     ensures summary { IfOk result (λ s. measured s ≡ summary_of (policy_of (inline_shown options.now)) checked.now) }
     ensures steps { IfOk result (λ s. steps.new ≡ steps.old + s.steps) }
 {
+    inline_numbering::laws::same_is_renamed();
+    inline_numbering::laws::renamed_keeps_size();
+    inline_pass::laws::renumbered_finished_stay_writable();
     let module = checked.module();
     let policy = Policy {
         callee_size: options.callee_size,
@@ -76,7 +81,8 @@ pub(crate) fn measure<R: Threads + Wait + Sync, G: Gate, L: Ledger>(
 
 /// The sizes of all functions together.
 fn total_size(module: &Module) -> u128
-    ensures { result ≡ total (λ f. capped (size_of f)) «module».now }
+    requires { Writable «module».now }
+    ensures { result ≡ total size_of «module».now }
 {
     let mut size = 0u128;
     for i in 0..module.len() {
@@ -87,25 +93,36 @@ fn total_size(module: &Module) -> u128
 
 /// How many instructions call a function of the module.
 fn count_sites(module: &Module) -> u128
+    requires { Writable «module».now }
     ensures { result ≡ sites_in «module».now }
 {
     let mut sites = 0u128;
     for i in 0..module.len() {
-        sites += count_func_sites(module, module.func(i));
+        sites += count_func_sites(module, module.func(i)) as u128;
     }
     sites
 }
 
 /// How many instructions of a function call a function of the module.
-fn count_func_sites(module: &Module, func: &Func) -> u128
+fn count_func_sites(module: &Module, func: &Func) -> u64
+    requires { size_of func.now.function ≤ 262144 }
     ensures { result ≡ function_sites «module».now func.now.function }
 {
-    let mut sites = 0u128;
+    let mut sites = 0u64;
     for block in func.blocks() {
-        for line in func.inst_slice(block) {
-            if is_site(module, func, line) {
-                sites += 1;
-            }
+        sites += count_line_sites(module, func, func.inst_slice(block)) as u64;
+    }
+    sites
+}
+
+/// How many of these instructions of a function call a function of the module.
+fn count_line_sites(module: &Module, func: &Func, lines: &[InstData]) -> usize
+    ensures { result ≡ count_by (calls_within «module».now func.now.function) (map line_of lines.now) }
+{
+    let mut sites = 0usize;
+    for line in lines {
+        if is_site(module, func, line) {
+            sites += 1;
         }
     }
     sites

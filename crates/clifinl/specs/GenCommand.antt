@@ -1,4 +1,5 @@
--- What `gen` writes, and how it ends: it makes a module, and writes its text, or what the pass over it does, in numbers.
+-- What `gen` writes, and how it ends: it makes a module, and writes its text, or what the pass over it does, in
+-- numbers.
 use Rattle.std.specs.Prelude.{◌≡◌, ℕ, ◌+◌, ◌⊎◌, Bool, false, List, ◌++◌, length, slice_get, count_by, codes, decimal}
 use Rattle.std.specs.Prelude.{Option, Some, None, is_some, if◌then◌else◌}
 use Rattle.clk_flow.specs.Faults.{Rose}

@@ -301,8 +301,7 @@ fn runs_and_their_refusals(rt: HostRuntime) -> Result<(), AllocError> {
 const GENERATED: &[u8] = b"function %g0(i64) -> i64 fast {\n\
     block0(v0: i64):\n    v1 = iconst.i64 774\n    v2 = iadd v0, v1\n    return v2\n}\n";
 
-const SUMMARY: &[u8] =
-    b"functions 1\nsites 0\ninlined 0\nsize before 10\nsize after 10\nsteps 1\n";
+const SUMMARY: &[u8] = b"functions 1\nsites 0\ninlined 0\nsize before 10\nsize after 10\nsteps 1\n";
 
 #[test]
 fn a_generated_module(rt: HostRuntime) -> Result<(), AllocError> {

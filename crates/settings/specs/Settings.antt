@@ -16,8 +16,8 @@ pub record RunSettings : Type 0 where
   pub memory : ℕ
   pub steps : ℕ
 
--- the number that a module is made from, how many functions it has, whether its text is asked for, and the options of the
--- pass over it
+-- the number that a module is made from, how many functions it has, whether its text is asked for, and the options of
+-- the pass over it
 pub record GenSettings : Type 0 where
   pub number : ℕ
   pub functions : ℕ

@@ -1,0 +1,21 @@
+use Rattle.std.proofs.lemmas.Grind.{common_steps}
+use Rattle.std.proofs.Common.{arith, ◌≡◌, ℕ, List, subst, OnOk, OnErr}
+use Rattle.std.specs.Io.KnownBytes.{Appends}
+use Rattle.clk_flow.specs.Whole.{AppendsPrefix}
+use Rattle.clifinl.specs.GenCommand.{summary_text}
+use Rattle.clifinl.specs.Measured.{measured}
+use Rattle.clifinl.proofs.summary.put_summary.Goals as goal
+
+pub returns-clause-whole : goal.returns-clause-whole
+returns-clause-whole g c =
+    let lines : List ℕ = summary_text (measured c.args.summary.now) in
+    let Told : List ℕ → Type 0 = λ bytes. OnOk c.put_all.result (Appends (g.K.Sink.written c.args.sink.now) (g.K.Sink.written c.put_all.new.sink) bytes) in
+    let told : (bytes : List ℕ) → Told bytes → bytes ≡ lines → Told lines = λ bytes whole same. subst Told same whole in
+    told _ c.put_all.ensures.whole (grind (arith, common_steps))
+
+pub returns-clause-part : goal.returns-clause-part
+returns-clause-part g c =
+    let lines : List ℕ = summary_text (measured c.args.summary.now) in
+    let Told : List ℕ → Type 0 = λ bytes. OnErr c.put_all.result (AppendsPrefix (g.K.Sink.written c.args.sink.now) (g.K.Sink.written c.put_all.new.sink) bytes) in
+    let told : (bytes : List ℕ) → Told bytes → bytes ≡ lines → Told lines = λ bytes part same. subst Told same part in
+    told _ c.put_all.ensures.part (grind (arith, common_steps))

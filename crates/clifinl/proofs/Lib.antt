@@ -7,4 +7,5 @@ pub mod RunEnds
 pub mod InlineEnds
 pub mod GenEnds
 pub mod Measures
+pub mod Bounds
 pub mod Asked

@@ -6,5 +6,5 @@ use Rattle.clifinl.proofs.summary.count_sites.Given as goal
 abbrev pub invariant-loop-i : goal.invariant-loop-i
 invariant-loop-i l = record {
   sum : l.sites ≡ total (function_sites l.«module») (take l.i l.«module»);
-  bound : l.sites ≤ 18446744073709551615 * l.i;
+  bound : l.sites ≤ 262144 * l.i;
 }

@@ -5,5 +5,5 @@ use Rattle.clifinl.proofs.summary.total_size.Given as goal
 abbrev pub invariant-loop-i : goal.invariant-loop-i
 invariant-loop-i l = record {
   sum : l.size ≡ total size_of (take l.i l.«module»);
-  bound : l.size ≤ 18446744073709551615 * l.i;
+  bound : l.size ≤ 262144 * l.i;
 }

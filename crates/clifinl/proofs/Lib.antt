@@ -6,6 +6,7 @@ pub mod Spots
 pub mod RunEnds
 pub mod InlineEnds
 pub mod GenEnds
+pub mod Examples
 pub mod Measures
 pub mod Bounds
 pub mod Asked

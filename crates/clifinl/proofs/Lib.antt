@@ -5,4 +5,8 @@ pub mod Beginnings
 pub mod Spots
 pub mod RunEnds
 pub mod InlineEnds
+pub mod GenEnds
+pub mod Examples
+pub mod Measures
+pub mod Bounds
 pub mod Asked

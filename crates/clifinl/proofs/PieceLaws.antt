@@ -24,3 +24,13 @@ cut_within whole before piece front rest after around cut =
 pub on_err : {T E P : Type 0} (r : Result T E) → P → OnErr r P
 on_err (Ok v) p = tt
 on_err (Err e) p = p
+
+-- ---- pieces joined from the left
+
+abbrev pub joined : List ℕ → List (List ℕ) → List ℕ
+joined front [] = front
+joined front (piece ∷ pieces) = joined (front ++ piece) pieces
+
+pub joined_is : (front : List ℕ) (pieces : List (List ℕ)) → front ++ flat_map (λ piece. piece) pieces ≡ joined front pieces
+joined_is front [] = append-nil front
+joined_is front (piece ∷ pieces) = sym (append_assoc front piece (flat_map (λ piece. piece) pieces)) ∙ joined_is (front ++ piece) pieces

@@ -11,6 +11,7 @@ ghost use Rattle.clifinl.specs.Lines.{line_of};
 ghost use Rattle.clifinl.specs.Runs.{outside};
 
 use crate::commands::{check, print};
+use crate::generating::generated;
 use crate::inlining::inline;
 use crate::report::tell;
 use crate::running::run;
@@ -40,14 +41,16 @@ fn carry_out<R: Threads + Wait + Sync, I: Source, O: Sink, G: Gate>(
         Settings::Print => print(rt, alloc, input, out),
         Settings::Inline(options) => inline(rt, alloc, options, input, out, gate),
         Settings::Run(options) => run(rt, alloc, options, input, out),
+        Settings::Gen(options) => generated(rt, alloc, options, out, gate),
     }
 }
 
 /// All that the program does, by the words of its command line: `check` and `print` read a module from `input`, and
 /// write to `out` how many functions it has, and its canonical text; `run` runs a function of it, and writes what the
 /// run did; `inline` writes the canonical text of the module with its calls inlined, from callees to callers, as the
-/// sizes of the settings allow, and tells the gate of each function that a worker begins. A refusal is told on `err`
-/// in one line.
+/// sizes of the settings allow, and tells the gate of each function that a worker begins; `gen` reads nothing, makes a
+/// module, and writes its canonical text, or in numbers what inlining its calls does. A refusal is told on `err` in one
+/// line.
 pub fn command<R: Threads + Wait + Sync, I: Source, O: Sink, E: Sink, G: Gate>(
     rt: &R,
     alloc: Global,

@@ -3,12 +3,14 @@
 
 mod command;
 mod commands;
+mod generating;
 mod inlining;
 mod pieces;
 mod reading;
 mod report;
 mod running;
 mod status;
+mod summary;
 #[cfg(test)]
 mod tests;
 mod writing;

@@ -297,3 +297,25 @@ fn runs_and_their_refusals(rt: HostRuntime) -> Result<(), AllocError> {
     }
     Ok(())
 }
+
+const GENERATED: &[u8] = b"function %g0(i64) -> i64 fast {\n\
+    block0(v0: i64):\n    v1 = iconst.i64 774\n    v2 = iadd v0, v1\n    return v2\n}\n";
+
+const SUMMARY: &[u8] = b"functions 1\nsites 0\ninlined 0\nsize before 10\nsize after 10\nsteps 1\n";
+
+#[test]
+fn a_generated_module(rt: HostRuntime) -> Result<(), AllocError> {
+    let numbers = ["gen", "--number", "1", "--functions", "1"];
+    let text = ["gen", "--number", "1", "--functions", "1", "--text"];
+    for (words, output) in [(numbers.as_slice(), SUMMARY), (text.as_slice(), GENERATED)] {
+        // The source, whose first call fails, is not read.
+        let ran = run_command(&rt, rt.alloc(), words, INPUT, 0, 1000)?;
+        assert!(rt; ran.status == Status::Done);
+        assert!(rt; ran.out.bytes() == output);
+        assert!(rt; ran.err.bytes().is_empty());
+        let cut = run_command(&rt, rt.alloc(), words, INPUT, 0, 20)?;
+        assert!(rt; cut.status == Status::WriteFault);
+        assert!(rt; cut.out.bytes() == &output[..20]);
+    }
+    Ok(())
+}

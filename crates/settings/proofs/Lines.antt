@@ -17,13 +17,16 @@ some_are_refused = record {
   no_worker = refl;
   many_workers = refl;
   large_callee = refl;
+  no_count = refl;
+  no_function = refl;
+  many_functions = refl;
   repeated = refl;
 }
 
 pub some_have_settings : SomeHaveSettings
 unfolding clap_on_literals number_of
-some_have_settings = record { check = refl; print = refl; inline = refl; run = refl }
+some_have_settings = record { check = refl; print = refl; inline = refl; run = refl; gen = refl; gen_text = refl }
 
 pub tables_are_simple : TablesAreSimple
 unfolding clap_on_literals
-tables_are_simple = record { now = refl; whole = refl; gen = refl; gen_alone = refl }
+tables_are_simple = record { now = refl; whole = refl }

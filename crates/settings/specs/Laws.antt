@@ -1,8 +1,7 @@
 -- What the table says of some command lines, without the program's name.
-use Rattle.std.specs.Prelude.{◌≡◌, List, [], ◌∷◌, Some, None, codes, true}
-use Rattle.clap.specs.Words.{Text, fault_of, is_simple_and_free}
-use Rattle.clap.specs.declared.error.kind.ErrorKind.TheVariants as kind
-use Rattle.settings.specs.Settings.{Settings, Check, Print, Inline, Run}
+use Rattle.std.specs.Prelude.{◌≡◌, List, [], ◌∷◌, Some, None, codes, false, true}
+use Rattle.clap.specs.Words.{Text, is_simple_and_free}
+use Rattle.settings.specs.Settings.{Settings, Check, Print, Inline, Run, Gen, InlineSettings}
 use Rattle.settings.specs.Table.{table, whole_table}
 use Rattle.settings.specs.Meaning.{settings_of}
 
@@ -17,25 +16,34 @@ pub record SomeAreRefused : Type 0 where
   pub help : AreRefused (codes "--help" ∷ [])
   pub help_of_a_command : AreRefused (codes "run" ∷ codes "--help" ∷ [])
   pub no_command : AreRefused (codes "optimise" ∷ [])
-  pub not_there_yet : AreRefused (codes "gen" ∷ codes "--functions" ∷ codes "9" ∷ [])
+  pub not_there_yet : AreRefused (codes "test" ∷ [])
   pub two_commands : AreRefused (codes "check" ∷ codes "check" ∷ [])
   pub no_entry : AreRefused (codes "run" ∷ [])
   pub no_worker : AreRefused (codes "inline" ∷ codes "--workers" ∷ codes "0" ∷ [])
   pub many_workers : AreRefused (codes "inline" ∷ codes "--workers" ∷ codes "65" ∷ [])
   pub large_callee : AreRefused (codes "inline" ∷ codes "--callee-size" ∷ codes "262145" ∷ [])
+  pub no_count : AreRefused (codes "gen" ∷ codes "--number" ∷ codes "1" ∷ [])
+  pub no_function : AreRefused (codes "gen" ∷ codes "--functions" ∷ codes "0" ∷ [])
+  pub many_functions : AreRefused (codes "gen" ∷ codes "--functions" ∷ codes "20001" ∷ [])
   pub repeated : AreRefused (codes "inline" ∷ codes "--workers" ∷ codes "1" ∷ codes "--workers" ∷ codes "2" ∷ [])
+
+-- the options of the pass where the words say nothing of them
+abbrev pub usual : InlineSettings
+usual = record { callee_size = 64; caller_size = 4096; workers = 4 }
 
 pub record SomeHaveSettings : Type 0 where
   pub check : Have Check (codes "check" ∷ [])
   pub print : Have Print (codes "print" ∷ [])
-  pub inline : Have (Inline (record { callee_size = 64; caller_size = 4096; workers = 4 })) (codes "inline" ∷ [])
+  pub inline : Have (Inline usual) (codes "inline" ∷ [])
   pub run : Have (Run (record { entry = codes "%f"; args = codes "-5"; script = []; memory = 65536; steps = 1000000 }))
       (codes "run" ∷ codes "--entry" ∷ codes "%f" ∷ codes "--args=-5" ∷ [])
+  pub gen : Have (Gen (record { number = 0; functions = 9; text = false; pass = usual }))
+      (codes "gen" ∷ codes "--functions" ∷ codes "9" ∷ [])
+  pub gen_text : Have (Gen (record { number = 18446744073709551615; functions = 20000; text = true; pass = usual }))
+      (codes "gen" ∷ codes "--text" ∷ codes "--functions" ∷ codes "20000" ∷ codes "--number"
+      ∷ codes "18446744073709551615" ∷ [])
 
 -- `clap`'s clauses speak of these tables
 pub record TablesAreSimple : Type 0 where
   pub now : is_simple_and_free table ≡ true
   pub whole : is_simple_and_free whole_table ≡ true
-  pub gen : fault_of whole_table (codes "clifinl" ∷ codes "gen" ∷ codes "--functions" ∷ codes "20000" ∷ codes "--text"
-      ∷ []) ≡ []
-  pub gen_alone : fault_of whole_table (codes "clifinl" ∷ codes "gen" ∷ []) ≡ kind.MissingRequiredArgument ∷ []

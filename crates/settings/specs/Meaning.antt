@@ -2,9 +2,9 @@
 use Rattle.std.specs.Prelude.{◌≡◌, List, [], ◌∷◌, Option, Some, None, codes, if◌then◌else◌, option_map, string_bytes}
 use Rattle.std.specs.Str.{bytes_eq}
 use Rattle.clap.specs.Words.{Row, Text, Kinds, fault_of, first_of, subcommand_of}
-use Rattle.settings.specs.Options.{given, number_in}
-use Rattle.settings.specs.Settings.{Settings, Check, Print, Inline, Run, InlineSettings, RunSettings}
-use Rattle.settings.specs.Table.{table, callee_size, caller_size, workers, memory, steps}
+use Rattle.settings.specs.Options.{given, is_set, number_in}
+use Rattle.settings.specs.Settings.{Settings, Check, Print, Inline, Run, Gen, InlineSettings, RunSettings, GenSettings}
+use Rattle.settings.specs.Table.{table, callee_size, caller_size, workers, memory, steps, number, functions}
 
 -- ---- by the rows of the options
 
@@ -24,6 +24,13 @@ run_settings rows =
     given (number_in steps rows) (λ most.
     Some (record { entry = function; args = values; script = answers; memory = bytes; steps = most }))))))
 
+abbrev pub gen_settings : List Row → Option GenSettings
+gen_settings rows =
+    given (number_in number rows) (λ start.
+    given (number_in functions rows) (λ count.
+    given (inline_settings rows) (λ options.
+    Some (record { number = start; functions = count; text = is_set (codes "text") rows; pass = options }))))
+
 -- ---- by the command
 
 abbrev pub settings_named : Text → List Row → Option Settings
@@ -32,6 +39,7 @@ settings_named name rows =
     else if bytes_eq name (codes "print") then Some Print
     else if bytes_eq name (codes "inline") then option_map (λ s. Inline s) (inline_settings rows)
     else if bytes_eq name (codes "run") then option_map (λ s. Run s) (run_settings rows)
+    else if bytes_eq name (codes "gen") then option_map (λ s. Gen s) (gen_settings rows)
     else None
 
 abbrev pub settings_at : Option (Text × List Row) → Option Settings

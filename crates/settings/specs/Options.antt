@@ -1,5 +1,7 @@
 -- The kinds of option: how the command table has one, and how its value is read. Each is a long option with one value.
-use Rattle.std.specs.Prelude.{ℕ, List, [], ◌∷◌, Option, Some, None, true, nat_lt, nat_le, ◌&&◌, if◌then◌else◌, length}
+use Rattle.std.specs.Prelude.{ℕ, List, [], ◌∷◌, Option, Some, None, Bool, true, false, length, codes}
+use Rattle.std.specs.Prelude.{nat_lt, nat_le, ◌&&◌, if◌then◌else◌}
+use Rattle.std.specs.Str.{bytes_eq}
 use Rattle.std.specs.List.{list_all}
 use Rattle.std.specs.Str.Parse.{digits_value, without_leading_plus}
 use Rattle.std.specs.Char.{digit_value}
@@ -52,3 +54,7 @@ given (Some value) next = next value
 
 abbrev pub number_in : Number → List Row → Option ℕ
 number_in o rows = given (first_of o.name rows) (number_of o.least o.most)
+
+-- a flag is given where its value is `true`
+abbrev pub is_set : Text → List Row → Bool
+is_set name rows = elim (first_of name rows) [ None ↦ false | Some value ↦ bytes_eq value (codes "true") ]

@@ -1,5 +1,5 @@
 -- What the words of a command line ask for: the command with the values of its options.
-use Rattle.std.specs.Prelude.{ℕ, List}
+use Rattle.std.specs.Prelude.{ℕ, List, Bool}
 
 -- the size policy of the inliner, and how many workers share the job
 pub record InlineSettings : Type 0 where
@@ -16,8 +16,17 @@ pub record RunSettings : Type 0 where
   pub memory : ℕ
   pub steps : ℕ
 
+-- the number that a module is made from, how many functions it has, whether its text is asked for, and the options of
+-- the pass over it
+pub record GenSettings : Type 0 where
+  pub number : ℕ
+  pub functions : ℕ
+  pub text : Bool
+  pub pass : InlineSettings
+
 pub data Settings : Type 0 where
   Check : Settings
   Print : Settings
   Inline : InlineSettings → Settings
   Run : RunSettings → Settings
+  Gen : GenSettings → Settings

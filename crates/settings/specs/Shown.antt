@@ -2,9 +2,10 @@
 use Rattle.std.specs.Prelude.{string_bytes}
 use Rattle.settings.specs.Settings as spec
 use Rattle.settings.specs.declared.requests.Settings.{Settings}
-use Rattle.settings.specs.declared.requests.Settings.TheVariants.{Check, Print, Inline, Run}
+use Rattle.settings.specs.declared.requests.Settings.TheVariants.{Check, Print, Inline, Run, Gen}
 use Rattle.settings.specs.declared.requests.InlineSettings.{InlineSettings}
 use Rattle.settings.specs.declared.requests.RunSettings.{RunSettings}
+use Rattle.settings.specs.declared.requests.GenSettings.{GenSettings}
 
 abbrev pub inline_shown : InlineSettings → spec.InlineSettings
 inline_shown s = record { callee_size = s.callee_size; caller_size = s.caller_size; workers = s.workers }
@@ -18,8 +19,12 @@ run_shown s = record {
   steps = s.steps;
 }
 
+abbrev pub gen_shown : GenSettings → spec.GenSettings
+gen_shown s = record { number = s.number; functions = s.functions; text = s.text; pass = inline_shown s.pass }
+
 abbrev pub shown : Settings → spec.Settings
 shown Check = spec.Check
 shown Print = spec.Print
 shown (Inline s) = spec.Inline (inline_shown s)
 shown (Run s) = spec.Run (run_shown s)
+shown (Gen s) = spec.Gen (gen_shown s)

@@ -56,11 +56,11 @@ table_of commands =
 -- the commands that are there
 abbrev pub commands : List Shape
 commands = command (codes "check") [] ∷ command (codes "print") [] ∷ command (codes "inline") inline_options
-    ∷ command (codes "run") run_options ∷ []
+    ∷ command (codes "run") run_options ∷ command (codes "gen") gen_options ∷ []
 
 abbrev pub table : App
 table = table_of commands
 
--- the whole table, with the commands that are still to come
+-- the whole table, with the command that is still to come
 abbrev pub whole_table : App
-whole_table = table_of (commands ++ command (codes "test") [] ∷ command (codes "gen") gen_options ∷ [])
+whole_table = table_of (commands ++ command (codes "test") [] ∷ [])

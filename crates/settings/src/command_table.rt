@@ -2,11 +2,11 @@
 ghost use Rattle.std.specs.Prelude.{◌≡◌, IfOk, [], false, codes};
 ghost use Rattle.clap.specs.Words.{app_of, rule_of, shape_of};
 ghost use Rattle.clap.specs.declared.builder.command.Command.TheViews.{out-Command};
-ghost use Rattle.settings.specs.Options.{number_or, required_text, text_or_empty};
+ghost use Rattle.settings.specs.Options.{flag, number_or, required_number, required_text, text_or_empty};
 ghost use Rattle.settings.specs.Table as spec;
 
 use clap::builder::ValueParser;
-use clap::{Arg, Command};
+use clap::{Arg, ArgAction, Command};
 use std::alloc::{AllocError, Global};
 
 /// `clifinl` with its commands, one of which has to be named.
@@ -17,12 +17,14 @@ pub(crate) fn command_table<'a>(alloc: Global) -> Result<Command<'a>, AllocError
     let print = plain_command(alloc, "print");
     let inline = inline_command(alloc)?;
     let run = run_command(alloc)?;
+    let generating = gen_command(alloc)?;
     Command::new(alloc, "clifinl")
         .subcommand_required(true)
         .subcommand(check)?
         .subcommand(print)?
         .subcommand(inline)?
-        .subcommand(run)
+        .subcommand(run)?
+        .subcommand(generating)
 }
 
 fn plain_command<'a>(alloc: Global, name: &'a str) -> Command<'a>
@@ -36,9 +38,9 @@ fn inline_command<'a>(alloc: Global) -> Result<Command<'a>, AllocError>
         × ((out-Command c).has_globals ≡ false)) }
 {
     Command::new(alloc, "inline")
-        .arg(number_option(alloc, "callee-size", 0, 262_144, "64"))?
-        .arg(number_option(alloc, "caller-size", 0, 262_144, "4096"))?
-        .arg(number_option(alloc, "workers", 1, 64, "4"))
+        .arg(callee_size_option(alloc))?
+        .arg(caller_size_option(alloc))?
+        .arg(workers_option(alloc))
 }
 
 fn run_command<'a>(alloc: Global) -> Result<Command<'a>, AllocError>
@@ -51,6 +53,40 @@ fn run_command<'a>(alloc: Global) -> Result<Command<'a>, AllocError>
         .arg(text_option(alloc, "script"))?
         .arg(number_option(alloc, "memory", 0, 16_777_216, "65536"))?
         .arg(number_option(alloc, "steps", 0, 1_000_000_000, "1000000"))
+}
+
+fn gen_command<'a>(alloc: Global) -> Result<Command<'a>, AllocError>
+    ensures { IfOk result (λ c. (shape_of c ≡ spec.command (codes "gen") spec.gen_options)
+        × ((out-Command c).has_globals ≡ false)) }
+{
+    Command::new(alloc, "gen")
+        .arg(number_option(alloc, "number", 0, u64::MAX, "0"))?
+        .arg(required_number_option(alloc, "functions", 1, 20_000))?
+        .arg(flag_option(alloc, "text"))?
+        .arg(callee_size_option(alloc))?
+        .arg(caller_size_option(alloc))?
+        .arg(workers_option(alloc))
+}
+
+/// The largest size of a callee that is inlined.
+fn callee_size_option<'a>(alloc: Global) -> Arg<'a>
+    ensures { (rule_of result ≡ number_or spec.callee_size (codes "64")) × (result.global ≡ false) }
+{
+    number_option(alloc, "callee-size", 0, 262_144, "64")
+}
+
+/// The largest size that a caller may grow to.
+fn caller_size_option<'a>(alloc: Global) -> Arg<'a>
+    ensures { (rule_of result ≡ number_or spec.caller_size (codes "4096")) × (result.global ≡ false) }
+{
+    number_option(alloc, "caller-size", 0, 262_144, "4096")
+}
+
+/// How many workers share the job.
+fn workers_option<'a>(alloc: Global) -> Arg<'a>
+    ensures { (rule_of result ≡ number_or spec.workers (codes "4")) × (result.global ≡ false) }
+{
+    number_option(alloc, "workers", 1, 64, "4")
 }
 
 /// An option whose value is a number from `least` to `most`, or else `usual`.
@@ -77,4 +113,22 @@ fn required_option<'a>(alloc: Global, name: &'a str) -> Arg<'a>
     ensures { (rule_of result ≡ required_text name.entry.now) × (result.global ≡ false) }
 {
     Arg::new(alloc, name).long(name).required(true)
+}
+
+/// An option whose value is a number from `least` to `most` that has to be given.
+fn required_number_option<'a>(alloc: Global, name: &'a str, least: u64, most: u64) -> Arg<'a>
+    ensures { (rule_of result ≡ required_number (record { name = name.entry.now; least = least; most = most }))
+        × (result.global ≡ false) }
+{
+    Arg::new(alloc, name)
+        .long(name)
+        .value_parser(ValueParser::unsigned(least, most))
+        .required(true)
+}
+
+/// An option without a value, which is given or not.
+fn flag_option<'a>(alloc: Global, name: &'a str) -> Arg<'a>
+    ensures { (rule_of result ≡ flag name.entry.now) × (result.global ≡ false) }
+{
+    Arg::new(alloc, name).long(name).action(ArgAction::SetTrue)
 }

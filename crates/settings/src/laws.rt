@@ -11,7 +11,7 @@ pub fn some_have_settings()
     ensures { SomeHaveSettings }
 {}
 
-/// The table, and the one with the commands that are still to come, are of the kind that `clap`'s clauses speak of.
+/// The table, and the one with the command that is still to come, are of the kind that `clap`'s clauses speak of.
 pub fn tables_are_simple()
     ensures { TablesAreSimple }
 {}

@@ -9,4 +9,4 @@ mod requests;
 mod tests;
 
 pub use reading::{Stopped, read_settings};
-pub use requests::{InlineSettings, RunSettings, Settings};
+pub use requests::{GenSettings, InlineSettings, RunSettings, Settings};

@@ -2,12 +2,12 @@
 ghost use Rattle.std.specs.Prelude.{◌≡◌, ◌≢◌, ◌≤◌, IfOk, IfErr, IfSome, map, None, Some, option_map, string_bytes};
 ghost use Rattle.clap.specs.Words.{found_of, first_of, kind_of, rows_of, subcommand_rows_of};
 ghost use Rattle.clap.specs.declared.error.kind.ErrorKind.TheVariants as kind;
-ghost use Rattle.settings.specs.Options.{number_in, number_of};
+ghost use Rattle.settings.specs.Options.{is_set, number_in, number_of};
 ghost use Rattle.settings.specs.Meaning as meaning;
-ghost use Rattle.settings.specs.Shown.{inline_shown, run_shown, shown};
+ghost use Rattle.settings.specs.Shown.{gen_shown, inline_shown, run_shown, shown};
 
 use crate::command_table::command_table;
-use crate::requests::{InlineSettings, RunSettings, Settings};
+use crate::requests::{GenSettings, InlineSettings, RunSettings, Settings};
 use clap::ArgMatches;
 use clap::error::ErrorKind;
 use std::alloc::{AllocError, Global};
@@ -93,6 +93,8 @@ fn find_settings(alloc: Global, matches: &ArgMatches) -> Result<Option<Settings>
         Ok(inline_settings(options).map(Settings::Inline))
     } else if name == "run" {
         Ok(run_settings(alloc, options)?.map(Settings::Run))
+    } else if name == "gen" {
+        Ok(gen_settings(options).map(Settings::Gen))
     } else {
         Ok(None)
     }
@@ -136,6 +138,30 @@ fn run_settings(alloc: Global, matches: &ArgMatches) -> Result<Option<RunSetting
         memory: memory as usize,
         steps,
     }))
+}
+
+fn gen_settings(matches: &ArgMatches) -> Option<GenSettings>
+    ensures { option_map gen_shown result ≡ meaning.gen_settings (rows_of (found_of matches.now)) }
+{
+    let number_given = number(matches, "number", 0, u64::MAX)?;
+    let functions = number(matches, "functions", 1, 20_000)?;
+    let pass = inline_settings(matches)?;
+    Some(GenSettings {
+        number: number_given,
+        functions: functions as u32,
+        text: is_set(matches, "text"),
+        pass,
+    })
+}
+
+/// Whether the flag is given.
+fn is_set(matches: &ArgMatches, name: &str) -> bool
+    ensures { result ≡ is_set name.now (rows_of (found_of matches.now)) }
+{
+    match text(matches, name) {
+        Some(value) => value == "true",
+        None => false,
+    }
 }
 
 /// The number from `least` to `most` that the option's value means.

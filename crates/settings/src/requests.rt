@@ -12,6 +12,8 @@ pub enum Settings {
     Inline(InlineSettings),
     /// `run`: what a run of a function does.
     Run(RunSettings),
+    /// `gen`: what the pass does to a generated module, or the text of that module.
+    Gen(GenSettings),
 }
 
 /// The options of `inline`.
@@ -44,4 +46,19 @@ pub struct RunSettings {
     pub steps: u64,
     pub ghost memory_in_range: { memory ≤ 16777216 },
     pub ghost steps_in_range: { steps ≤ 1000000000 },
+}
+
+/// The options of `gen`.
+#[derive(Clone, Copy, Debug)]
+pub struct GenSettings {
+    /// The number from which the module is made.
+    pub number: u64,
+    /// How many functions the module has.
+    pub functions: u32,
+    /// Whether the text of the module is asked for.
+    pub text: bool,
+    /// The options of the pass.
+    pub pass: InlineSettings,
+    pub ghost some_functions: { 1 ≤ functions },
+    pub ghost few_functions: { functions ≤ 20000 },
 }

@@ -1,3 +1,5 @@
+use Rattle.std.proofs.Common.{refl}
+use Rattle.clifinl.proofs.GenEnds.{gen_run}
 use Rattle.clifinl.proofs.command.carry_out.Goals as goal
 
 pub returns-in-Check-clause-run : goal.returns-in-Check-clause-run
@@ -11,3 +13,6 @@ returns-in-Inline-clause-run g c = rw c.in-Inline.is c.inline.ensures.run
 
 pub returns-in-Run-clause-run : goal.returns-in-Run-clause-run
 returns-in-Run-clause-run g c = rw c.in-Run.is c.run.ensures.run
+
+pub returns-in-Gen-clause-run : goal.returns-in-Gen-clause-run
+returns-in-Gen-clause-run g c = rw c.in-Gen.is (gen_run _ _ _ _ (record { left = refl; faults = refl }) c.generated.ensures.wrote)

@@ -14,5 +14,6 @@ invariant-loop-i l = record {
   bodies : (j t : ℕ) → j < l.i → slice_get l.plan.tickets.items j ≡ Some t → slice_get l.initial.cells.items t ≢ Some Refused;
   made : SameUpToNumbering (map (finished (policy_of l.fn.policy) l.«module») (take l.i l.«module»)) l.passed;
   inlined : l.inlined ≡ sum (map (inlined (policy_of l.fn.policy) l.«module») (take l.i l.«module»));
+  by_function : l.inlined_by_function.items ≡ map (inlined (policy_of l.fn.policy) l.«module») (take l.i l.«module»);
   bound : l.inlined ≤ 18446744073709551615 * l.i;
 }

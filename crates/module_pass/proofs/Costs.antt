@@ -2,8 +2,8 @@
 use Rattle.std.proofs.Common.{◌≡◌, ℕ, zero, suc, ◌+◌, ◌<◌, List, [], ◌∷◌, length, map, sum, set, replicate}
 use Rattle.std.proofs.Common.{Option, Some, None, refl, arith}
 use Rattle.std.specs.Prelude.{slice_get}
+use Rattle.std.proofs.lemmas.List.{length-replicate}
 use Rattle.std.proofs.lemmas.List.Sums.{sum_by-cons}
-use Rattle.std.proofs.lemmas.Option.{slice_get_within}
 use Rattle.ir_core.specs.Module.{Function, Module}
 use Rattle.call_graph.proofs.Numbers.{some_at}
 use Rattle.inline_pass.specs.Inlined.{inlined, all_inlined}
@@ -19,9 +19,24 @@ cost [] = 0
 cost (None ∷ places) = cost places
 cost (Some b ∷ places) = 1 + b.inlined + cost places
 
-pub cost_none : (n : ℕ) → cost (replicate n None) ≡ 0
-cost_none zero = refl
-cost_none (suc n) = cost_none n
+-- ---- empty places
+
+abbrev pub nothing : ℕ → List (Option Built)
+nothing n = replicate n None
+
+pub nothing_long : (n : ℕ) → length (nothing n) ≡ n
+nothing_long n = let none : Option Built = None in length-replicate n none
+
+pub nothing_at : (n k : ℕ) → k < n → slice_get (nothing n) k ≡ Some None
+nothing_at zero k l = absurd (omega (arith, l))
+nothing_at (suc n) zero l = refl
+nothing_at (suc n) (suc k) l = nothing_at n k (omega (arith, l))
+
+pub nothing_costs : (n : ℕ) → cost (nothing n) ≡ 0
+nothing_costs zero = refl
+nothing_costs (suc n) = nothing_costs n
+
+-- ---- one body more
 
 -- a body in a place that was empty
 pub cost_more :
@@ -32,6 +47,8 @@ cost_more (None ∷ places) zero b e = omega arith
 cost_more (Some a ∷ places) zero b e = absurd cc
 cost_more (None ∷ places) (suc k) b e = cost_more places k b e
 cost_more (Some a ∷ places) (suc k) b e = let h = cost_more places k b e in omega arith
+
+-- ---- all bodies
 
 -- in this place is a body with as many inlined sites as g says of its function
 abbrev IsAt : (Function → ℕ) → List (Option Built) → Module → ℕ → Type 0

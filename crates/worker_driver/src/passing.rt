@@ -25,8 +25,8 @@ use std::thread::Threads;
 use step_counter::Steps;
 
 /// The finished bodies of an accepted module by so many workers, and how many sites were inlined, in all and into each
-/// function: the same for each number of workers, and whatever the order in which they run. The counter rises by one for
-/// each function and one for each inlined site.
+/// function: the same for each number of workers, and whatever the order in which they run. The counter rises by one
+/// for each function and one for each inlined site.
 ///
 /// # Errors
 ///

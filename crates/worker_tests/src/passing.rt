@@ -1,5 +1,5 @@
-//! What no clause says: that memory suffices for a small module, of which several workers make what one thread does, also
-//! where the first of them is held.
+//! What no clause says: that memory suffices for a small module, of which several workers make what one thread makes,
+//! also where the first of them is held.
 ghost use Rattle.std.specs.Prelude.{◌≡◌, ◌≤◌, ◌<◌};
 ghost use Rattle.inline_finish.specs.Building.{IsLimited};
 
@@ -19,8 +19,8 @@ use std::sync::ledger::{Blank, Ledger};
 use std::thread::Threads;
 use worker_driver::{Steps, pass_with};
 
-/// A function that calls none, which has ticket 0; a chain of calls, %a, %b and %c, which have the tickets 3, 2 and 1; and
-/// two functions that call each other.
+/// A function that calls none, which has ticket 0; a chain of calls, `%a`, `%b` and `%c`, which have the tickets 3, 2
+/// and 1; and two functions that call each other.
 const TEXT: &str = "function %z(i64) -> i64 fast {
 block0(v0: i64):
     v1 = iadd v0, v0

@@ -6,11 +6,26 @@ use Rattle.std.proofs.lemmas.Option.{slice_get_within}
 use Rattle.ir_core.proofs.Order.{get_set_other}
 use Rattle.ir_core.specs.Module.{Module}
 use Rattle.inline_finish.specs.declared.bodies.Built.{Built}
-use Rattle.module_pass.specs.Places.{IsFilled}
-use Rattle.module_pass.proofs.Costs.{cost, cost_more, cost_all}
+use Rattle.inline_finish.specs.declared.bodies.Policy.{Policy}
+use Rattle.module_pass.specs.Places.{AreBuilt, IsFilled, AllFilled}
+use Rattle.module_pass.proofs.Costs.{cost, nothing, nothing_long, nothing_at, nothing_costs, cost_more, cost_all}
 use Rattle.module_pass.proofs.Filled.{if_some, filled_here, filled_still}
 use Rattle.module_pass.proofs.InTurn.{below, item_at, turn_of, one_turn, has_callees}
 use Rattle.module_pass.proofs.passing.bodies.Goals as goal
+
+pub loop-func-init : goal.loop-func-init
+loop-func-init g c =
+    let m = c.args.«module».now in let same = c.«module».ensures.same in
+    let none : c.in_ok-places.places.built ≡ nothing (length m) =
+    c.in_ok-places.ensures.none ∙ ap (λ (fs : Module). nothing (length fs)) same in
+    record {
+      kind = (c.in_ok-places.ensures.kind.0 ∙ same, c.in_ok-places.ensures.kind.1);
+      long = ap length none ∙ nothing_long (length m);
+      left = λ t k l e. ap (λ (ps : List (Option Built)). slice_get ps k) none
+          ∙ nothing_at (length m) k (below m c.requires.names c.args.order.now c.requires.order t k e);
+      steps = let z = ap cost none ∙ nothing_costs (length m) in omega (arith, z);
+      done = λ t k l e. absurd (omega (arith, l));
+    }
 
 pub finish_body-requires-clause-there : goal.finish_body-requires-clause-there
 finish_body-requires-clause-there g c =
@@ -51,7 +66,7 @@ loop-func-preserved g c =
           (at ∙ ap (λ (z : ℕ). Some z) (sym q)) in omega (arith, one, l))
           ∙ i.left s n (omega (arith, l)) e);
       steps = let more = ap cost c.put.ensures.more ∙ cost_more places k b (i.left t k (omega arith) at) in
-          let was = i.steps in omega arith;
+          let was = i.steps in let rose = c.in_ok-built.ensures.steps in omega arith;
       done = λ s n l e. subst (λ (ps : List (Option Built)). IsFilled ps n) (sym c.put.ensures.more)
           (elim (cases_eq s t) [
             | inl q ↦ (let there = ap (slice_get c.args.order.now.list) q in let same : k ≡ n = cc in
@@ -70,5 +85,10 @@ returns-clause-all g c = λ k l.
 
 pub returns-clause-steps : goal.returns-clause-steps
 returns-clause-steps g c =
-    let m = c.args.«module».now in let p = c.args.policy in let i = c.loop-func.invariant in
-    let built = c.into_built.ensures.built in let was = i.steps in omega arith
+    let m : Module = c.args.«module».now in let p : Policy = c.args.policy in let i = c.loop-func.invariant in
+    let out : List (Option Built) = c.into_built.result.items in
+    let are : AreBuilt p m out = subst (λ (fs : Module). AreBuilt p fs out) i.kind.0
+    (subst (λ (q : Policy). AreBuilt q c.loop-func.places.functions out) i.kind.1 c.into_built.ensures.built) in
+    let full : AllFilled out = returns-clause-all g c in
+    let all = cost_all p m out are full in let same = ap cost c.into_built.ensures.same in
+    let was = i.steps in omega arith

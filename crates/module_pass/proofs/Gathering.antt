@@ -4,15 +4,12 @@ use Rattle.std.proofs.Common.{Option, Some, None, refl, sym, ap, ◌∙◌, subs
 use Rattle.std.specs.Prelude.{slice_get, slice_index_or}
 use mathlib.Core.List.{map-append}
 use Rattle.std.proofs.lemmas.Option.{slice_get_within, slice_get_read}
-use Rattle.ir_core.specs.declared.names.FuncName.{FuncName}
 use Rattle.ir_core.specs.Module.{Function, Module}
 use Rattle.ir_core.specs.Lookup.{find_function}
-use Rattle.ir_core.specs.Lists.{Each}
 use Rattle.ir_core.specs.Sound.{IsSound, IsWhole}
 use Rattle.ir_core.specs.WellFormed.{DifferentNames}
 use Rattle.ir_semantics.specs.Canon.{SameFunction, SameUpToNumbering}
 use Rattle.call_graph.proofs.Numbers.{some_at}
-use Rattle.inline_pass.specs.Policy.{Policy}
 use Rattle.inline_pass.specs.Finished.{finished}
 use Rattle.inline_pass.specs.Inlined.{inlined}
 use Rattle.inline_pass.proofs.Gathering.{take_more, sum_next, same_next, new_name, whole_of}

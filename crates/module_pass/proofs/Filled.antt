@@ -13,8 +13,8 @@ use Rattle.ir_semantics.specs.Canon.{SameFunction}
 use Rattle.inline_pass.specs.Finished.{finished}
 use Rattle.inline_finish.specs.declared.bodies.Built.{Built}
 use Rattle.inline_finish.specs.declared.bodies.Policy.{Policy}
-use Rattle.inline_finish.specs.Bodies.{IsBodyOf}
-use Rattle.inline_finish.specs.Building.{policy_of, IsBuilt}
+use Rattle.inline_finish.specs.Bodies.{IsBodyOf, AreCountsOf}
+use Rattle.inline_finish.specs.Building.{policy_of, AreCounts, IsBuilt}
 use Rattle.module_pass.specs.Places.{IsBuiltFor, AreBuilt, IsFilled, filled_from, filled}
 
 -- ---- options
@@ -115,6 +115,11 @@ module _ (p : Policy) (m : Module) where
   body_of_built k b h =
       some_with (IsOf b) (λ f. SameFunction (finished (policy_of p) m f) b.func.function) (slice_get m k) (λ f is. is.0)
       h
+
+  pub counts_of_built : (k : ℕ) (b : Built) → IsBuiltFor p m k b → AreCountsOf (policy_of p) m k b.counts
+  counts_of_built k b h =
+      some_with (IsOf b) (λ f. AreCounts (policy_of p) (finished (policy_of p) m f) b.counts) (slice_get m k)
+      (λ f is. is.2) h
 
   pub is_of :
       (k : ℕ) (f : Function) (b : Built) → slice_get m k ≡ Some f → IsBuiltFor p m k b → IsBuilt (policy_of p) m f b

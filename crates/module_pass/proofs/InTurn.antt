@@ -123,6 +123,53 @@ module _ (m : Module) where
           | inr r ↦ inr (suc r.0, (let l = r.1 in omega arith), r.2)
         ]
 
+  -- ---- no number stands twice
+
+  one_name : (x y : FuncName) (k : ℕ) → number_of m x ≡ Some k → number_of m y ≡ Some k → x ≡ y
+  one_name x y k a b =
+      let r = numbered m x k a in let s = numbered m y k b in
+      let same : r.1 ≡ s.1 = let e = r.2 in let h = s.2 in cc in
+      sym r.4 ∙ (ap (λ (f : Function). f.name) same ∙ s.4)
+
+  -- the number of a name that came before does not come again
+  not_again :
+      (before ns : List FuncName) → CalleesBefore m before ns → (y : FuncName) (k : ℕ) → In y before
+      → number_of m y ≡ Some k → (t : ℕ) → slice_get (numbers_of m ns) t ≡ Some k → ⊥
+  not_again before [] c y k i e t at = absurd cc
+  not_again before (x ∷ ns) c y k i e t at =
+      go (number_of m x) refl t at (λ u h. not_again (x ∷ before) ns c.2 y k (inr i) e u h)
+    where
+      go :
+          (o : Option ℕ) → number_of m x ≡ o → (t : ℕ) → slice_get (with_number o (numbers_of m ns)) t ≡ Some k
+          → ((u : ℕ) → slice_get (numbers_of m ns) u ≡ Some k → ⊥) → ⊥
+      go None q t at rest = rest t at
+      go (Some n) q zero at rest =
+          let s : n ≡ k = cc in
+          let same = one_name x y k (q ∙ ap (λ (z : ℕ). Some z) s) e in
+          c.0 (subst (λ (z : FuncName). In z before) (sym same) i)
+      go (Some n) q (suc t) at rest = rest t at
+
+  one_place_in :
+      (before ns : List FuncName) → CalleesBefore m before ns → (s t k : ℕ) → slice_get (numbers_of m ns) s ≡ Some k
+      → slice_get (numbers_of m ns) t ≡ Some k → s ≡ t
+  one_place_in before [] c s t k a b = absurd cc
+  one_place_in before (x ∷ ns) c s t k a b =
+      go (number_of m x) refl s t a b (λ u v d e. one_place_in (x ∷ before) ns c.2 u v k d e)
+    where
+      again : (n : ℕ) → number_of m x ≡ Some n → n ≡ k → (t : ℕ) → slice_get (numbers_of m ns) t ≡ Some k → ⊥
+      again n q e t at = not_again (x ∷ before) ns c.2 x k (inl refl) (q ∙ ap (λ (z : ℕ). Some z) e) t at
+
+      go :
+          (o : Option ℕ) → number_of m x ≡ o → (s t : ℕ) → slice_get (with_number o (numbers_of m ns)) s ≡ Some k
+          → slice_get (with_number o (numbers_of m ns)) t ≡ Some k
+          → ((u v : ℕ) → slice_get (numbers_of m ns) u ≡ Some k → slice_get (numbers_of m ns) v ≡ Some k → u ≡ v)
+          → s ≡ t
+      go None q s t a b rest = rest s t a b
+      go (Some n) q zero zero a b rest = refl
+      go (Some n) q zero (suc t) a b rest = let e : n ≡ k = cc in absurd (again n q e t b)
+      go (Some n) q (suc s) zero a b rest = let e : n ≡ k = cc in absurd (again n q e s a)
+      go (Some n) q (suc s) (suc t) a b rest = ap suc (rest s t a b)
+
 -- ---- an order
 
 pub item_at :
@@ -143,6 +190,11 @@ module _ (m : Module) (d : DifferentNames m) (order : Order) (is : IsOrderOf m o
       let i = (order_is_bottom_up m d).all s.0.name (name_in m k s.0 s.1) in
       let r = number_there m (bottom_up m) s.0.name k i (number_is m d k s.0 s.1) in
       (r.0, ap (λ (l : List ℕ). slice_get l r.0) is.list ∙ r.1)
+
+  -- and it has one
+  pub one_turn : (s t k : ℕ) → slice_get order.list s ≡ Some k → slice_get order.list t ≡ Some k → s ≡ t
+  one_turn s t k a b =
+      one_place_in m [] (bottom_up m) (order_is_bottom_up m d).callees_before s t k (by_list s k a) (by_list t k b)
 
   -- where the places of the first t functions are filled, there is each callee in another piece of the next one
   pub has_callees :

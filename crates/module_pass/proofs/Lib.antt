@@ -1,3 +1,4 @@
+pub mod Costs
 pub mod Filled
 pub mod Gathering
 pub mod InTurn

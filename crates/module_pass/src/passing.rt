@@ -1,11 +1,11 @@
 //! The pass over a module.
-ghost use Rattle.std.specs.Prelude.{◌≡◌, IfOk, length};
+ghost use Rattle.std.specs.Prelude.{◌≡◌, ◌+◌, IfOk, OnOk, length, map};
 ghost use Rattle.call_graph.specs.Orders.{IsOrderOf};
 ghost use Rattle.ir_core.specs.Sound.{IsSound};
 ghost use Rattle.ir_core.specs.WellFormed.{DifferentNames};
 ghost use Rattle.ir_semantics.specs.Canon.{SameUpToNumbering};
 ghost use Rattle.inline_pass.specs.Finished as defined;
-ghost use Rattle.inline_pass.specs.Inlined.{all_inlined};
+ghost use Rattle.inline_pass.specs.Inlined.{inlined, all_inlined};
 ghost use Rattle.inline_finish.specs.Building.{policy_of, IsLimited};
 ghost use Rattle.module_pass.specs.Places.{AreBuilt, AllFilled};
 
@@ -17,23 +17,36 @@ use ir_check::Checked;
 use ir_core::{Func, Module};
 use std::alloc::{AllocError, Global};
 use std::mem;
+use std::sync::ledger::Ledger;
+use step_counter::Steps;
 
-/// The finished bodies of an accepted module, in its order, and how many sites were inlined: one function after the
-/// other, from callees to callers. Only `AllocError` refuses.
-pub fn pass(alloc: Global, module: &Checked, policy: Policy) -> Result<Passed, AllocError>
+/// The finished bodies of an accepted module, in its order, and how many sites were inlined, in all and into each
+/// function: one function after the other, from callees to callers. The counter rises by one for each function and one
+/// for each inlined site. Only `AllocError` refuses.
+pub fn pass<L: Ledger>(
+    alloc: Global,
+    module: &Checked,
+    policy: Policy,
+    steps: &mut Steps<L>,
+) -> Result<Passed, AllocError>
     requires limited { IsLimited policy }
     ensures finished { IfOk result
         (λ passed. SameUpToNumbering (defined.passed (policy_of policy) «module».now) passed.«module») }
     ensures inlined { IfOk result (λ passed. passed.inlined ≡ all_inlined (policy_of policy) «module».now) }
+    ensures by_function { IfOk result (λ passed.
+        passed.inlined_by_function.items ≡ map (inlined (policy_of policy) «module».now) «module».now) }
+    ensures steps { OnOk result
+        (steps.new ≡ steps.old + (length «module».now + all_inlined (policy_of policy) «module».now)) }
 {
     let functions = module.module();
     let order = order_of(alloc, functions)?;
-    let built = bodies(alloc, module, &order, policy)?;
-    let (passed, inlined) = gather(alloc, functions, policy, built)?;
+    let built = bodies(alloc, module, &order, policy, steps)?;
+    let (passed, inlined, inlined_by_function) = gather(alloc, functions, policy, built)?;
     renumbered_finished_stay_accepted();
     Ok(Passed {
         module: Checked::of_accepted(passed),
         inlined,
+        inlined_by_function,
     })
 }
 
@@ -47,21 +60,24 @@ fn order_of(alloc: Global, module: &Module) -> Result<Order, AllocError>
 }
 
 /// The finished body of each function, in the module's order.
-fn bodies(
+fn bodies<L: Ledger>(
     alloc: Global,
     module: &Checked,
     order: &Order,
     policy: Policy,
+    steps: &mut Steps<L>,
 ) -> Result<Vec<Option<Built>>, AllocError>
     requires names { DifferentNames «module».now }
     requires order { IsOrderOf «module».now order.now }
     requires limited { IsLimited policy }
     ensures built { IfOk result (λ built. AreBuilt policy «module».now built.items) }
     ensures all { IfOk result (λ built. AllFilled built.items) }
+    ensures steps { OnOk result
+        (steps.new ≡ steps.old + (length «module».now + all_inlined (policy_of policy) «module».now)) }
 {
     let mut places = Places::new(alloc, module.module(), policy)?;
     for func in order.list.as_slice() {
-        let built = finish_body(alloc, module, order, *func, &places, policy)?;
+        let built = finish_body(alloc, module, order, *func, &places, policy, steps)?;
         places.put(*func, built);
     }
     Ok(places.into_built())
@@ -76,29 +92,34 @@ fn func_of(built: Built) -> Func
     built.func
 }
 
-/// The module of the bodies, and how many sites were inlined into them.
+/// The module of the bodies, and how many sites were inlined into them, in all and into each.
 fn gather(
     alloc: Global,
     module: &Module,
     policy: Policy,
     built: Vec<Option<Built>>,
-) -> Result<(Module, u128), AllocError>
+) -> Result<(Module, u128, Vec<u64>), AllocError>
     requires built { AreBuilt policy «module».now built.items }
     requires all { AllFilled built.items }
     ensures finished { IfOk result
         (λ r. SameUpToNumbering (defined.passed (policy_of policy) «module».now) r.0) }
     ensures inlined { IfOk result (λ r. r.1 ≡ all_inlined (policy_of policy) «module».now) }
+    ensures by_function { IfOk result
+        (λ r. r.2.items ≡ map (inlined (policy_of policy) «module».now) «module».now) }
 {
     let _ = policy;
     let mut places = built;
     let mut passed = Module::new(alloc);
     let mut inlined = 0u128;
+    let mut inlined_by_function = Vec::with_capacity(alloc, module.len())?;
     for i in 0..module.len() {
         let Some(built) = mem::replace(&mut places[i], None) else {
             unreachable!();
         };
-        inlined += built.inlined as u128;
+        let count = built.inlined;
+        inlined += count as u128;
         passed.push(func_of(built))?;
+        inlined_by_function.push(count)?;
     }
-    Ok((passed, inlined))
+    Ok((passed, inlined, inlined_by_function))
 }

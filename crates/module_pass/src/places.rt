@@ -5,6 +5,7 @@ ghost use Rattle.module_pass.specs.Places.{AreBuilt, filled};
 
 use inline_finish::{Bodies, Built, Policy};
 use ir_core::{Func, Module};
+use splice_size::Counts;
 use std::alloc::{AllocError, Global};
 use std::marker::Model;
 use std::snapshot::Snapshot;
@@ -37,6 +38,13 @@ impl Bodies for Places {
     fn body(&self, func: usize) -> &Func {
         match &self.built[func] {
             Some(built) => &built.func,
+            None => unreachable!(),
+        }
+    }
+
+    fn counts(&self, func: usize) -> Option<Counts> {
+        match &self.built[func] {
+            Some(built) => built.counts,
             None => unreachable!(),
         }
     }

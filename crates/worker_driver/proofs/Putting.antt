@@ -13,9 +13,7 @@ use Rattle.ir_core.specs.Lists.{In}
 use Rattle.ir_core.specs.Module.{Module}
 use Rattle.inline_finish.specs.declared.bodies.Built.{Built}
 use Rattle.inline_finish.specs.declared.bodies.Policy.{Policy}
-use Rattle.inline_finish.specs.Bodies.{IsBodyOf}
-use Rattle.inline_finish.specs.Building.{policy_of}
-use Rattle.worker_driver.specs.Held.{AreBodies, Has}
+use Rattle.worker_driver.specs.Held.{IsHeld, AreBodies, Has}
 
 same_key : (x y : ℕ) → x ≡ y → is_eq (nat_cmp x y) ≡ true
 same_key x y e = grind (arith, nat_tests)
@@ -31,12 +29,12 @@ module _ (p : Policy) (m : Module) (old new : BTreeMap ℕ (Arc Built Global)) (
   elsewhere : (k : ℕ) → func ≢ k → get nat_cmp new k ≡ get nat_cmp old k
   elsewhere k n = puts.2 k (other_key func k n)
 
-  pub bodies_put : AreBodies p m old → IsBodyOf (policy_of p) m func (arc_value a).func.function → AreBodies p m new
+  pub bodies_put : AreBodies p m old → IsHeld p m func (arc_value a) → AreBodies p m new
   bodies_put all is k b e = elim (cases_eq func k) [
     | inl q ↦ (let at : get nat_cmp new k ≡ Some a = subst (λ (z : ℕ). get nat_cmp new z ≡ Some a) q here in
         let same : a ≡ b = cc in
-        subst (λ (z : Arc Built Global). IsBodyOf (policy_of p) m k (arc_value z).func.function) same
-        (subst (λ (z : ℕ). IsBodyOf (policy_of p) m z (arc_value a).func.function) q is))
+        subst (λ (z : Arc Built Global). IsHeld p m k (arc_value z)) same
+        (subst (λ (z : ℕ). IsHeld p m z (arc_value a)) q is))
     | inr q ↦ all k b (sym (elsewhere k q) ∙ e)
   ]
 

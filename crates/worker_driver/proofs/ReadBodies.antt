@@ -1,7 +1,6 @@
 -- What is read under tickets are the bodies of callees.
-use Rattle.std.proofs.Common.{◌≡◌, ◌≢◌, inl, inr, ℕ, zero, suc, ◌+◌, ◌<◌, List, [], ◌∷◌, ◌++◌, length, map, get_or, Option, Some, None, IfSome, Result, Ok, Err, IfOk, refl, sym, ap, ◌∙◌, subst, arith}
+use Rattle.std.proofs.Common.{◌≡◌, ◌≢◌, inl, inr, ℕ, zero, suc, ◌+◌, ◌<◌, List, [], ◌∷◌, ◌++◌, length, map, get_or, Option, Some, None, IfSome, refl, sym, ap, ◌∙◌, subst, arith}
 use Rattle.std.specs.Prelude.{slice_get, slice_index, IsSomeAnd, true}
-use Rattle.std.specs.Result.{result_ok}
 use Rattle.ir_core.specs.declared.names.FuncName.{FuncName}
 use Rattle.ir_core.specs.Module.{Function, Module}
 use Rattle.ir_core.specs.Lists.{In}
@@ -22,12 +21,12 @@ use Rattle.inline_pass.specs.Finished.{finished}
 use Rattle.inline_pass.specs.Inlined.{inlined}
 use Rattle.inline_finish.specs.declared.bodies.Built.{Built}
 use Rattle.inline_finish.specs.declared.bodies.Policy.{Policy}
-use Rattle.inline_finish.specs.Bodies.{IsBodyOf, HasCallees}
-use Rattle.inline_finish.specs.Building.{policy_of, IsBuilt}
+use Rattle.inline_finish.specs.Bodies.{HasCallees}
+use Rattle.inline_finish.specs.Building.{policy_of, AreCounts, IsBuilt}
 use Rattle.publish_table.specs.declared.view.View.{View}
 use Rattle.publish_table.specs.Jobs.{FinishedOf, function_of}
 use Rattle.worker_driver.specs.declared.plan.Plan.{Plan}
-use Rattle.worker_driver.specs.Held.{Held}
+use Rattle.worker_driver.specs.Held.{Held, IsHeld}
 use Rattle.worker_driver.specs.Plans.{IsPlanOf}
 use Rattle.std.proofs.lemmas.Bool.{cases_eq}
 use Rattle.worker_driver.specs.Reading.{ReadSoFar, ReadsStay, CalleesRead, IsNotedRead, IsReadUnder, IsReadIfApart, piece_at}
@@ -39,11 +38,13 @@ use Rattle.worker_driver.proofs.Orders.{named, found, at_ticket, ticket_of, many
 
 module _ (p : Policy) (m : Module) (t k : ℕ) (f : Function) (at : function_of m t ≡ Some f) (is : slice_get m k ≡ Some f) (built : Built) where
   -- what is finished under the ticket is the finished body of its function
-  pub body_of_ticket : FinishedOf p m t built → IsBodyOf (policy_of p) m k built.func.function
+  pub body_of_ticket : FinishedOf p m t built → IsHeld p m k built
   unfolding FinishedOf
   body_of_ticket fin =
-      let b : IsBuilt (policy_of p) m f built = subst (λ (o : Option Function). IsSomeAnd o (λ g. IsBuilt (policy_of p) m g built)) at fin in
-      subst (λ (o : Option Function). IsSomeAnd o (λ g. SameFunction (finished (policy_of p) m g) built.func.function)) (sym is) b.0
+      let b : IsBuilt (policy_of p) m f built = subst (λ (o : Option Function). IsSomeAnd o (λ g. IsBuilt (policy_of p) m g built)) at fin in (
+        subst (λ (o : Option Function). IsSomeAnd o (λ g. SameFunction (finished (policy_of p) m g) built.func.function)) (sym is) b.0,
+        subst (λ (o : Option Function). IsSomeAnd o (λ g. AreCounts (policy_of p) (finished (policy_of p) m g) built.counts)) (sym is) b.2,
+      )
 
   pub finished_of_ticket : IfSome (slice_get m k) (λ g. IsBuilt (policy_of p) m g built) → FinishedOf p m t built
   unfolding FinishedOf
@@ -155,7 +156,18 @@ apart_read plan func k old new w r = (
   λ n. (subst (In k) (sym r.0) (in_right k old.known (k ∷ []) (inl refl)), r.1),
 )
 
--- what a try gives where it is some
-pub some_of_ok : {T E : Type 0} (r : Result T E) (x : T) (P : T → Type 0) → Some x ≡ result_ok r → IfOk r P → P x
-some_of_ok (Ok y) x P e h = let same : y ≡ x = cc in subst P same h
-some_of_ok (Err y) x P e h = absurd cc
+-- ---- what may be there
+
+module _ {A : Type 0} where
+  pub some_weaker : (o : Option A) (P Q : A → Type 0) → ((a : A) → P a → Q a) → IfSome o P → IfSome o Q
+  some_weaker None P Q f h = tt
+  some_weaker (Some a) P Q f h = f a h
+
+  pub some_both :
+      (o : Option A) (P Q R : A → Type 0) → ((a : A) → P a → Q a → R a) → IfSome o P → IfSome o Q → IfSome o R
+  some_both None P Q R f h i = tt
+  some_both (Some a) P Q R f h i = f a h i
+
+  pub some_always : (o : Option A) (Q : A → Type 0) → ((a : A) → Q a) → IfSome o Q
+  some_always None Q f = tt
+  some_always (Some a) Q f = f a

@@ -1,11 +1,12 @@
 //! The finished bodies that were read for a function.
 ghost use Rattle.std.specs.Prelude.{◌≡◌, [], ◌∷◌, ◌++◌, OnOk};
 ghost use Rattle.std.specs.Arc.{arc_value};
-ghost use Rattle.inline_finish.specs.Bodies.{IsBodyOf};
 ghost use Rattle.inline_finish.specs.Building.{policy_of};
+ghost use Rattle.worker_driver.specs.Held.{IsHeld};
 
 use inline_finish::{Bodies, Built, Policy};
 use ir_core::{Func, Module};
+use splice_size::Counts;
 use std::alloc::{AllocError, Global};
 use std::collections::BTreeMap;
 use std::marker::Model;
@@ -45,6 +46,13 @@ impl Bodies for Callees {
             None => unreachable!(),
         }
     }
+
+    fn counts(&self, func: usize) -> Option<Counts> {
+        match self.built.get(&func) {
+            Some(built) => built.counts,
+            None => unreachable!(),
+        }
+    }
 }
 
 impl Callees {
@@ -63,7 +71,7 @@ impl Callees {
 
     /// Puts in the body of a function.
     pub(crate) fn put(&mut self, func: usize, built: Arc<Built>) -> Result<(), AllocError>
-        requires { IsBodyOf (policy_of self.old.policy) self.old.functions func (arc_value built).func.function }
+        requires { IsHeld self.old.policy self.old.functions func (arc_value built) }
         ensures kind { OnOk result
             ((self.new.functions ≡ self.old.functions) × (self.new.policy ≡ self.old.policy)) }
         ensures more { OnOk result (self.new.known ≡ self.old.known ++ func ∷ []) }

@@ -1,10 +1,10 @@
 //! The whole pass by workers.
-ghost use Rattle.std.specs.Prelude.{◌≡◌, ◌+◌, ◌<◌, ◌≤◌, length, IfOk, OnOk};
+ghost use Rattle.std.specs.Prelude.{◌≡◌, ◌+◌, ◌<◌, ◌≤◌, length, map, IfOk, OnOk};
 ghost use Rattle.std.specs.Arc.{arc_value};
 ghost use Rattle.ir_core.specs.Sound.{IsSound};
 ghost use Rattle.ir_semantics.specs.Canon.{SameUpToNumbering};
 ghost use Rattle.inline_pass.specs.Finished as defined;
-ghost use Rattle.inline_pass.specs.Inlined.{all_inlined};
+ghost use Rattle.inline_pass.specs.Inlined.{inlined, all_inlined};
 ghost use Rattle.inline_finish.specs.Building.{policy_of, IsLimited};
 ghost use Rattle.worker_driver.specs.Plans.{IsPlanOf};
 ghost use Rattle.worker_driver.specs.Turns.{AllAnswered, AllBodies};
@@ -17,16 +17,16 @@ use inline_pass::laws::renumbered_finished_stay_accepted;
 use ir_check::Checked;
 use ir_core::{Func, Module};
 use publish_table::{Board, Cell};
-use step_counter::Steps;
 use std::alloc::{AllocError, Global};
 use std::mem;
 use std::sync::ledger::Ledger;
 use std::sync::{Arc, Wait};
 use std::thread::Threads;
+use step_counter::Steps;
 
-/// The finished bodies of an accepted module by so many workers, and how many sites were inlined: the same for each
-/// number of them, and whatever the order in which they run. The counter rises by one for each function and one for
-/// each inlined site.
+/// The finished bodies of an accepted module by so many workers, and how many sites were inlined, in all and into each
+/// function: the same for each number of workers, and whatever the order in which they run. The counter rises by one
+/// for each function and one for each inlined site.
 ///
 /// # Errors
 ///
@@ -45,6 +45,8 @@ pub fn pass_with<R: Threads + Wait + Sync, G: Gate, L: Ledger>(
     ensures finished { IfOk result
         (λ passed. SameUpToNumbering (defined.passed (policy_of policy) «module».now) passed.«module») }
     ensures inlined { IfOk result (λ passed. passed.inlined ≡ all_inlined (policy_of policy) «module».now) }
+    ensures by_function { IfOk result (λ passed.
+        passed.inlined_by_function.items ≡ map (inlined (policy_of policy) «module».now) «module».now) }
     ensures steps { OnOk result
         (steps.new ≡ steps.old + (length «module».now + all_inlined (policy_of policy) «module».now)) }
 {
@@ -53,11 +55,12 @@ pub fn pass_with<R: Threads + Wait + Sync, G: Gate, L: Ledger>(
     let (board, seats) = Board::new(alloc, functions, policy, workers)?;
     let seats = drive(rt, alloc, module, &plan, policy, &board, seats, gate, steps)?;
     let cells = board.close(seats);
-    let (passed, inlined) = gather(alloc, functions, &plan, policy, cells)?;
+    let (passed, inlined, inlined_by_function) = gather(alloc, functions, &plan, policy, cells)?;
     renumbered_finished_stay_accepted();
     Ok(Passed {
         module: Checked::of_accepted(passed),
         inlined,
+        inlined_by_function,
     })
 }
 
@@ -79,34 +82,39 @@ fn func_of(built: Arc<Built>) -> Result<Func, AllocError>
     }
 }
 
-/// The module of the bodies, which stand in the order of tickets, and how many sites were inlined into them. The
-/// answer is `AllocError` also where a cell is refused.
+/// The module of the bodies, which stand in the order of tickets, and how many sites were inlined into them, in all and
+/// into each. The answer is `AllocError` also where a cell is refused.
 fn gather(
     alloc: Global,
     module: &Module,
     plan: &Plan,
     policy: Policy,
     cells: Vec<Cell>,
-) -> Result<(Module, u128), AllocError>
+) -> Result<(Module, u128, Vec<u64>), AllocError>
     requires plan { IsPlanOf «module».now plan.now }
     requires cells { AllAnswered policy «module».now cells.items }
     ensures bodies { OnOk result (AllBodies cells.items) }
     ensures finished { IfOk result
         (λ r. SameUpToNumbering (defined.passed (policy_of policy) «module».now) r.0) }
     ensures inlined { IfOk result (λ r. r.1 ≡ all_inlined (policy_of policy) «module».now) }
+    ensures by_function { IfOk result
+        (λ r. r.2.items ≡ map (inlined (policy_of policy) «module».now) «module».now) }
 {
     let _ = policy;
     let mut cells = cells;
     let mut passed = Module::new(alloc);
     let mut inlined = 0u128;
+    let mut inlined_by_function = Vec::with_capacity(alloc, module.len())?;
     for i in 0..module.len() {
         let ticket = plan.tickets[i];
         let Cell::Body(built) = mem::replace(&mut cells[ticket], Cell::Refused) else {
             return Err(AllocError);
         };
-        inlined += built.inlined as u128;
+        let count = built.inlined;
+        inlined += count as u128;
         let func = func_of(built)?;
         passed.push(func)?;
+        inlined_by_function.push(count)?;
     }
-    Ok((passed, inlined))
+    Ok((passed, inlined, inlined_by_function))
 }

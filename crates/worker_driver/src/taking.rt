@@ -3,7 +3,7 @@ ghost use Rattle.std.specs.Prelude.{◌≡◌, ◌<◌, ◌≤◌, ◌+◌, ℕ,
 ghost use Rattle.std.specs.Arc.{arc_value};
 ghost use Rattle.call_graph.specs.Numbers.{called};
 ghost use Rattle.inline_finish.specs.Bodies.{IsBodyOf, HasCallees};
-ghost use Rattle.inline_finish.specs.Building.{policy_of, IsLimited};
+ghost use Rattle.inline_finish.specs.Building.{policy_of, IsLimited, IsBuilt};
 ghost use Rattle.publish_table.specs.Jobs.{FinishedOf};
 ghost use Rattle.publish_table.specs.Seats.{IsSeatOf, StaysSeat, view_of};
 ghost use Rattle.worker_driver.specs.Plans.{IsPlanOf};
@@ -18,10 +18,10 @@ use inline_finish::{Built, Policy, finish_body};
 use ir_check::Checked;
 use ir_core::Module;
 use publish_table::{Board, Cell, Seat};
-use step_counter::Steps;
 use std::alloc::Global;
 use std::sync::ledger::Ledger;
 use std::sync::{Arc, Wait};
+use step_counter::Steps;
 
 /// Reads the body of a function under its ticket. Whether it is there now.
 fn read_callee<R: Wait>(
@@ -105,6 +105,33 @@ fn read_callees<R: Wait>(
     Some(callees)
 }
 
+/// The finished body of a function, by the bodies that were read for it, where several may share it; and how many sites
+/// were inlined into it. None where memory fails.
+fn finish<L: Ledger>(
+    alloc: Global,
+    module: &Checked,
+    plan: &Plan,
+    policy: Policy,
+    func: usize,
+    callees: &Callees,
+    steps: &mut Steps<L>,
+) -> Option<(Arc<Built>, u64)>
+    requires plan { IsPlanOf «module».now plan.now × IsLimited policy }
+    requires func { func < length «module».now }
+    requires kind { IsFor «module».now policy callees.now }
+    requires has { IfSome (slice_get «module».now func) (λ f. HasCallees «module».now f callees.now.known) }
+    ensures built { IfSome result (λ r. IfSome (slice_get «module».now func)
+        (λ f. IsBuilt (policy_of policy) «module».now f (arc_value r.0))) }
+    ensures inlined { IfSome result (λ r. r.1 ≡ (arc_value r.0).inlined) }
+    ensures steps { IfSome result (λ r. steps.new ≡ steps.old + (1 + r.1)) }
+    ensures counted { steps.old ≤ steps.new }
+{
+    let built = finish_body(alloc, module, &plan.order, func, callees, policy, steps).ok()?;
+    let inlined = built.inlined;
+    let body = Arc::new(alloc, built).ok()?;
+    Some((body, inlined))
+}
+
 /// The finished body of a ticket's function, and how many sites were inlined into it. None where memory fails or the
 /// body of a callee is refused.
 fn build<R: Wait, L: Ledger>(
@@ -131,12 +158,7 @@ fn build<R: Wait, L: Ledger>(
 {
     let func = plan.order.list.as_slice()[ticket];
     let callees = read_callees(rt, alloc, module.module(), plan, policy, board, seat, func)?;
-    let built = finish_body(alloc, module, &plan.order, func, &callees, policy).ok()?;
-    let inlined = built.inlined;
-    let body = Arc::new(alloc, built).ok()?;
-    steps.tick();
-    steps.add(inlined);
-    Some((body, inlined))
+    finish(alloc, module, plan, policy, func, &callees, steps)
 }
 
 /// One turn of a worker: it draws a ticket, announces it at the gate, and publishes the finished body of its function,

@@ -17,13 +17,13 @@ use clk_flow::Gate;
 use inline_finish::Policy;
 use ir_check::Checked;
 use publish_table::{Board, Seat};
-use step_counter::Steps;
 use std::alloc::{AllocError, Global};
 use std::marker::Brand;
 use std::sync::Wait;
 use std::sync::ledger::{Blank, Ledger};
 use std::thread;
 use std::thread::Threads;
+use step_counter::Steps;
 
 /// Takes turns until there is no ticket. The answer is what the bodies cost that were published.
 fn work<R: Wait, G: Gate, L: Ledger>(

@@ -8,3 +8,5 @@ mod passing;
 mod printing;
 #[cfg(test)]
 mod seats;
+#[cfg(test)]
+mod turns;

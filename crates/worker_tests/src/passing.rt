@@ -1,25 +1,40 @@
-//! What no clause says: that memory suffices for a small module, of which several workers make what one does.
+//! What no clause says: that memory suffices for a small module, of which several workers make what one thread makes,
+//! also where the first of them is held.
 ghost use Rattle.std.specs.Prelude.{◌≡◌, ◌≤◌, ◌<◌};
+ghost use Rattle.inline_finish.specs.Building.{IsLimited};
 
 use clif_check::check_text;
 use clif_numbers::numbering;
 use clif_print::print;
-use clk_flow::{MemSink, NoGate};
-use inline_finish::Policy;
+use clk_flow::{Gate, MemSink, NoGate};
+use crossbeam_utils::Backoff;
+use inline_finish::{Passed, Policy};
+use ir_check::Checked;
+use module_pass::pass;
 use std::alloc::Global;
 use std::marker::Brand;
 use std::sync::Wait;
+use std::sync::atomic::{AtomicBool, Ordering};
 use std::sync::ledger::{Blank, Ledger};
 use std::thread::Threads;
 use worker_driver::{Steps, pass_with};
 
-/// A chain of calls, and two functions that call each other.
-const TEXT: &str = "function %a(i64) -> i64 fast {
+/// A function that calls none, which has ticket 0; a chain of calls, `%a`, `%b` and `%c`, which have the tickets 3, 2
+/// and 1; and two functions that call each other.
+const TEXT: &str = "function %z(i64) -> i64 fast {
+block0(v0: i64):
+    v1 = iadd v0, v0
+    return v1
+}
+
+function %a(i64) -> i64 fast {
     fn0 = colocated %b(i64) -> i64 fast
+    fn1 = colocated %z(i64) -> i64 fast
 block0(v0: i64):
     v1 = call fn0(v0)
     v2 = call fn0(v1)
-    return v2
+    v3 = call fn1(v2)
+    return v3
 }
 
 function %b(i64) -> i64 fast {
@@ -52,23 +67,41 @@ block0(v0: i64):
 }
 ";
 
-/// The canonical text of the module that so many workers make, and how many sites they inlined.
-fn passed<R: Threads + Wait + Sync, L: Ledger>(
-    rt: &R,
-    alloc: Global,
-    workers: usize,
-    blank: Blank,
-) -> Option<(Vec<u8>, u128)>
-    requires workers { (1 ≤ workers) × (workers ≤ 64) }
-    requires blank { (blank.name ≡ L.name) × (blank.parts ≡ L.parts) × (0 < blank.parts) }
+/// Holds the worker that starts ticket 0 until ticket 2 is started.
+#[derive(Drop)]
+struct HeldGate {
+    later: AtomicBool,
+}
+
+impl Gate for HeldGate {
+    fn started(&self, _worker: usize, ticket: usize) {
+        if ticket == 2 {
+            self.later.store(true, Ordering::SeqCst);
+        }
+        if ticket == 0 {
+            let backoff = Backoff::new();
+            for _ in 0..u64::MAX {
+                if self.later.load(Ordering::SeqCst) {
+                    return;
+                }
+                backoff.snooze();
+            }
+        }
+    }
+}
+
+/// Sizes that allow each call of the text to be inlined.
+fn policy() -> Policy
+    ensures { IsLimited result }
 {
-    let module = check_text(rt, alloc, TEXT.as_bytes(), 1).ok()?;
-    let policy = Policy {
+    Policy {
         callee_size: 64,
         caller_size: 4096,
-    };
-    let mut steps: Steps<L> = Steps::open(blank);
-    let passed = pass_with(rt, alloc, &module, policy, workers, &NoGate, &mut steps).ok()?;
+    }
+}
+
+/// The canonical text of finished bodies, and how many sites were inlined into them.
+fn told(alloc: Global, passed: &Passed) -> Option<(Vec<u8>, u128)> {
     let functions = passed.module.module();
     let numbers = numbering(alloc, functions).ok()?;
     let mut out = MemSink::new(alloc, Vec::new(alloc), 10000).ok()?;
@@ -77,31 +110,79 @@ fn passed<R: Threads + Wait + Sync, L: Ledger>(
     Some((text, passed.inlined))
 }
 
-/// The same by a counter that is made here.
-fn passed_by<R: Threads + Wait + Sync>(
+/// What so many workers make of a module, who announce at the gate what they start.
+fn made_by<R: Threads + Wait + Sync, G: Gate, L: Ledger>(
     rt: &R,
     alloc: Global,
+    module: &Checked,
     workers: usize,
+    gate: &G,
+    blank: Blank,
+) -> Option<(Vec<u8>, u128)>
+    requires workers { (1 ≤ workers) × (workers ≤ 64) }
+    requires blank { (blank.name ≡ L.name) × (blank.parts ≡ L.parts) × (0 < blank.parts) }
+{
+    let mut steps: Steps<L> = Steps::open(blank);
+    let passed = pass_with(rt, alloc, module, policy(), workers, gate, &mut steps).ok()?;
+    told(alloc, &passed)
+}
+
+/// The same by a counter that is made here.
+fn made<R: Threads + Wait + Sync, G: Gate>(
+    rt: &R,
+    alloc: Global,
+    module: &Checked,
+    workers: usize,
+    gate: &G,
 ) -> Option<(Vec<u8>, u128)>
     requires { (1 ≤ workers) × (workers ≤ 64) }
 {
-    passed::<R, Brand>(rt, alloc, workers, Blank::new(1))
+    made_by::<R, G, Brand>(rt, alloc, module, workers, gate, Blank::new(1))
+}
+
+/// What one thread makes of a module.
+fn made_alone_by<L: Ledger>(
+    alloc: Global,
+    module: &Checked,
+    blank: Blank,
+) -> Option<(Vec<u8>, u128)>
+    requires { (blank.name ≡ L.name) × (blank.parts ≡ L.parts) × (0 < blank.parts) }
+{
+    let mut steps: Steps<L> = Steps::open(blank);
+    let passed = pass(alloc, module, policy(), &mut steps).ok()?;
+    told(alloc, &passed)
+}
+
+/// The same by a counter that is made here.
+fn made_alone(alloc: Global, module: &Checked) -> Option<(Vec<u8>, u128)> {
+    made_alone_by::<Brand>(alloc, module, Blank::new(1))
 }
 
 #[test]
-fn workers_make_what_one_makes(rt: HostRuntime) {
+fn workers_make_what_one_thread_makes(rt: HostRuntime) {
     let alloc = rt.alloc();
-    let Some((one, inlined)) = passed_by(&rt, alloc, 1) else {
+    let Ok(module) = check_text(&rt, alloc, TEXT.as_bytes(), 1) else {
+        panic!(&rt; "refused");
+    };
+    let Some((text, inlined)) = made_alone(alloc, &module) else {
         panic!(&rt; "no memory");
     };
-    assert_eq!(rt; inlined, 4);
-    for workers in [2, 3, 4, 64] {
-        match passed_by(&rt, alloc, workers) {
-            Some((text, count)) => {
-                assert!(rt; text.as_slice() == one.as_slice(), "{workers} workers");
-                assert_eq!(rt; count, inlined);
-            }
-            None => panic!(&rt; "no memory"),
-        }
+    assert_eq!(rt; inlined, 5);
+    for workers in [1, 3, 64] {
+        let made = made(&rt, alloc, &module, workers, &NoGate);
+        assert!(rt;
+            made.is_some_and(|made| made.0 == text && made.1 == inlined),
+            "{workers} workers"
+        );
+    }
+    for workers in [2, 4] {
+        let gate = HeldGate {
+            later: AtomicBool::new(false),
+        };
+        let made = made(&rt, alloc, &module, workers, &gate);
+        assert!(rt;
+            made.is_some_and(|made| made.0 == text && made.1 == inlined),
+            "{workers} held workers"
+        );
     }
 }

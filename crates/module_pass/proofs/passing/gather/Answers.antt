@@ -1,9 +1,9 @@
-use Rattle.std.proofs.Common.{Option, Some, sym, ap, ◌∙◌, subst, arith, rules}
+use Rattle.std.proofs.Common.{ℕ, List, [], ◌∷◌, ◌++◌, Option, Some, sym, ap, ◌∙◌, subst, arith, rules}
 use Rattle.std.proofs.lemmas.List.{length-set}
 use Rattle.ir_core.proofs.Order.{get_set_other}
 use Rattle.ir_semantics.specs.Canon.{SameUpToNumbering}
 use Rattle.inline_finish.specs.declared.bodies.Built.{Built}
-use Rattle.module_pass.proofs.Gathering.{body_in, inlined_with_it, whole_at, new_at, made_with_it}
+use Rattle.module_pass.proofs.Gathering.{body_in, inlined_with_it, by_function_with_it, whole_at, new_at, made_with_it}
 use Rattle.module_pass.proofs.passing.gather.Goals as goal
 
 pub unreachable-requires : goal.unreachable-requires
@@ -53,5 +53,8 @@ loop-i-preserved c =
           c.loop-i.passed c.loop-i.invariant.made);
       inlined = let q = c.loop-i.invariant.inlined in
           let s = inlined_with_it c.args.policy m built c.requires.built i b at in omega arith;
+      by_function = c.in_ok-push-2.ensures.items
+          ∙ (ap (λ (ns : List ℕ). ns ++ b.inlined ∷ []) c.loop-i.invariant.by_function
+          ∙ sym (by_function_with_it c.args.policy m built c.requires.built i b at));
       bound = let q = c.loop-i.invariant.bound in search rules;
     }

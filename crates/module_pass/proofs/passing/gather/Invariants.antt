@@ -11,6 +11,8 @@ invariant-loop-i l = record {
   long : length l.places.items ≡ length l.«module»;
   left : (j : ℕ) → l.i ≤ j → slice_get l.places.items j ≡ slice_get l.fn.built.items j;
   made : SameUpToNumbering (map (finished (policy_of l.fn.policy) l.«module») (take l.i l.«module»)) l.passed;
+  by_function : l.inlined_by_function.items
+      ≡ map (inlined (policy_of l.fn.policy) l.«module») (take l.i l.«module»);
   inlined : l.inlined ≡ sum (map (inlined (policy_of l.fn.policy) l.«module») (take l.i l.«module»));
   bound : l.inlined ≤ 18446744073709551615 * l.i;
 }

@@ -1,4 +1,4 @@
-use Rattle.std.proofs.Common.{rules, ◌≡◌, ℕ, ◌+◌, ◌<◌, length, map, take, Some, refl, sym, ap, ◌∙◌, subst, arith}
+use Rattle.std.proofs.Common.{rules, ◌≡◌, ℕ, ◌+◌, ◌<◌, List, [], ◌∷◌, ◌++◌, length, map, take, Some, refl, sym, ap, ◌∙◌, subst, arith}
 use Rattle.std.specs.Prelude.{slice_get}
 use Rattle.std.proofs.lemmas.List.{length-set}
 use Rattle.std.proofs.lemmas.Option.{slice_get_read}
@@ -12,7 +12,7 @@ use Rattle.inline_finish.specs.Building.{policy_of}
 use Rattle.worker_driver.specs.declared.plan.Plan.{Plan}
 use Rattle.inline_pass.proofs.Gathering.{sum_next, same_next, new_name, whole_of}
 use Rattle.worker_driver.proofs.ReadBodies.{tickets_long}
-use Rattle.worker_driver.proofs.Answering.{ticket_below, next_is, none_refused, left_more, bodies_more}
+use Rattle.worker_driver.proofs.Answering.{map_next, ticket_below, next_is, none_refused, left_more, bodies_more}
 use Rattle.worker_driver.proofs.passing.gather.Goals as goal
 
 pub index-ticket-requires : goal.index-ticket-requires
@@ -64,6 +64,10 @@ loop-i-preserved c =
       inlined =
           let here : c.deref.result.now.inlined ≡ inlined p m r.1 = ap (λ (b : Built). b.inlined) c.deref.ensures ∙ r.3.1 in
           let so = inv.inlined in let more = sum_next (inlined p m) m i (i + 1) r.1 r.2 refl in omega arith;
+      by_function =
+          let here : c.deref.result.now.inlined ≡ inlined p m r.1 = ap (λ (b : Built). b.inlined) c.deref.ensures ∙ r.3.1 in
+          c.in_ok-push-2.ensures.items ∙ (ap (λ (ns : List ℕ). ns ++ c.deref.result.now.inlined ∷ []) inv.by_function
+          ∙ (ap (λ (n : ℕ). map (inlined p m) (take i m) ++ n ∷ []) here ∙ sym (map_next (inlined p m) m i r.1 r.2)));
       bound = search rules;
     }
 

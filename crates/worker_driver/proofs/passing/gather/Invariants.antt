@@ -13,6 +13,7 @@ invariant-loop-i l = record {
   left : (j t : ℕ) → l.i ≤ j → slice_get l.plan.tickets.items j ≡ Some t → slice_get l.cells.items t ≡ slice_get l.initial.cells.items t;
   bodies : (j t : ℕ) → j < l.i → slice_get l.plan.tickets.items j ≡ Some t → slice_get l.initial.cells.items t ≢ Some Refused;
   made : SameUpToNumbering (map (finished (policy_of l.fn.policy) l.«module») (take l.i l.«module»)) l.passed;
+  by_function : l.inlined_by_function.items ≡ map (inlined (policy_of l.fn.policy) l.«module») (take l.i l.«module»);
   inlined : l.inlined ≡ sum (map (inlined (policy_of l.fn.policy) l.«module») (take l.i l.«module»));
   bound : l.inlined ≤ 18446744073709551615 * l.i;
 }

@@ -1,17 +1,12 @@
-use Rattle.std.proofs.Common.{◌≡◌, ℕ, ◌<◌, List, length, get_or, Option, IfSome, refl, sym, ap, subst, arith}
+use Rattle.std.proofs.Common.{◌≡◌, ℕ, ◌<◌, List, length, get_or, Option, IfSome, refl, sym, ap, ◌∙◌, subst, arith}
 use Rattle.std.specs.Prelude.{slice_get}
 use Rattle.std.specs.Arc.{arc_value}
 use Rattle.std.proofs.lemmas.Option.{slice_get_within}
 use Rattle.call_graph.specs.Numbers.{called}
 use Rattle.ir_core.specs.Module.{Function, Module}
-use Rattle.inline_finish.specs.declared.bodies.Built.{Built}
 use Rattle.inline_finish.specs.Bodies.{HasCallees}
-use Rattle.inline_finish.specs.Building.{policy_of, IsBuilt}
-use Rattle.std.specs.declared.sync.Arc.{Arc}
-use Rattle.std.specs.declared.alloc.Global.{Global}
-use Rattle.publish_table.specs.Jobs.{FinishedOf}
 use Rattle.worker_driver.specs.declared.plan.Plan.{Plan}
-use Rattle.worker_driver.proofs.ReadBodies.{list_long, stands, function_is, has_callees, callees_read, finished_of_ticket, inlined_of_ticket, some_of_ok}
+use Rattle.worker_driver.proofs.ReadBodies.{list_long, stands, function_is, has_callees, callees_read, finished_of_ticket, inlined_of_ticket, some_weaker, some_both, some_always}
 use Rattle.worker_driver.proofs.taking.build.Goals as goal
 
 pub bounds-as_slice-ticket : goal.bounds-as_slice-ticket
@@ -26,14 +21,14 @@ read_callees-requires-clause-func g c =
     let r = function_is m plan c.requires.plan.0 t k (stands m plan c.requires.plan.0 list c.as_slice.ensures t c.requires.ticket) in
     subst (λ (l : Module). k < length l) (sym c.«module».ensures.same) (slice_get_within m k r.0 r.1)
 
-pub finish_body-requires-clause-there : goal.finish_body-requires-clause-there
-finish_body-requires-clause-there g c =
+pub finish-requires-clause-func : goal.finish-requires-clause-func
+finish-requires-clause-func g c =
     let m : Module = c.args.«module».now in let plan : Plan = c.args.plan.now in let list : List ℕ = c.as_slice.result.now in let t : ℕ = c.args.ticket in let k : ℕ = get_or list t 0 in
     let r = function_is m plan c.requires.plan.0 t k (stands m plan c.requires.plan.0 list c.as_slice.ensures t c.requires.ticket) in
     slice_get_within m k r.0 r.1
 
-pub finish_body-requires-clause-has : goal.finish_body-requires-clause-has
-finish_body-requires-clause-has g c =
+pub finish-requires-clause-has : goal.finish-requires-clause-has
+finish-requires-clause-has g c =
     let m : Module = c.args.«module».now in let plan : Plan = c.args.plan.now in let list : List ℕ = c.as_slice.result.now in let t : ℕ = c.args.ticket in let k : ℕ = get_or list t 0 in
     let r = function_is m plan c.requires.plan.0 t k (stands m plan c.requires.plan.0 list c.as_slice.ensures t c.requires.ticket) in
     subst (λ (o : Option Function). IfSome o (λ f. HasCallees m f c.in_ok-callees.callees.known)) (sym r.1)
@@ -43,19 +38,16 @@ pub returns-clause-body : goal.returns-clause-body
 returns-clause-body g c =
     let m : Module = c.args.«module».now in let plan : Plan = c.args.plan.now in let list : List ℕ = c.as_slice.result.now in let t : ℕ = c.args.ticket in let k : ℕ = get_or list t 0 in
     let r = function_is m plan c.requires.plan.0 t k (stands m plan c.requires.plan.0 list c.as_slice.ensures t c.requires.ticket) in
-    let is : arc_value c.in_ok-body.body ≡ c.in_ok-built.built = some_of_ok c.new.result c.in_ok-body.body (λ (a : Arc Built Global). arc_value a ≡ c.in_ok-built.built) c.in_ok-body.ensures.value c.new.ensures.ok in
-    subst (FinishedOf c.args.policy m t) (sym is) (finished_of_ticket c.args.policy m t k r.0 r.3 r.1 c.in_ok-built.built
-    (some_of_ok c.finish_body.result c.in_ok-built.built (λ built. IfSome (slice_get m k) (λ f. IsBuilt (policy_of c.args.policy) m f built)) c.in_ok-built.ensures.value c.finish_body.ensures))
+    some_weaker c.finish.result _ _ (λ b h. finished_of_ticket c.args.policy m t k r.0 r.3 r.1 (arc_value b.0) h) c.finish.ensures.built
 
 pub returns-clause-inlined : goal.returns-clause-inlined
 returns-clause-inlined g c =
     let m : Module = c.args.«module».now in let plan : Plan = c.args.plan.now in let list : List ℕ = c.as_slice.result.now in let t : ℕ = c.args.ticket in let k : ℕ = get_or list t 0 in
     let r = function_is m plan c.requires.plan.0 t k (stands m plan c.requires.plan.0 list c.as_slice.ensures t c.requires.ticket) in
-    inlined_of_ticket c.args.policy m t k r.0 r.3 r.1 c.in_ok-built.built
-    (some_of_ok c.finish_body.result c.in_ok-built.built (λ built. IfSome (slice_get m k) (λ f. IsBuilt (policy_of c.args.policy) m f built)) c.in_ok-built.ensures.value c.finish_body.ensures)
+    some_both c.finish.result _ _ _ (λ b h e. e ∙ inlined_of_ticket c.args.policy m t k r.0 r.3 r.1 (arc_value b.0) h) c.finish.ensures.built c.finish.ensures.inlined
 
 pub returns-clause-noted : goal.returns-clause-noted
 returns-clause-noted g c =
     let m : Module = c.args.«module».now in let plan : Plan = c.args.plan.now in let list : List ℕ = c.as_slice.result.now in let t : ℕ = c.args.ticket in let k : ℕ = get_or list t 0 in
     let r = function_is m plan c.requires.plan.0 t k (stands m plan c.requires.plan.0 list c.as_slice.ensures t c.requires.ticket) in
-    callees_read m plan c.requires.plan.0 k r.0 r.1 c.in_ok-callees.callees c.read_callees.new.seat.place.me.0 (length (called plan.graph k)) c.in_ok-callees.ensures.read refl t r.3
+    some_always c.finish.result _ (λ b. callees_read m plan c.requires.plan.0 k r.0 r.1 c.in_ok-callees.callees c.read_callees.new.seat.place.me.0 (length (called plan.graph k)) c.in_ok-callees.ensures.read refl t r.3)

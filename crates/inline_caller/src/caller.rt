@@ -79,8 +79,8 @@ impl Caller {
         plan_import(alloc, &self.index, &self.func, callee)
     }
 
-    /// Replaces the call at the place by the callee's body, and counts a step. After `AllocError` the caller is gone, and
-    /// no step was counted. Time is the size of what is put in, times the logarithm of the number of the caller's
+    /// Replaces the call at the place by the callee's body, and counts a step. After `AllocError` the caller is gone,
+    /// and no step was counted. Time is the size of what is put in, times the logarithm of the number of the caller's
     /// declarations.
     pub fn splice<L: Ledger>(
         self,

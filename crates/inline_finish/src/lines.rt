@@ -220,7 +220,8 @@ pub(crate) fn finish_blocks<B: Bodies, L: Ledger>(
     requires has { HasCallees (B.functions bodies.now) own.now.function (B.has bodies.now) }
     requires between { IsBetween (finishing (policy_of policy) (B.functions bodies.now) own.now.function)
         own.now.function.blocks progress }
-    ensures between { IfOk result (IsBetween (finishing (policy_of policy) (B.functions bodies.now) own.now.function) []) }
+    ensures between { IfOk result
+        (IsBetween (finishing (policy_of policy) (B.functions bodies.now) own.now.function) []) }
     ensures counted { IfOk result (λ p. steps.new + progress.inlined ≡ steps.old + p.inlined) }
     ensures rises { steps.old ≤ steps.new }
 {

@@ -1,5 +1,5 @@
 -- Lists of seats and of desks.
-use Rattle.std.proofs.Common.{◌≡◌, zero, suc, ◌+◌, List, [], ◌∷◌, ◌++◌, All, map, arith}
+use Rattle.std.proofs.Common.{◌≡◌, suc, ◌+◌, List, [], ◌∷◌, ◌++◌, All, map, arith}
 use Rattle.std.proofs.lemmas.List.Elements.{All-cons}
 use Rattle.ir_core.specs.Module.{Module}
 use Rattle.inline_finish.specs.declared.bodies.Policy.{Policy}

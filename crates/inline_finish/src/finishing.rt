@@ -17,9 +17,9 @@ use std::sync::ledger::Ledger;
 use step_counter::Steps;
 
 /// The finished body of a function of an accepted module, up to the numbers of values and blocks, with the number of
-/// its inlined sites and what counts of it. `bodies` has the finished bodies of what the function calls in other pieces.
-/// A step is counted for the body and one for each inlined site. Only `AllocError` refuses; steps may have been counted
-/// then.
+/// its inlined sites and what counts of it. `bodies` has the finished bodies of what the function calls in other
+/// pieces. A step is counted for the body and one for each inlined site. Only `AllocError` refuses; steps may have been
+/// counted then.
 pub fn finish_body<B: Bodies, L: Ledger>(
     alloc: Global,
     module: &Checked,

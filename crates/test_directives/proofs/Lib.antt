@@ -1,0 +1,10 @@
+pub mod Words
+pub mod Placed
+pub mod Finishing
+pub mod FirstNames
+pub mod Ascending
+pub mod TokenSteps
+pub mod Prefixes
+pub mod Ascii
+pub mod Texts
+pub mod Sizes

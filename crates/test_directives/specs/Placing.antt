@@ -1,6 +1,7 @@
 -- Comments by their places in the text, and the lines of places.
-use Rattle.std.specs.Prelude.{◌≡◌, ℕ, ◌+◌, ◌≤◌, ⊤, nat_lt, nat_le, ◌&&◌, List, [], ◌∷◌, length}
+use Rattle.std.specs.Prelude.{◌≡◌, ◌==◌, ℕ, ◌+◌, ◌≤◌, ⊤, nat_lt, nat_le, ◌&&◌, List, [], ◌∷◌, length, count_by}
 use Rattle.std.specs.List.{filter, prefix_len}
+use Rattle.clif_lex.specs.Bytes.{line_feed}
 use Rattle.clif_lex.specs.Places.{line_at}
 use Rattle.clif_read.specs.declared.raw.RawFunction.{RawFunction}
 use Rattle.test_directives.specs.declared.places.PlacedComment.{PlacedComment}
@@ -15,6 +16,9 @@ pub record Counted : Type 0 where
 
 abbrev pub counted : List ℕ → ℕ → Counted
 counted text at = record { text = text; at = at }
+
+abbrev pub line_feeds : List ℕ → ℕ
+line_feeds bytes = count_by (λ c. c == line_feed) bytes
 
 -- the line of a byte of a text whose lines can be counted in 32 bits
 pub record IsLine (text : List ℕ) (at line : ℕ) : Type 0 where

@@ -1,18 +1,20 @@
 -- What is known of a function when the first of its comments were read, and what the next comment changes.
-use Rattle.std.specs.Prelude.{◌≡◌, ◌×◌, ℕ, ⊤, Bool, true, false, ◌&&◌, ◌||◌, if◌then◌else◌, nat_lt, List, [], ◌∷◌}
-use Rattle.std.specs.Prelude.{◌++◌, map, ℤ, Option, Some, None, All}
+use Rattle.std.specs.Prelude.{◌≡◌, ℕ, ⊤, Bool, true, false, ◌&&◌, ◌||◌, if◌then◌else◌, nat_lt, List, [], ◌∷◌}
+use Rattle.std.specs.Prelude.{◌++◌, map, ℤ, Option, Some, None, All, Vec}
 use Rattle.clif_lex.specs.declared.spans.Token.{Token}
 use Rattle.clif_read.specs.declared.raw.RawFunction.{RawFunction}
 use Rattle.ir_semantics.specs.Machine.{Reply}
 use Rattle.test_directives.specs.declared.commands.Command.{Command}
 use Rattle.test_directives.specs.declared.tests.DirectiveErr.{DirectiveErr}
 use Rattle.test_directives.specs.declared.tests.DirectiveErr.TheVariants.{BadDirective, NoMemory}
-use Rattle.test_directives.specs.declared.tests.FunctionTests as code
+use Rattle.test_directives.specs.declared.tests.FunctionTests.{FunctionTests as ReadTests}
+use Rattle.test_directives.specs.Placing.{between}
 use Rattle.test_directives.specs.Directives.{Wanted, Directive, Run, Host, Trace, Lines, Error, Comment, Plain, Asks}
 use Rattle.test_directives.specs.Directives.{Bad, comment_of, spelled_name}
 use Rattle.test_directives.specs.Tests.{Placed, RunTest, FunctionTests, Said, traces, runs_with, said, line_tests}
 use Rattle.test_directives.specs.Tests.{error_line, expected_line, expected_lines, is_check, has_check_in, or_else}
 use Rattle.test_directives.specs.Tests.{is_misplaced, is_bad, first_bad, bad_header, commands, all_tests}
+use Rattle.test_directives.specs.Tests.{tests_of, first_spot}
 use Rattle.test_directives.specs.Views.{command_of, function_of, IsPlaced}
 
 -- a function, what its comments asked for, and what the next ones go by
@@ -31,6 +33,9 @@ unread fs f line = record {
   script = [];
   has_check = false;
 }
+
+abbrev pub run : List ℕ → List ℤ → Wanted → Directive
+run name numbers wanted = Run (record { name = name; numbers = numbers; wanted = wanted })
 
 abbrev pub has_run : List RunTest → Bool
 has_run [] = false
@@ -124,11 +129,29 @@ abbrev pub IsFirst : Option ℕ → DirectiveErr → Type 0
 IsFirst bad (BadDirective line) = bad ≡ Some line
 IsFirst bad NoMemory = ⊤
 
-pub record Commands (headers : List Placed) (list : List Command) : Type 0 where
+pub record Commands {A : Type 0} (headers : List Placed) (list : Vec Command A) : Type 0 where
   pub good : bad_header headers ≡ None
-  pub commands : map command_of list ≡ commands headers
+  pub commands : map command_of list.items ≡ commands headers
 
-pub record AreTests (text : List ℕ) (ts : List Token) (fs : List RawFunction) (list : List code.FunctionTests)
-    : Type 0 where
-  pub tests : map function_of list ≡ all_tests text ts fs
-  pub placed : All (λ t. All (IsPlaced fs) t.runs.items) list
+pub record AreTests {A : Type 0} (text : List ℕ) (ts : List Token) (fs : List RawFunction)
+    (list : Vec ReadTests A) : Type 0 where
+  pub tests : map function_of list.items ≡ all_tests text ts fs
+  pub placed : All (λ t. All (IsPlaced fs) t.runs.items) list.items
+
+-- ---- by all comments of the text
+
+-- of each function, in order, where these are the comments of the text
+abbrev pub tests_by : List ℕ → List Placed → List RawFunction → List FunctionTests
+tests_by text cs [] = []
+tests_by text cs (f ∷ fs) = tests_of text f (between cs f.spot (first_spot text fs)) ∷ tests_by text cs fs
+
+-- the line of the first bad directive of functions in order, where all are `every`
+abbrev pub bad_by : List ℕ → List Placed → (every fs : List RawFunction) → Option ℕ
+bad_by text cs every [] = None
+bad_by text cs every (f ∷ fs) =
+    or_else (first_bad every false false (between cs f.spot (first_spot text fs))) (bad_by text cs every fs)
+
+pub record AreTestsBy {A : Type 0} (text : List ℕ) (cs : List Placed) (fs : List RawFunction)
+    (list : Vec ReadTests A) : Type 0 where
+  pub tests : map function_of list.items ≡ tests_by text cs fs
+  pub placed : All (λ t. All (IsPlaced fs) t.runs.items) list.items

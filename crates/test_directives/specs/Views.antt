@@ -1,5 +1,5 @@
 -- What the code keeps, as the definitions see it.
-use Rattle.std.specs.Prelude.{◌≡◌, ℕ, ⊤, List, [], map, slice_get, Option, Some, None, All}
+use Rattle.std.specs.Prelude.{◌≡◌, ℕ, ⊤, List, [], map, slice_get, Option, Some, None, All, Vec}
 use Rattle.clif_lex.specs.declared.spans.Token.{Token}
 use Rattle.clif_read.specs.declared.raw.RawFunction.{RawFunction}
 use Rattle.clif_read.specs.declared.raw.RawModule.{RawModule}
@@ -70,12 +70,16 @@ comment_of comment.Plain = directives.Plain
 comment_of (comment.Asks asked) = directives.Asks (directive_of asked)
 comment_of comment.Bad = directives.Bad
 
+abbrev pub events : {A : Type 0} → Option (Vec (List ℕ) A) → List (List ℕ)
+events None = []
+events (Some lines) = lines.items
+
 abbrev pub run_of : RunTest → tests.RunTest
 run_of t = record {
   line = t.line;
   call = record { name = t.name; numbers = t.numbers; wanted = wanted_of t.wanted };
   script = replies_of t.script;
-  trace = elim t.trace [ None ↦ [] | Some lines ↦ lines.items ];
+  trace = events t.trace;
 }
 
 abbrev pub function_of : FunctionTests → tests.FunctionTests

@@ -168,8 +168,8 @@ impl<'r> FunctionReader<'r> {
 
     /// What the comments asked for.
     pub(crate) fn into_tests(self) -> FunctionTests
-        ensures tests { views.function_of result ≡ self.tests }
-        ensures placed { All (views.IsPlaced self.functions) result.runs.items }
+        ensures tests { views.function_of result ≡ self.entry.tests }
+        ensures placed { All (views.IsPlaced self.entry.functions) result.runs.items }
     {
         self.tests
     }
@@ -271,8 +271,8 @@ impl<'r> FunctionReader<'r> {
     }
 
     /// Adds what a comment says that is no directive, where it stands behind the function.
-    fn add_plain(&mut self, alloc: Global, comment: PlacedComment<'_>) -> Result<(), AllocError>
-        ensures { OnOk result (self.new ≡ spec.after_comment self.old (placed_of comment) directives.Plain) }
+    fn add_plain(&mut self, alloc: Global, comment: &PlacedComment<'_>) -> Result<(), AllocError>
+        ensures { OnOk result (self.new ≡ spec.after_comment self.old (placed_of comment.now) directives.Plain) }
     {
         if self.end_spot < comment.spot {
             let line = Vec::from_slice(alloc, expected_line(comment.text))?;
@@ -282,9 +282,9 @@ impl<'r> FunctionReader<'r> {
     }
 
     /// Reads the next comment.
-    pub(crate) fn take(&mut self, alloc: Global, comment: PlacedComment<'_>) -> Result<(), DirectiveErr>
-        ensures taken { OnOk result (spec.Reads self.old (placed_of comment) self.new) }
-        ensures refused { IfErr result (spec.Stops self.old (placed_of comment)) }
+    pub(crate) fn take(&mut self, alloc: Global, comment: &PlacedComment<'_>) -> Result<(), DirectiveErr>
+        ensures taken { OnOk result (spec.Reads self.old (placed_of comment.now) self.new) }
+        ensures refused { IfErr result (spec.Stops self.old (placed_of comment.now)) }
     {
         match comment_of(alloc, comment.text)? {
             Comment::Plain => {
@@ -302,13 +302,20 @@ fn with_event(alloc: Global, run: RunTest, event: List<u8>) -> Result<RunTest, A
     ensures run { IfOk result (λ longer. views.run_of longer ≡ spec.with_events (views.run_of run) (event ∷ [])) }
     ensures place { IfOk result (λ longer. longer.func ≡ run.func) }
 {
-    let mut trace = match run.trace {
-        Some(trace) => trace,
-        None => Vec::new(alloc),
-    };
-    trace.push(event)?;
+    let mut events = events_of(alloc, run.trace);
+    events.push(event)?;
     Ok(RunTest {
-        trace: Some(trace),
+        trace: Some(events),
         ..run
     })
+}
+
+/// The lines of events so far.
+fn events_of(alloc: Global, trace: Option<Vec<List<u8>>>) -> Vec<List<u8>>
+    ensures { result.items ≡ views.events trace }
+{
+    match trace {
+        Some(events) => events,
+        None => Vec::new(alloc),
+    }
 }

@@ -1,8 +1,9 @@
 //! Lines, and the comments of a text with their places.
-ghost use Rattle.std.specs.Prelude.{◌≡◌, ◌≤◌, length, map, IfOk};
+ghost use Rattle.std.specs.Prelude.{◌≡◌, ◌≤◌, drop, length, map, nat_le, nat_lt, slice_range, IfOk};
+ghost use Rattle.std.specs.List.{prefix_len};
 ghost use Rattle.clif_lex.specs.Places.{line_at};
 ghost use Rattle.clif_lex.specs.Spelling.{StandFrom};
-ghost use Rattle.test_directives.specs.Tests.{comments};
+ghost use Rattle.test_directives.specs.Tests as tests;
 ghost use Rattle.test_directives.specs.Placing as spec;
 
 use clif_lex::{TokenKind, Tokens, spelling};
@@ -48,11 +49,25 @@ impl<'t> LineCounter<'t> {
         ensures line { result ≡ line_at self.old.text spot }
         ensures at { self.new ≡ spec.counted self.old.text spot }
     {
-        let feeds = self.text[self.at..spot].iter().filter(|c| **c == b'\n').count();
-        self.line += feeds as u32;
+        self.line += line_feeds(&self.text[self.at..spot]) as u32;
         self.at = spot;
         self.line
     }
+}
+
+/// How many line feeds stand in these bytes.
+fn line_feeds(bytes: &[u8]) -> usize
+    ensures count { result ≡ spec.line_feeds bytes.now }
+    ensures within { result ≤ length bytes.now }
+{
+    bytes.iter().filter(|c| **c == b'\n').count()
+}
+
+/// Whether a token is a comment.
+fn is_comment(kind: TokenKind) -> bool
+    ensures { result ≡ tests.is_comment kind }
+{
+    matches!(kind, TokenKind::Comment)
 }
 
 /// A comment with its place.
@@ -71,13 +86,13 @@ pub(crate) fn comments<'t>(
 ) -> Result<Vec<PlacedComment<'t>>, AllocError>
     requires short { length text.now ≤ 4294967294 }
     requires stand { StandFrom text.now 0 tokens.now }
-    ensures { IfOk result (λ list. map spec.placed_of list.items ≡ comments text.now tokens.now) }
+    ensures { IfOk result (λ list. map spec.placed_of list.items ≡ tests.comments text.now tokens.now) }
 {
     let mut lines = LineCounter::new(text);
     let mut list = Vec::new(alloc);
     'tokens: for i in 0..tokens.len() {
         let token = tokens.get(i);
-        if matches!(token.kind, TokenKind::Comment) {
+        if is_comment(token.kind) {
             list.push(PlacedComment {
                 spot: token.start,
                 line: lines.line_at(token.start),
@@ -88,24 +103,26 @@ pub(crate) fn comments<'t>(
     Ok(list)
 }
 
-/// Of comments in order those between two spots, and those behind.
-pub(crate) fn between<'c, 't>(
-    comments: &'c [PlacedComment<'t>],
-    from: usize,
-    until: usize,
-) -> (&'c [PlacedComment<'t>], &'c [PlacedComment<'t>])
-    requires { spec.InOrder (map spec.placed_of comments.now) }
-    ensures own { map spec.placed_of result.0.now ≡ spec.between (map spec.placed_of comments.now) from until }
-    ensures behind { spec.LeavesBehind until (map spec.placed_of comments.now) (map spec.placed_of result.1.now) }
-    ensures in_order { spec.InOrder (map spec.placed_of result.1.now) }
+/// Of comments in order those between two spots: from which place of the list on, and before which.
+pub(crate) fn between(comments: &[PlacedComment<'_>], from: usize, until: usize) -> (usize, usize)
+    requires in_order { spec.InOrder (map spec.placed_of comments.now) }
+    requires ordered { from ≤ until }
+    ensures ordered { result.0 ≤ result.1 }
+    ensures within { result.1 ≤ length comments.now }
+    ensures own { map spec.placed_of (slice_range comments.now result.0 result.1)
+        ≡ spec.between (map spec.placed_of comments.now) from until }
+    ensures behind { spec.LeavesBehind until (map spec.placed_of comments.now)
+        (map spec.placed_of (drop result.1 comments.now)) }
+    ensures in_order { spec.InOrder (map spec.placed_of (drop result.1 comments.now)) }
 {
-    let (_, behind) = comments.split_at(up_to(comments, from));
-    behind.split_at(before(behind, until))
+    let start = up_to(comments, from);
+    let count = before(&comments[start..], until);
+    (start, start + count)
 }
 
 /// How many of the comments stand up to a spot, from the front on.
 fn up_to(comments: &[PlacedComment<'_>], spot: usize) -> usize
-    ensures len { result ≡ spec.up_to spot (map spec.placed_of comments.now) }
+    ensures len { result ≡ prefix_len (λ c. nat_le c.spot spot) comments.now }
     ensures within { result ≤ length comments.now }
 {
     comments.iter().take_while(|c| c.spot <= spot).count()
@@ -113,7 +130,7 @@ fn up_to(comments: &[PlacedComment<'_>], spot: usize) -> usize
 
 /// How many of the comments stand before a spot, from the front on.
 fn before(comments: &[PlacedComment<'_>], spot: usize) -> usize
-    ensures len { result ≡ spec.before spot (map spec.placed_of comments.now) }
+    ensures len { result ≡ prefix_len (λ c. nat_lt c.spot spot) comments.now }
     ensures within { result ≤ length comments.now }
 {
     comments.iter().take_while(|c| c.spot < spot).count()

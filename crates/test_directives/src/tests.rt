@@ -4,7 +4,7 @@ ghost use Rattle.clif_lex.specs.Lexing.{tokens_of};
 ghost use Rattle.clif_lex.specs.Spelling.{AreIn, StandFrom};
 ghost use Rattle.clif_read.specs.Stretches.{IsModuleText};
 ghost use Rattle.test_directives.specs.declared.tests.DirectiveErr.TheVariants.{NoMemory};
-ghost use Rattle.test_directives.specs.Placing.{placed_of, AreAscending};
+ghost use Rattle.test_directives.specs.Placing.{placed_of, AreAscending, InOrder};
 ghost use Rattle.test_directives.specs.Reading as spec;
 ghost use Rattle.test_directives.specs.Tests as tests;
 ghost use Rattle.test_directives.specs.Views as views;
@@ -97,17 +97,24 @@ pub struct TestFile {
     pub functions: Vec<FunctionTests>,
 }
 
+/// Whether a token is a header line.
+fn is_header(kind: TokenKind) -> bool
+    ensures { result ≡ tests.is_header kind }
+{
+    matches!(kind, TokenKind::Header)
+}
+
 /// What the header lines of a text ask for, in order.
 fn commands(alloc: Global, text: &[u8], tokens: &Tokens) -> Result<Vec<Command>, DirectiveErr>
     requires short { length text.now ≤ 4294967294 }
     requires inside { AreIn text.now tokens.now }
-    ensures commands { IfOk result (λ list. spec.Commands (tests.headers text.now tokens.now) list.items) }
+    ensures commands { IfOk result (spec.Commands (tests.headers text.now tokens.now)) }
     ensures bad { IfErr result (spec.IsFirst (tests.bad_header (tests.headers text.now tokens.now))) }
 {
     let mut list = Vec::new(alloc);
     'tokens: for i in 0..tokens.len() {
         let token = tokens.get(i);
-        if !matches!(token.kind, TokenKind::Header) {
+        if !is_header(token.kind) {
             continue;
         }
         match command_of(alloc, spelling(text, token))? {
@@ -137,9 +144,45 @@ fn read_function(
 {
     let mut reader = FunctionReader::new(alloc, named, func, line)?;
     for comment in comments {
-        reader.take(alloc, *comment)?;
+        reader.take(alloc, comment)?;
     }
     Ok(reader.into_tests())
+}
+
+/// What the comments of each function ask for, which are these in the order of the text.
+fn read_each(
+    alloc: Global,
+    text: &[u8],
+    named: &Named<'_>,
+    comments: &[PlacedComment<'_>],
+) -> Result<Vec<FunctionTests>, DirectiveErr>
+    requires short { length text.now ≤ 4294967294 }
+    requires in_order { InOrder (map placed_of comments.now) }
+    requires ascending { AreAscending text.now 0 named.now.functions.now }
+    ensures functions { IfOk result
+        (spec.AreTestsBy text.now (map placed_of comments.now) named.now.functions.now) }
+    ensures good { IfOk result (λ _. spec.bad_by text.now (map placed_of comments.now)
+        named.now.functions.now named.now.functions.now ≡ None) }
+    ensures bad { IfErr result (spec.IsFirst (spec.bad_by text.now (map placed_of comments.now)
+        named.now.functions.now named.now.functions.now)) }
+{
+    let mut list = Vec::new(alloc);
+    let mut lines = LineCounter::new(text);
+    let mut next = 0;
+    let mut left = named.functions;
+    while let Some((func, others)) = left.split_first() {
+        let until = match others.first() {
+            Some(next) => next.spot,
+            None => text.len(),
+        };
+        let ahead = &comments[next..];
+        let (start, end) = between(ahead, func.spot, until);
+        let line = lines.line_at(func.spot);
+        list.push(read_function(alloc, named, func, line, &ahead[start..end])?)?;
+        next += end;
+        left = others;
+    }
+    Ok(list)
 }
 
 /// What the comments of each function ask for.
@@ -152,33 +195,15 @@ fn read_functions(
     requires short { length text.now ≤ 4294967294 }
     requires stand { StandFrom text.now 0 tokens.now }
     requires ascending { AreAscending text.now 0 functions.now }
-    ensures functions { IfOk result (λ list. spec.AreTests text.now tokens.now functions.now list.items) }
+    ensures functions { IfOk result (spec.AreTests text.now tokens.now functions.now) }
     ensures good { IfOk result (λ _. tests.first_bad_of text.now tokens.now functions.now functions.now ≡ None) }
     ensures bad { IfErr result
         (spec.IsFirst (tests.first_bad_of text.now tokens.now functions.now functions.now)) }
 {
     let names = spelled_names(alloc, functions)?;
-    let named = Named {
-        functions,
-        places: first_places(alloc, names.as_slice())?,
-    };
+    let places = first_places(alloc, names.as_slice())?;
     let comments = comments(alloc, text, tokens)?;
-    let mut lines = LineCounter::new(text);
-    let mut list = Vec::new(alloc);
-    let mut ahead = comments.as_slice();
-    let mut left = functions;
-    while let Some((func, others)) = left.split_first() {
-        let until = match others.first() {
-            Some(next) => next.spot,
-            None => text.len(),
-        };
-        let (own, behind) = between(ahead, func.spot, until);
-        let line = lines.line_at(func.spot);
-        list.push(read_function(alloc, &named, func, line, own)?)?;
-        ahead = behind;
-        left = others;
-    }
-    Ok(list)
+    read_each(alloc, text, &Named { functions, places }, comments.as_slice())
 }
 
 /// What a text asks for, whose tokens and whose raw module these are. Takes time and memory linear in the text.

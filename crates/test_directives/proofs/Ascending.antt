@@ -50,19 +50,14 @@ functions_ascend text from ts (v ∷ vs) (us, rest, cut, (one, more)) b =
     let all : Behind text from ((v.0 ∷ one.1) ++ rest) = subst (Behind text from) split b in
     (all.0, functions_ascend text (v.0.spot + 1) rest vs more (skipped text (v.0.spot + 1) one.1 rest all.1))
 
+module_of : (text : List ℕ) (raw : RawModule) (m : IsModuleText text raw) → Derives module_rule (lexemes text m.tokens) m.read.0 → AreAscending text 0 raw.functions
+module_of text raw m (us, ws, cut, (hs, fs)) =
+    let stand : Behind text 0 (lexemes text m.tokens) = stand_behind text 0 m.tokens (omega arith) (tokens_stand text m.tokens m.lexed) in
+    subst (AreAscending text 0) (sym (ap (λ (r : RawModule). r.functions) m.read.2))
+    (functions_ascend text 0 ws m.read.0.1 fs (skipped text 0 us ws (subst (Behind text 0) cut stand)))
+
 pub module_ascends : (text : List ℕ) (raw : RawModule) → IsModuleText text raw → AreAscending text 0 raw.functions
-module_ascends text raw m = go m.read.1
-  where
-    abbrev all : List Lexeme
-    all = lexemes text m.tokens
-
-    stand : Behind text 0 all
-    stand = stand_behind text 0 m.tokens (omega arith) (tokens_stand text m.tokens m.lexed)
-
-    go : Derives module_rule all m.read.0 → AreAscending text 0 raw.functions
-    go (us, ws, cut, (hs, fs)) =
-        subst (AreAscending text 0) (sym (ap (λ (r : RawModule). r.functions) m.read.2))
-        (functions_ascend text 0 ws m.read.0.1 fs (skipped text 0 us ws (subst (Behind text 0) cut stand)))
+module_ascends text raw m = module_of text raw m m.read.1
 
 below : (text : List ℕ) (from : ℕ) (gs : List RawFunction) → AreAscending text from gs → from ≤ length text
 below text from [] b = b

@@ -117,14 +117,14 @@ same_functions r c (Asks (Lines test)) = refl
 same_functions r c (Asks Error) = refl
 same_functions r c Bad = refl
 
+abbrev plain_behind : ℕ → List Placed → List Placed
+plain_behind end cs = filter (λ d. nat_lt end d.spot && is_plain (comment_of d.text)) cs
+
 lines_step : (end : ℕ) (c : Placed) (cs : List Placed)
     → expected_lines end (c ∷ cs) ≡ cond (nat_lt end c.spot && is_plain (comment_of c.text)) (expected_line c.text ∷ expected_lines end cs) (expected_lines end cs)
 lines_step end c cs = go (nat_lt end c.spot && is_plain (comment_of c.text))
   where
-    abbrev behind : List Placed
-    behind = filter (λ d. nat_lt end d.spot && is_plain (comment_of d.text)) cs
-
-    go : (b : Bool) → map (λ d. expected_line d.text) (cond b (c ∷ behind) behind) ≡ cond b (expected_line c.text ∷ map (λ d. expected_line d.text) behind) (map (λ d. expected_line d.text) behind)
+    go : (b : Bool) → map (λ d. expected_line d.text) (cond b (c ∷ plain_behind end cs) (plain_behind end cs)) ≡ cond b (expected_line c.text ∷ expected_lines end cs) (expected_lines end cs)
     go true = refl
     go false = refl
 

@@ -2,6 +2,7 @@
 use Rattle.std.proofs.Common.{◌≡◌, ℕ, suc, ◌+◌, ◌<◌, Bool, true, false, cond, List, [], ◌∷◌, ◌++◌, length, map, slice_get, Option, Some, None, is_some, refl, sym, ap, subst, ◌∙◌, arith}
 use Rattle.std.specs.Str.{bytes_eq}
 use Rattle.std.specs.Map.{lookup}
+use Rattle.std.proofs.lemmas.Slice.Eq.{bytes_eq-Decides}
 use Rattle.clif_read.specs.declared.raw.RawFunction.{RawFunction}
 use Rattle.test_directives.specs.Directives.{spelled_name}
 use Rattle.test_directives.specs.Names.{names_of, place_from, first_place}
@@ -68,3 +69,33 @@ found_none n name (f ∷ fs) e = go (bytes_eq name (spelled_name f.name)) refl (
         → cond b (Some n) (place_from (suc n) name (names_of fs)) ≡ None → first_named name (f ∷ fs) ≡ None
     go true h ih p = absurd cc
     go false h ih p = ap (λ (b : Bool). cond b (Some f) (first_named name fs)) h ∙ ih p
+
+same_text : (x name : List ℕ) → bytes_eq x name ≡ true → x ≡ name
+same_text x name e = (bytes_eq-Decides x name).0 e
+
+or_none : (o : Option ℕ) → o ≡ or_else o None
+or_none (Some k) = refl
+or_none None = refl
+
+-- a name that is not there goes behind all
+pub inserted : (name x : List ℕ) (xs : List (List ℕ)) (i : ℕ) (new : Option ℕ) → is_some (first_place x xs) ≡ false → i ≡ length xs
+    → new ≡ cond (bytes_eq x name) (Some i) (first_place name xs) → new ≡ first_place name (xs ++ x ∷ [])
+inserted name x xs i new absent at e = e ∙ (go (bytes_eq x name) refl (bytes_eq name x) refl ∙ sym (first_place_last name xs x))
+  where
+    none : (o : Option ℕ) → is_some o ≡ false → o ≡ None
+    none None h = refl
+    none (Some k) h = absurd cc
+
+    go : (a : Bool) → bytes_eq x name ≡ a → (b : Bool) → bytes_eq name x ≡ b → cond (bytes_eq x name) (Some i) (first_place name xs) ≡ or_else (first_place name xs) (cond (bytes_eq name x) (Some (length xs)) None)
+    go true p b q =
+        let same = same_text x name p in
+        let away : first_place name xs ≡ None = ap (λ (n : List ℕ). first_place n xs) (sym same) ∙ none (first_place x xs) absent in
+        let back : bytes_eq name x ≡ true = (bytes_eq-Decides name x).1 (sym same) in
+        ap (λ (d : Bool). cond d (Some i) (first_place name xs)) p ∙ (ap (λ (k : ℕ). Some k) at
+        ∙ sym ((λ j. or_else (away j) (cond (back j) (Some (length xs)) None))))
+    go false p true q = absurd (let t : bytes_eq x name ≡ true = (bytes_eq-Decides x name).1 (sym (same_text name x q)) in let f : true ≡ false = sym t ∙ p in cc)
+    go false p false q =
+        ap (λ (d : Bool). cond d (Some i) (first_place name xs)) p ∙ (or_none (first_place name xs) ∙ sym (ap (λ (d : Bool). or_else (first_place name xs) (cond d (Some (length xs)) None)) q))
+
+pub kept : (name x : List ℕ) (xs : List (List ℕ)) → is_some (first_place x xs) ≡ true → first_place name xs ≡ first_place name (xs ++ x ∷ [])
+kept name x xs there = sym (first_place_kept name xs x there (λ b e. same_text name x e))

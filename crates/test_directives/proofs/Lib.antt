@@ -8,3 +8,7 @@ pub mod Prefixes
 pub mod Ascii
 pub mod Texts
 pub mod Sizes
+pub mod Calls
+pub mod Commenting
+pub mod Examples
+pub mod Named

@@ -1,8 +1,9 @@
 -- Comments in order are cut at spots.
-use Rattle.std.proofs.Common.{◌≡◌, ℕ, ◌+◌, ◌<◌, ◌≤◌, suc, Bool, true, false, cond, ◌&&◌, nat_lt, nat_le, List, [], ◌∷◌, length, take, drop, map, refl, sym, ap, subst, ◌∙◌, arith}
+use Rattle.std.proofs.Common.{◌≡◌, ℕ, ◌+◌, ◌<◌, ◌≤◌, ◌-◌, zero, suc, Bool, true, false, cond, ◌&&◌, nat_lt, nat_le, List, [], ◌∷◌, length, take, drop, map, refl, sym, ap, subst, ◌∙◌, arith}
 use Rattle.std.specs.List.{filter, prefix_len}
 use Rattle.std.proofs.lemmas.Bool.{ltb-true, ltb-false, leb-true, leb-false}
 use Rattle.clif_lex.specs.declared.spans.Token.{Token}
+use Rattle.clif_lex.specs.Spelling.{StandFrom}
 use Rattle.test_directives.specs.Tests.{Placed, placed, is_comment, comments, comments_between}
 use Rattle.test_directives.specs.Placing.{between, up_to, before, LeavesBehind, InOrder, InOrderFrom}
 
@@ -14,23 +15,17 @@ pub between_comments : (text : List ℕ) (ts : List Token) (from until : ℕ) �
 between_comments text [] from until = refl
 between_comments text (t ∷ ts) from until = go (is_comment t.kind) (is_between from until (placed text t)) refl (between_comments text ts from until)
   where
-    abbrev chosen : List Placed
-    chosen = comments_between text ts from until
-
-    abbrev all : List Placed
-    all = comments text ts
-
-    keeps : (d : Bool) → chosen ≡ between all from until
+    keeps : (d : Bool) → comments_between text ts from until ≡ between (comments text ts) from until
         → map (placed text) (cond d (t ∷ filter (λ u. is_comment u.kind && (nat_lt from u.start && nat_lt u.start until)) ts) (filter (λ u. is_comment u.kind && (nat_lt from u.start && nat_lt u.start until)) ts))
-        ≡ cond d (placed text t ∷ between all from until) (between all from until)
+        ≡ cond d (placed text t ∷ between (comments text ts) from until) (between (comments text ts) from until)
     keeps true ih = ap (λ (cs : List Placed). placed text t ∷ cs) ih
     keeps false ih = ih
 
-    go : (a b : Bool) → is_between from until (placed text t) ≡ b → chosen ≡ between all from until
+    go : (a b : Bool) → is_between from until (placed text t) ≡ b → comments_between text ts from until ≡ between (comments text ts) from until
         → map (placed text) (cond (a && b) (t ∷ filter (λ u. is_comment u.kind && (nat_lt from u.start && nat_lt u.start until)) ts) (filter (λ u. is_comment u.kind && (nat_lt from u.start && nat_lt u.start until)) ts))
         ≡ filter (is_between from until) (map (placed text) (cond a (t ∷ filter (λ u. is_comment u.kind) ts) (filter (λ u. is_comment u.kind) ts)))
     go false b e ih = ih
-    go true b e ih = keeps b ih ∙ sym (ap (λ (d : Bool). cond d (placed text t ∷ between all from until) (between all from until)) e)
+    go true b e ih = keeps b ih ∙ sym (ap (λ (d : Bool). cond d (placed text t ∷ between (comments text ts) from until) (between (comments text ts) from until)) e)
 
 -- ---- lists from their front on
 
@@ -142,4 +137,63 @@ pub in_order_left : (from until n : ℕ) (cs : List Placed) → InOrderFrom n cs
 in_order_left from until n cs o =
     in_order_behind (λ c. nat_lt c.spot until) n (drop (up_to from cs) cs) (in_order_behind (λ c. nat_le c.spot from) n cs o)
 
+-- ---- cuts seen through a view
+
+pub prefix_of_map : {A B : Type 0} (f : A → B) (p : B → Bool) (xs : List A) → prefix_len p (map f xs) ≡ prefix_len (λ x. p (f x)) xs
+prefix_of_map f p [] = refl
+prefix_of_map f p (x ∷ xs) = ap (λ (n : ℕ). cond (p (f x)) (1 + n) 0) (prefix_of_map f p xs)
+
+pub map_of_drop : {A B : Type 0} (f : A → B) (n : ℕ) (xs : List A) → map f (drop n xs) ≡ drop n (map f xs)
+map_of_drop f zero xs = refl
+map_of_drop f (suc n) [] = refl
+map_of_drop f (suc n) (x ∷ xs) = map_of_drop f n xs
+
+pub map_of_take : {A B : Type 0} (f : A → B) (n : ℕ) (xs : List A) → map f (take n xs) ≡ take n (map f xs)
+map_of_take f zero xs = refl
+map_of_take f (suc n) [] = refl
+map_of_take f (suc n) (x ∷ xs) = ap (λ ys. f x ∷ ys) (map_of_take f n xs)
+
+drop_none : {A : Type 0} (n : ℕ) (xs : List A) → length xs ≡ 0 → drop n xs ≡ []
+drop_none zero [] e = refl
+drop_none (suc n) [] e = refl
+drop_none n (x ∷ xs) e = absurd (omega arith)
+
+pub drop_twice : {A : Type 0} (m n : ℕ) (xs : List A) → drop (m + n) xs ≡ drop n (drop m xs)
+drop_twice zero n xs = let e : 0 + n ≡ n = omega arith in ap (λ (k : ℕ). drop k xs) e
+drop_twice {A} (suc m) n [] = let e : suc m + n ≡ suc (m + n) = omega arith in ap (λ (k : ℕ). drop {A = A} k []) e ∙ sym (drop_none {A} n [] refl)
+drop_twice (suc m) n (x ∷ xs) = let e : suc m + n ≡ suc (m + n) = omega arith in ap (λ (k : ℕ). drop k (x ∷ xs)) e ∙ drop_twice m n xs
+
+-- what a cut of comments between two spots takes
+pub cut_own : {A : Type 0} (f : A → Placed) (xs : List A) (from until start count : ℕ) → InOrder (map f xs) → start ≡ prefix_len (λ x. nat_le (f x).spot from) xs
+    → count ≡ prefix_len (λ x. nat_lt (f x).spot until) (drop start xs) → map f (take (start + count - start) (drop start xs)) ≡ between (map f xs) from until
+cut_own f xs from until start count o at len =
+    let less : start + count - start ≡ count = omega arith in
+    let first : start ≡ up_to from (map f xs) = at ∙ sym (prefix_of_map f (λ c. nat_le c.spot from) xs) in
+    let second : count ≡ before until (drop start (map f xs)) = len ∙ (sym (prefix_of_map f (λ c. nat_lt c.spot until) (drop start xs)) ∙ ap (before until) (map_of_drop f start xs)) in
+    ap (λ (n : ℕ). map f (take n (drop start xs))) less
+    ∙ (map_of_take f count (drop start xs) ∙ (ap (take count) (map_of_drop f start xs)
+    ∙ (ap (λ (n : ℕ). take n (drop start (map f xs))) second
+    ∙ (ap (λ (n : ℕ). take (before until (drop n (map f xs))) (drop n (map f xs))) first ∙ own_comments from until 0 (map f xs) o))))
+
+pub cut_rest : {A : Type 0} (f : A → Placed) (xs : List A) (from until start count : ℕ) → start ≡ prefix_len (λ x. nat_le (f x).spot from) xs
+    → count ≡ prefix_len (λ x. nat_lt (f x).spot until) (drop start xs)
+    → map f (drop (start + count) xs) ≡ drop (before until (drop (up_to from (map f xs)) (map f xs))) (drop (up_to from (map f xs)) (map f xs))
+cut_rest f xs from until start count at len =
+    let first : start ≡ up_to from (map f xs) = at ∙ sym (prefix_of_map f (λ c. nat_le c.spot from) xs) in
+    let second : count ≡ before until (drop start (map f xs)) = len ∙ (sym (prefix_of_map f (λ c. nat_lt c.spot until) (drop start xs)) ∙ ap (before until) (map_of_drop f start xs)) in
+    map_of_drop f (start + count) xs ∙ (drop_twice start count (map f xs)
+    ∙ (ap (λ (n : ℕ). drop n (drop start (map f xs))) second ∙ ap (λ (n : ℕ). drop (before until (drop n (map f xs))) (drop n (map f xs))) first))
+
 -- the comments of tokens that stand one behind the other are in order
+pub comments_in_order : (text : List ℕ) (from : ℕ) (ts : List Token) → StandFrom text from ts → InOrderFrom from (comments text ts)
+comments_in_order text from [] s = tt
+comments_in_order text from (t ∷ ts) s =
+    let a = s.0 in
+    let some = s.1.some in
+    let rest = comments_in_order text t.end ts s.3 in
+    go (is_comment t.kind) (weaker from t.end (comments text ts) (omega arith) rest) (omega (arith, a), weaker t.start t.end (comments text ts) (omega arith) rest)
+  where
+    go : (b : Bool) → InOrderFrom from (comments text ts) → (from ≤ t.start) × InOrderFrom t.start (comments text ts)
+        → InOrderFrom from (map (placed text) (cond b (t ∷ filter (λ u. is_comment u.kind) ts) (filter (λ u. is_comment u.kind) ts)))
+    go true rest all = all
+    go false rest all = rest

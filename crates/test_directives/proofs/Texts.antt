@@ -1,5 +1,5 @@
 -- What a text is by the grammar of scripts, by the answer of reading it.
-use Rattle.std.proofs.Common.{◌≡◌, ℕ, ◌==◌, Bool, true, false, not, cond, ◌&&◌, List, [], ◌∷◌, ◌++◌, length, map, Option, Some, None, Result, Ok, Err, refl, sym, ap, subst, ◌∙◌, inl, inr, append_assoc}
+use Rattle.std.proofs.Common.{◌≡◌, ℕ, ◌+◌, ◌-◌, ◌==◌, Bool, true, false, not, cond, ◌&&◌, List, [], ◌∷◌, ◌++◌, length, take, drop, map, Option, Some, None, Result, Ok, Err, refl, sym, ap, subst, ◌∙◌, inl, inr, append_assoc}
 use Rattle.std.specs.List.{list_all}
 use Rattle.std.specs.Str.{IsUtf8}
 use Rattle.std.proofs.lemmas.Bool.{eq-eqb, eqb-true}
@@ -14,22 +14,23 @@ use Rattle.clif_lex.specs.declared.spans.TokenKind.{TokenKind}
 use Rattle.clif_lex.specs.declared.spans.TokenKind.TheVariants.{Header, Comment, Name, Word, Number, Srcloc, Arrow, Mark}
 use Rattle.clif_lex.specs.declared.faults.LexErr.{LexErr}
 use Rattle.clif_lex.specs.declared.faults.LexErr.TheVariants.{BadChar, BadNumber, NoMemory}
-use Rattle.clif_lex.specs.Lexing.{tokens_of}
-use Rattle.clif_lex.specs.Spelling.{IsReading}
+use Rattle.clif_lex.specs.Lexing.{tokens_of, is_preamble}
+use Rattle.clif_lex.specs.Spelling.{IsReading, IsDivided, IsAtFault}
 use Rattle.clif_lex.proofs.Readings.{reading}
 use Rattle.script_text.specs.Examples.{answer}
-use Rattle.script_text.specs.Lexed.{lexed, lexed_by, symbols_before, symbols}
-use Rattle.script_text.specs.Symbols.{lexeme}
+use Rattle.script_text.specs.Lexed.{lexed, lexed_by, symbols_before, symbols, or_none}
+use Rattle.script_text.specs.Symbols.{lexeme, plain}
+use Rattle.script_text.specs.declared.terminal.Terminal.TheVariants.{Other}
 use Rattle.script_text.specs.Scripts.{Reads, GoesNoFurther, StopsIn}
 use Rattle.test_directives.proofs.Ascii.{is_of_script, divided_small, small_is_ascii}
-use Rattle.test_directives.proofs.Prefixes.{IsPlain, prefix_begins}
+use Rattle.test_directives.proofs.Prefixes.{is_plain, prefix_begins}
 
 -- ---- what is read, and what is refused
 
 split_at_next : (us more : List Lexeme) (x : Lexeme) → us ++ x ∷ more ≡ (us ++ x ∷ []) ++ more
 split_at_next us more x = simp append_assoc
 
-goes_on : (r : Rule) → IsPlain r → (ts us rest : List Lexeme) → ts ≡ us ++ rest → GoesNoFurther r us rest → (v : Tree r) → Derives r ts v → ⊥
+goes_on : (r : Rule) → is_plain r ≡ true → (ts us rest : List Lexeme) → ts ≡ us ++ rest → GoesNoFurther r us rest → (v : Tree r) → Derives r ts v → ⊥
 goes_on r p ts us [] cut stop v d = stop v (subst (λ l. Derives r l v) (cut ∙ append-nil us) d)
 goes_on r p ts us (x ∷ more) cut stop v d = stop (prefix_begins r p (us ++ x ∷ []) more v (subst (λ l. Derives r l v) (cut ∙ split_at_next us more x) d))
 
@@ -37,7 +38,7 @@ no_further : (r : Rule) (us : List Lexeme) (k : Kind) (rest : List Lexeme) → S
 no_further r us k [] stop = stop.1
 no_further r us k (x ∷ more) stop = stop.0
 
-derived : (r : Rule) → good r ≡ true → IsPlain r → (ts : List Lexeme) (v : Tree r) → Derives r ts v → read_all r ts ≡ Ok v
+derived : (r : Rule) → good r ≡ true → is_plain r ≡ true → (ts : List Lexeme) (v : Tree r) → Derives r ts v → read_all r ts ≡ Ok v
 derived r g p ts v d = go (read_all r ts) (exact r g ts)
   where
     go : (o : Result (Tree r) (Kind × List Lexeme)) → Answers r ts o → o ≡ Ok v
@@ -60,7 +61,7 @@ seen {A} r f text = go (read_all r (lexed text))
     go (Ok v) = refl
     go (Err e) = refl
 
-pub read_is : {A : Type 0} (r : Rule) (f : Tree r → A) → good r ≡ true → IsPlain r → (text : List ℕ) (x : A) → Reads r f text x → value_if (answer r f text) ≡ Some x
+pub read_is : {A : Type 0} (r : Rule) (f : Tree r → A) → good r ≡ true → is_plain r ≡ true → (text : List ℕ) (x : A) → Reads r f text x → value_if (answer r f text) ≡ Some x
 read_is r f g p text x (v, d, e, only) = seen r f text ∙ (ap (answered r f) (derived r g p (lexed text) v d) ∙ ap (λ z. Some z) (sym e))
 
 -- where the text is none of the rule, there is no value
@@ -71,7 +72,7 @@ none_if r f g text none = seen r f text ∙ go (read_all r (lexed text)) (exact 
     go (Ok w) a = absurd (none w a.0)
     go (Err e) a = refl
 
-pub refused_is : {A : Type 0} (r : Rule) (f : Tree r → A) → good r ≡ true → IsPlain r → (text : List ℕ) (spot : ℕ) → StopsIn r text spot → value_if (answer r f text) ≡ None
+pub refused_is : {A : Type 0} (r : Rule) (f : Tree r → A) → good r ≡ true → is_plain r ≡ true → (text : List ℕ) (spot : ℕ) → StopsIn r text spot → value_if (answer r f text) ≡ None
 refused_is r f g p text spot (us, rest, cut, (begins, stop, at)) = none_if r f g text (goes_on r p (lexed text) us rest cut stop)
 
 -- ---- bytes
@@ -135,14 +136,20 @@ kinds_are text (t ∷ ts) h =
 
 cut_short : (text : List ℕ) (spot : ℕ) → free 15 (symbols_before text spot) ≡ true → ⊥
 cut_short text spot h =
-    let parts = sym (list_all-append (λ x. not (x.class == 15)) _ _) ∙ h in
-    let last = (both _ _ parts).1 in cc
+    let front = symbols (take spot text) (or_none (tokens_of (take spot text))) in
+    let parts : (free 15 front && free 15 (plain Other spot ∷ [])) ≡ true = sym (list_all-append (λ x. not (x.class == 15)) front (plain Other spot ∷ [])) ∙ h in
+    let last : false ≡ true = (both (free 15 front) false parts).1 in
+    absurd cc
+
+no_want : (preamble : Bool) (at : ℕ) (text : List ℕ) (ts : List Token) → IsDivided (IsAtFault NoMemory) preamble at text ts → ⊥
+no_want preamble at text [] (n, within, blank, here) = here.2
+no_want preamble at text (t ∷ ts) (n, within, blank, (stands, rest)) = no_want (preamble && is_preamble t.kind) t.end (drop (t.end - (at + n)) (drop n text)) ts rest
 
 lexed_small : (text : List ℕ) (o : Result (List Token) LexErr) → tokens_of text ≡ o → IsReading text o → free 15 (lexed_by text o) ≡ true → IsUtf8 text
 lexed_small text (Ok ts) e is h = IsUtf8-from_ascii text (small_is_ascii text (divided_small true 0 text ts is (kinds_are text ts h)))
 lexed_small text (Err (BadChar spot)) e is h = absurd (cut_short text spot h)
 lexed_small text (Err (BadNumber spot)) e is h = absurd (cut_short text spot h)
-lexed_small text (Err NoMemory) e is h = absurd is.1
+lexed_small text (Err NoMemory) e is h = absurd (no_want true 0 text is.0 is.1)
 
 is_text : (text : List ℕ) → free 15 (lexed text) ≡ true → IsUtf8 text
 unfolding lexed

@@ -1,5 +1,6 @@
 //! Names of functions, as the canonical text spells them.
-ghost use Rattle.std.specs.Prelude.{◌≡◌, ◌<◌, length, map, option_map, IfOk};
+ghost use Rattle.std.specs.Prelude.{◌≡◌, ◌≢◌, None, IfOk};
+ghost use Rattle.clif_insts.specs.declared.stop.Stop.TheVariants.{NoMemory};
 ghost use Rattle.clif_insts.specs.Reading.{Gives, same};
 ghost use Rattle.clif_lex.specs.Spelling.{AreIn};
 ghost use Rattle.clif_read.specs.Declarations.{func_name_at};
@@ -107,8 +108,18 @@ fn name_by(alloc: Global, text: &[u8], tokens: &Tokens) -> Result<Option<List<u8
                 Ok(None)
             }
         }
-        Err(Stop::NoMemory) => Err(AllocError),
-        Err(Stop::Syntax | Stop::UnknownOpcode | Stop::Unsupported) => Ok(None),
+        Err(stop) => no_name(stop),
+    }
+}
+
+/// No name, where the tokens are none.
+fn no_name(stop: Stop) -> Result<Option<List<u8>>, AllocError>
+    ensures none { IfOk result (λ name. name ≡ None) }
+    ensures stop { IfOk result (λ _. stop ≢ NoMemory) }
+{
+    match stop {
+        Stop::NoMemory => Err(AllocError),
+        Stop::Syntax | Stop::UnknownOpcode | Stop::Unsupported => Ok(None),
     }
 }
 

@@ -92,13 +92,14 @@ pub(crate) fn comments<'t>(
     let mut list = Vec::new(alloc);
     'tokens: for i in 0..tokens.len() {
         let token = tokens.get(i);
-        if is_comment(token.kind) {
-            list.push(PlacedComment {
-                spot: token.start,
-                line: lines.line_at(token.start),
-                text: spelling(text, token),
-            })?;
+        if !is_comment(token.kind) {
+            continue;
         }
+        list.push(PlacedComment {
+            spot: token.start,
+            line: lines.line_at(token.start),
+            text: spelling(text, token),
+        })?;
     }
     Ok(list)
 }
@@ -116,7 +117,7 @@ pub(crate) fn between(comments: &[PlacedComment<'_>], from: usize, until: usize)
     ensures in_order { spec.InOrder (map spec.placed_of (drop result.1 comments.now)) }
 {
     let start = up_to(comments, from);
-    let count = before(&comments[start..], until);
+    let count = before(comments.split_at(start).1, until);
     (start, start + count)
 }
 

@@ -8,15 +8,15 @@ use Rattle.test_directives.proofs.tests.read_each.Given as goal
 
 abbrev pub invariant-loop-func : goal.invariant-loop-func
 invariant-loop-func l = record {
-  text : l.lines.text ≡ l.text;
-  within : l.next ≤ length l.comments;
-  ascending : AreAscending l.text l.lines.at l.left.now;
-  in_order : InOrder (map placed_of (drop l.next l.comments));
-  behind : LeavesBehind (first_spot l.text l.left.now) (map placed_of l.comments) (map placed_of (drop l.next l.comments));
-  tests : map function_of l.list.items ++ tests_by l.text (map placed_of l.comments) l.left.now ≡ tests_by l.text (map placed_of l.comments) l.named.functions.now;
-  placed : All (λ t. All (IsPlaced l.named.functions.now) t.runs.items) l.list.items;
-  bad : bad_by l.text (map placed_of l.comments) l.named.functions.now l.left.now ≡ bad_by l.text (map placed_of l.comments) l.named.functions.now l.named.functions.now;
+  text : l.lines.text ≡ l.fn.text;
+  within : l.next ≤ length l.fn.comments;
+  ascending : AreAscending l.fn.text l.lines.at l.left;
+  in_order : InOrder (map placed_of (drop l.next l.fn.comments));
+  behind : LeavesBehind (first_spot l.fn.text l.left) (map placed_of l.fn.comments) (map placed_of (drop l.next l.fn.comments));
+  tests : map function_of l.list.items ++ tests_by l.fn.text (map placed_of l.fn.comments) l.left ≡ tests_by l.fn.text (map placed_of l.fn.comments) l.fn.named.functions.now;
+  placed : All (λ t. All (IsPlaced l.fn.named.functions.now) t.runs.items) l.list.items;
+  bad : bad_by l.fn.text (map placed_of l.fn.comments) l.fn.named.functions.now l.left ≡ bad_by l.fn.text (map placed_of l.fn.comments) l.fn.named.functions.now l.fn.named.functions.now;
 }
 
 abbrev pub decreases-loop-func : goal.decreases-loop-func
-decreases-loop-func l = length l.left.now
+decreases-loop-func l = length l.left

@@ -1,5 +1,5 @@
 -- Which call is one of a function of the text, and which numbers are values.
-use Rattle.std.proofs.Common.{◌≡◌, ℕ, zero, suc, ◌+◌, ◌<◌, Bool, true, false, cond, ◌&&◌, not, List, [], ◌∷◌, length, map, drop, slice_get, ℤ, Option, Some, None, is_some, IfSome, refl, sym, ap, subst, ◌∙◌, arith}
+use Rattle.std.proofs.Common.{◌≡◌, ℕ, zero, suc, ◌+◌, ◌<◌, Bool, true, false, cond, ◌&&◌, not, List, [], ◌∷◌, length, map, drop, get_or, slice_get, ℤ, Option, Some, None, is_some, IfSome, refl, sym, ap, subst, ◌∙◌, arith}
 use Rattle.ir_core.specs.declared.signatures.Ty.{Ty}
 use Rattle.clk_num.specs.Operations.{DataValue}
 use Rattle.ir_semantics.specs.Values.{cons_some, value_for, values_for}
@@ -70,3 +70,12 @@ is_call_by fs call f e =
 pub no_call : (fs : List RawFunction) (call : Call) → first_place call.name (names_of fs) ≡ None → is_call fs call ≡ false
 no_call fs call e =
     ap (λ (o : Option RawFunction). elim o as (λ p. Bool) [ None ↦ false | Some g ↦ are_values g.signature.params call.numbers && may_be_wanted g call.wanted ]) (found_none 0 call.name fs e)
+
+pub get_is : {A : Type 0} (xs : List A) (i : ℕ) (x : A) → i < length xs → x ≡ get_or xs i x → slice_get xs i ≡ Some x
+get_is [] i x less e = absurd (omega arith)
+get_is (y ∷ ys) zero x less e = ap (λ z. Some z) (sym e)
+get_is (y ∷ ys) (suc i) x less e = get_is ys i x (omega arith) e
+
+pub is_call_at : (fs : List RawFunction) (call : Call) (k : ℕ) (f : RawFunction) → Some k ≡ first_place call.name (names_of fs) → k < length fs → f ≡ get_or fs k f
+    → is_call fs call ≡ (are_values f.signature.params call.numbers && may_be_wanted f call.wanted)
+is_call_at fs call k f at less here = is_call_by fs call f (sym (called call.name fs k (sym at)) ∙ get_is fs k f less here)

@@ -26,7 +26,7 @@ continued_last [] r xs = refl
 continued_last (q ∷ []) r xs = refl
 continued_last (q ∷ s ∷ rs) r xs = ap (λ (ts : List RunTest). q ∷ ts) (continued_last (s ∷ rs) r xs)
 
-has_run_last : (rs : List RunTest) (r : RunTest) → has_run (rs ++ r ∷ []) ≡ true
+pub has_run_last : (rs : List RunTest) (r : RunTest) → has_run (rs ++ r ∷ []) ≡ true
 has_run_last [] r = refl
 has_run_last (q ∷ rs) r = refl
 

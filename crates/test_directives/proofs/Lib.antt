@@ -12,3 +12,5 @@ pub mod Calls
 pub mod Commenting
 pub mod Examples
 pub mod Named
+pub mod Reader
+pub mod Dealing

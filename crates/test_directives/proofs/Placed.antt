@@ -160,7 +160,7 @@ drop_none n (x ∷ xs) e = absurd (omega arith)
 
 pub drop_twice : {A : Type 0} (m n : ℕ) (xs : List A) → drop (m + n) xs ≡ drop n (drop m xs)
 drop_twice zero n xs = let e : 0 + n ≡ n = omega arith in ap (λ (k : ℕ). drop k xs) e
-drop_twice {A} (suc m) n [] = let e : suc m + n ≡ suc (m + n) = omega arith in ap (λ (k : ℕ). drop {A = A} k []) e ∙ sym (drop_none {A} n [] refl)
+drop_twice {A} (suc m) n [] = let e : suc m + n ≡ suc (m + n) = omega arith in ap (λ (k : ℕ). drop {A = A} k []) e ∙ sym (drop_none {A = A} n [] refl)
 drop_twice (suc m) n (x ∷ xs) = let e : suc m + n ≡ suc (m + n) = omega arith in ap (λ (k : ℕ). drop k (x ∷ xs)) e ∙ drop_twice m n xs
 
 -- what a cut of comments between two spots takes

@@ -1,4 +1,4 @@
-use Rattle.std.proofs.Common.{◌≡◌, ℕ, Bool, true, false, not, List, Option, Some, None, Ok, Err, IfOk, refl, sym, ap, ◌∙◌}
+use Rattle.std.proofs.Common.{◌≡◌, ℕ, Bool, true, false, not, List, Option, Some, None, Ok, Err, IfOk, Result, refl, sym, ap, subst, ◌∙◌}
 use Rattle.std.proofs.lemmas.Result.{IfOk-weaker}
 use Rattle.grammar.specs.Rules.{Lexeme}
 use Rattle.grammar.proofs.Sets.{not_true}
@@ -33,3 +33,13 @@ returns-in-Ok c =
     let e = ap func_name_at (sym c.new-reader.ensures) ∙ c.in-Ok.ensures in
     let left = not_false _ (sym c.is_at_end.ensures ∙ c.if-is_at_end.false) in
     sym (name_read c.args.text.now c.args.tokens.now c.in-Ok.name c.func_name.new.reader true e left)
+
+by_stop : {E : Type 0} (text : List ℕ) (ts : List Token) (now : List Lexeme) (stop : Stop) (r : Result (Option (List ℕ)) E) → Stops now stop (func_name_at (lexemes text ts))
+    → IfOk r (λ n. n ≡ None) → IfOk r (λ n. stop ≡ stops.NoMemory → ⊥) → IfOk r (λ n. n ≡ name_by text ts)
+by_stop text ts now stop (Ok n) e none some = none ∙ sym (stopped text ts now stop some e)
+by_stop text ts now stop (Err d) e none some = tt
+
+pub returns : goal.returns
+returns c =
+    by_stop c.args.text.now c.args.tokens.now c.func_name.new.reader c.in-Err.stop c.no_name.result
+    (subst (λ (l : List Lexeme). Stops c.func_name.new.reader c.in-Err.stop (func_name_at l)) c.new-reader.ensures c.in-Err.ensures) c.no_name.ensures.none c.no_name.ensures.stop

@@ -1,5 +1,6 @@
 use Rattle.std.proofs.Common.{◌≡◌, ℕ, false, true, ◌+◌, ◌<◌, ◌≤◌, List, [], ◌∷◌, ◌++◌, map, take, drop, subst, sym, ap, ◌∙◌, arith}
 use Rattle.std.proofs.lemmas.List.{map-append, append-nil}
+use Rattle.clif_lex.specs.Places.{line_at}
 use Rattle.clif_lex.specs.Spelling.{StandFrom}
 use Rattle.test_directives.specs.Placing.{placed_of, Counted}
 use Rattle.test_directives.proofs.TokenSteps.{stand_next, comments_next}
@@ -39,9 +40,13 @@ tokens-preserved-then-not-is_comment c =
 pub tokens-preserved : goal.tokens-preserved
 tokens-preserved c =
     let s = stand_next c.args.text.now c.args.tokens.now c.tokens.i c.tokens.lines.at c.get-token.result c.get-token.ensures c.tokens.invariant.stand in
+    let line = c.line_at.ensures.line ∙ ap (λ (t : List ℕ). line_at t c.get-token.result.start) c.tokens.invariant.text in
     let comment = sym c.is_comment.ensures ∙ c.if-not-is_comment.false in
     record {
-      seen = ?;
+      seen = ap (map placed_of) c.in_ok-push.ensures.items
+          ∙ (map-append placed_of c.tokens.list.items _
+          ∙ ((λ j. c.tokens.invariant.seen j ++ record { spot = c.get-token.result.start; line = line j; text = c.spelling.ensures j } ∷ [])
+          ∙ sym (comments_next c.args.text.now c.args.tokens.now c.tokens.i c.get-token.result true c.get-token.ensures comment)));
       text = ap (λ (v : Counted). v.text) c.line_at.ensures.at ∙ c.tokens.invariant.text;
       stand = subst (λ (n : ℕ). StandFrom c.args.text.now n (drop (c.tokens.i + 1) c.args.tokens.now)) (sym (ap (λ (v : Counted). v.at) c.line_at.ensures.at)) s.2;
     }

@@ -21,4 +21,5 @@ unequal (c ∷ cs) rest e none some is =
 pub returns-in-Some-3 : goal.returns-in-Some-3
 returns-in-Some-3 c =
     unequal c.args.text.now c.in-Some-behind.rest.now (views.expectation_of c.in-Some-3.end)
-    ? ? (ap (option_map views.expectation_of) (sym c.in-Some-3.is) ∙ c.in_ok-end-2.ensures)
+    (c.in_default.ensures ∙ ap (λ (w : List ℕ). behind w c.args.text.now) c.as_slice.ensures)
+    (c.in-Some-behind.ensures ∙ ap (λ (w : List ℕ). behind w c.args.text.now) c.as_slice-2.ensures) (ap (option_map views.expectation_of) (sym c.in-Some-3.is) ∙ c.in_ok-end-2.ensures)

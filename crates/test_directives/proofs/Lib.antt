@@ -1,0 +1,16 @@
+pub mod Words
+pub mod Placed
+pub mod Finishing
+pub mod FirstNames
+pub mod Ascending
+pub mod TokenSteps
+pub mod Prefixes
+pub mod Ascii
+pub mod Texts
+pub mod Sizes
+pub mod Calls
+pub mod Commenting
+pub mod Examples
+pub mod Named
+pub mod Reader
+pub mod Dealing

@@ -1,0 +1,9 @@
+pub mod Blanks
+pub mod Commands
+pub mod Directives
+pub mod Tests
+pub mod Views
+pub mod Names
+pub mod Placing
+pub mod Reading
+pub mod Examples

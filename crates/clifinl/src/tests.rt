@@ -315,7 +315,7 @@ fn a_generated_module(rt: HostRuntime) -> Result<(), AllocError> {
         assert!(rt; ran.err.bytes().is_empty());
         let cut = run_command(&rt, rt.alloc(), words, INPUT, 0, 20)?;
         assert!(rt; cut.status == Status::WriteFault);
-        assert!(rt; cut.out.bytes() == &output[..20]);
+        assert!(rt; cut.out.bytes().len() == 20 && output.starts_with(cut.out.bytes()));
     }
     Ok(())
 }

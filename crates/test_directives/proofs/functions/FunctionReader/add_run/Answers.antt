@@ -61,12 +61,13 @@ returns-clause-taken c =
     let script : replies_of c.replace-script.result ≡ replies_of c.self.inside.script = ap replies_of c.replace-script.ensures.value in
     let empty : replies_of c.replace-script.new.dest ≡ [] = ap replies_of c.replace-script.ensures.after ∙ c.no_script.ensures in
     let runs = ap (map run_of) c.in_ok-push.ensures.items
-        ∙ (map-append run_of c.self.inside.tests.runs.items _ ∙ ap (λ (s : List Reply). map run_of c.self.inside.tests.runs.items ++ record { line = c.args.line; call = call; script = s; trace = [] } ∷ []) script) in
-    (subst (λ (gs : List RawFunction). not (is_call gs call) ≡ false) (ap (λ (v : Read). v.functions) c.self.view_is) (ap not yes),
-    (λ j. record {
-      functions = fs;
-      end_spot = c.self.inside.end_spot;
-      tests = record (views.function_of c.self.inside.tests) { runs = runs j };
-      script = empty j;
-      has_check = c.self.inside.has_check;
-    }) ∙ ap (λ (v : Read). after_directive v c.args.line (run c.args.name c.args.numbers (views.wanted_of c.args.wanted))) c.self.view_is)
+    ∙ (map-append run_of c.self.inside.tests.runs.items _ ∙ ap (λ (s : List Reply). map run_of c.self.inside.tests.runs.items ++ record { line = c.args.line; call = call; script = s; trace = [] } ∷ []) script) in (
+      subst (λ (gs : List RawFunction). not (is_call gs call) ≡ false) (ap (λ (v : Read). v.functions) c.self.view_is) (ap not yes),
+      (λ j. record {
+        functions = fs;
+        end_spot = c.self.inside.end_spot;
+        tests = record (views.function_of c.self.inside.tests) { runs = runs j };
+        script = empty j;
+        has_check = c.self.inside.has_check;
+      }) ∙ ap (λ (v : Read). after_directive v c.args.line (run c.args.name c.args.numbers (views.wanted_of c.args.wanted))) c.self.view_is,
+    )

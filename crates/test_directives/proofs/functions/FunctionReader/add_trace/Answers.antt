@@ -35,12 +35,13 @@ returns-clause-taken c =
     ∙ (map-append run_of c.pop.new.self.items (c.in_ok-with_event.field-0 ∷ [])
     ∙ (ap (λ (r : RunTest). front ++ r ∷ []) c.in_ok-with_event.ensures.run
     ∙ (sym (continued_last front (run_of c.in-Some.run') (c.args.event ∷ [])) ∙ ap (λ (rs : List RunTest). continued rs (c.args.event ∷ [])) (sym old)))) in
-    let some : has_run (map run_of c.self.inside.tests.runs.items) ≡ true = ap has_run old ∙ has_run_last front (run_of c.in-Some.run') in
-    (ap (λ (v : Read). not (has_run v.tests.runs)) (sym c.self.view_is) ∙ ap not some,
-    (λ j. record {
-      functions = fs;
-      end_spot = c.self.inside.end_spot;
-      tests = record (views.function_of c.self.inside.tests) { runs = runs j };
-      script = replies_of c.self.inside.script;
-      has_check = c.self.inside.has_check;
-    }) ∙ ap (λ (v : Read). after_directive v c.args.line (Trace c.args.event)) c.self.view_is)
+    let some : has_run (map run_of c.self.inside.tests.runs.items) ≡ true = ap has_run old ∙ has_run_last front (run_of c.in-Some.run') in (
+      ap (λ (v : Read). not (has_run v.tests.runs)) (sym c.self.view_is) ∙ ap not some,
+      (λ j. record {
+        functions = fs;
+        end_spot = c.self.inside.end_spot;
+        tests = record (views.function_of c.self.inside.tests) { runs = runs j };
+        script = replies_of c.self.inside.script;
+        has_check = c.self.inside.has_check;
+      }) ∙ ap (λ (v : Read). after_directive v c.args.line (Trace c.args.event)) c.self.view_is,
+    )

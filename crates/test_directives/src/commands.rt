@@ -94,11 +94,17 @@ impl InlineWords {
         }
         if let Some(digits) = behind(word, b"callee-size=".as_slice()) {
             let callee_size = size_of(digits)?;
-            return Some(InlineWords { callee_size, ..self });
+            return Some(InlineWords {
+                callee_size,
+                ..self
+            });
         }
         if let Some(digits) = behind(word, b"caller-size=".as_slice()) {
             let caller_size = size_of(digits)?;
-            return Some(InlineWords { caller_size, ..self });
+            return Some(InlineWords {
+                caller_size,
+                ..self
+            });
         }
         Some(self)
     }
@@ -148,7 +154,10 @@ fn command_by(alloc: Global, word: &[u8], after: &[u8]) -> Result<Option<Command
 }
 
 /// What a header line asks for: `None` where it is no `test` line, and `Some(None)` where it is one without a reading.
-pub(crate) fn command_of(alloc: Global, header: &[u8]) -> Result<Option<Option<Command>>, AllocError>
+pub(crate) fn command_of(
+    alloc: Global,
+    header: &[u8],
+) -> Result<Option<Option<Command>>, AllocError>
     ensures { IfOk result (λ command. option_map (option_map command_of) command ≡ spec.command_of header.now) }
 {
     let Some(text) = behind(header, b"test".as_slice()) else {

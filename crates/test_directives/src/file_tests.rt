@@ -51,7 +51,11 @@ fn a_file_asks(rt: HostRuntime) {
         return assert!(rt; false, "it is not read");
     };
     assert_eq!(rt; file.commands.len(), 3);
-    for (command, word) in file.commands.iter().zip(["interpret", "inline", "compile"].iter()) {
+    for (command, word) in file
+        .commands
+        .iter()
+        .zip(["interpret", "inline", "compile"].iter())
+    {
         assert!(rt; command.word() == word.as_bytes());
     }
     if let Command::Inline {
@@ -89,7 +93,16 @@ fn a_file_asks(rt: HostRuntime) {
     assert_eq!(rt; (other.line, other.func), (15, 1));
     assert_eq!(rt; other.script.replies.as_slice().len(), 2);
     assert!(rt; other.trace.is_none());
-    assert!(rt; matches!(other.wanted, Wanted::Unequal(Expectation::Throw { tag: 3, p0: 7, p1: 18446744073709551615 })));
+    assert!(rt;
+        matches!(
+            other.wanted,
+            Wanted::Unequal(Expectation::Throw {
+                tag: 3,
+                p0: 7,
+                p1: 18446744073709551615
+            })
+        )
+    );
     let second = &file.functions[1];
     assert_eq!(rt; (second.line, second.runs[0].line), (20, 24));
     assert_eq!(rt; second.expected.len(), 2);

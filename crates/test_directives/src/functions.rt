@@ -130,11 +130,11 @@ impl<'r> Model for FunctionReader<'r> {
     ghost Value = { Read };
 
     ghost view = { λ r. record {
-        functions = r.named.now.functions.now;
-        end_spot = r.end_spot;
-        tests = function_of r.tests;
-        script = replies_of r.script;
-        has_check = r.has_check;
+      functions = r.named.now.functions.now;
+      end_spot = r.end_spot;
+      tests = function_of r.tests;
+      script = replies_of r.script;
+      has_check = r.has_check;
     } };
 
     ghost invariant = { λ r. All (IsPlaced r.named.now.functions.now) r.tests.runs.items };
@@ -182,8 +182,10 @@ impl<'r> FunctionReader<'r> {
         numbers: List<i128>,
         wanted: Wanted,
     ) -> Result<(), DirectiveErr>
-        ensures taken { OnOk result (spec.Takes self.old line (spec.run name numbers (views.wanted_of wanted)) self.new) }
-        ensures refused { IfErr result (spec.Misplaces self.old line (spec.run name numbers (views.wanted_of wanted))) }
+        ensures taken { OnOk result
+            (spec.Takes self.old line (spec.run name numbers (views.wanted_of wanted)) self.new) }
+        ensures refused { IfErr result
+            (spec.Misplaces self.old line (spec.run name numbers (views.wanted_of wanted))) }
     {
         let Some(func) = self.named.place(name.as_slice()) else {
             return Err(DirectiveErr::BadDirective(line));
@@ -282,7 +284,11 @@ impl<'r> FunctionReader<'r> {
     }
 
     /// Reads the next comment.
-    pub(crate) fn take(&mut self, alloc: Global, comment: &PlacedComment<'_>) -> Result<(), DirectiveErr>
+    pub(crate) fn take(
+        &mut self,
+        alloc: Global,
+        comment: &PlacedComment<'_>,
+    ) -> Result<(), DirectiveErr>
         ensures taken { OnOk result (spec.Reads self.old (placed_of comment.now) self.new) }
         ensures refused { IfErr result (spec.Stops self.old (placed_of comment.now)) }
     {

@@ -24,7 +24,9 @@ fn before_mark(text: &[u8]) -> usize
     ensures len { result ≡ spec.before (λ c. (c == 61) || (c == 33)) text.now }
     ensures within { result ≤ length text.now }
 {
-    text.iter().take_while(|c| !(**c == b'=' || **c == b'!')).count()
+    text.iter()
+        .take_while(|c| !(**c == b'=' || **c == b'!'))
+        .count()
 }
 
 /// What is wanted, by the text from the first `=` or `!` on.

@@ -203,7 +203,12 @@ fn read_functions(
     let names = spelled_names(alloc, functions)?;
     let places = first_places(alloc, names.as_slice())?;
     let comments = comments(alloc, text, tokens)?;
-    read_each(alloc, text, &Named { functions, places }, comments.as_slice())
+    read_each(
+        alloc,
+        text,
+        &Named { functions, places },
+        comments.as_slice(),
+    )
 }
 
 /// What a text asks for, whose tokens and whose raw module these are. Takes time and memory linear in the text.

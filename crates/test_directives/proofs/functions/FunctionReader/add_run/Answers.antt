@@ -1,18 +1,17 @@
-use Rattle.std.proofs.Common.{◌≡◌, ℕ, Bool, true, false, not, ◌&&◌, ◌<◌, List, [], ◌∷◌, ◌++◌, map, length, Option, Some, None, refl, sym, ap, subst, ◌∙◌}
+use Rattle.std.proofs.Common.{◌≡◌, ℕ, Bool, true, false, not, ◌&&◌, List, [], ◌∷◌, ◌++◌, map, Some, None, refl, sym, ap, subst, ◌∙◌}
 use Rattle.std.specs.Prelude.{All}
 use Rattle.std.proofs.lemmas.List.{map-append}
 use Rattle.std.proofs.lemmas.List.Elements.{All-append, All-cons, All-nil}
 use Rattle.clif_read.specs.declared.raw.RawFunction.{RawFunction}
 use Rattle.host_script.specs.Script.{replies_of}
 use Rattle.ir_semantics.specs.Machine.{Reply}
-use Rattle.test_directives.specs.Directives.{Call, Trace}
+use Rattle.test_directives.specs.Directives.{Call}
 use Rattle.test_directives.specs.Names.{names_of, first_place}
-use Rattle.test_directives.specs.Reading.{Read, run, has_run, continued, with_events, after_directive}
-use Rattle.test_directives.specs.Tests.{RunTest, are_values, may_be_wanted, is_call}
+use Rattle.test_directives.specs.Reading.{Read, run, after_directive}
+use Rattle.test_directives.specs.Tests.{are_values, may_be_wanted, is_call}
 use Rattle.test_directives.specs.Views as views
 use Rattle.test_directives.specs.Views.{run_of, IsPlaced}
 use Rattle.test_directives.proofs.Calls.{called, no_call, is_call_at}
-use Rattle.test_directives.proofs.Finishing.{continued_last}
 use Rattle.test_directives.proofs.functions.FunctionReader.add_run.Goals as goal
 use Rattle.test_directives.proofs.functions.FunctionReader.add_run.Goals.{then-not-are_values-via-then-not-are_values, then-not-are_values-via-else-not-are_values+then-not-may_be_wanted}
 
@@ -61,12 +60,13 @@ returns-clause-taken c =
     let script : replies_of c.replace-script.result ≡ replies_of c.self.inside.script = ap replies_of c.replace-script.ensures.value in
     let empty : replies_of c.replace-script.new.dest ≡ [] = ap replies_of c.replace-script.ensures.after ∙ c.no_script.ensures in
     let runs = ap (map run_of) c.in_ok-push.ensures.items
-        ∙ (map-append run_of c.self.inside.tests.runs.items _ ∙ ap (λ (s : List Reply). map run_of c.self.inside.tests.runs.items ++ record { line = c.args.line; call = call; script = s; trace = [] } ∷ []) script) in
-    (subst (λ (gs : List RawFunction). not (is_call gs call) ≡ false) (ap (λ (v : Read). v.functions) c.self.view_is) (ap not yes),
-    (λ j. record {
-      functions = fs;
-      end_spot = c.self.inside.end_spot;
-      tests = record (views.function_of c.self.inside.tests) { runs = runs j };
-      script = empty j;
-      has_check = c.self.inside.has_check;
-    }) ∙ ap (λ (v : Read). after_directive v c.args.line (run c.args.name c.args.numbers (views.wanted_of c.args.wanted))) c.self.view_is)
+    ∙ (map-append run_of c.self.inside.tests.runs.items _ ∙ ap (λ (s : List Reply). map run_of c.self.inside.tests.runs.items ++ record { line = c.args.line; call = call; script = s; trace = [] } ∷ []) script) in (
+      subst (λ (gs : List RawFunction). not (is_call gs call) ≡ false) (ap (λ (v : Read). v.functions) c.self.view_is) (ap not yes),
+      (λ j. record {
+        functions = fs;
+        end_spot = c.self.inside.end_spot;
+        tests = record (views.function_of c.self.inside.tests) { runs = runs j };
+        script = empty j;
+        has_check = c.self.inside.has_check;
+      }) ∙ ap (λ (v : Read). after_directive v c.args.line (run c.args.name c.args.numbers (views.wanted_of c.args.wanted))) c.self.view_is,
+    )

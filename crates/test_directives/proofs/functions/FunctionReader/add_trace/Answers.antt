@@ -1,17 +1,13 @@
-use Rattle.std.proofs.Common.{◌≡◌, ℕ, Bool, true, false, not, ◌&&◌, ◌<◌, List, [], ◌∷◌, ◌++◌, map, length, slice_get, Option, Some, None, refl, sym, ap, subst, ◌∙◌}
+use Rattle.std.proofs.Common.{◌≡◌, ℕ, true, not, List, [], ◌∷◌, ◌++◌, map, slice_get, Some, sym, ap, subst, ◌∙◌}
 use Rattle.std.specs.Prelude.{All}
 use Rattle.std.proofs.lemmas.List.{map-append}
 use Rattle.std.proofs.lemmas.List.Elements.{All-append, All-cons, All-nil}
-use Rattle.clif_read.specs.declared.raw.RawFunction.{RawFunction}
 use Rattle.host_script.specs.Script.{replies_of}
-use Rattle.ir_semantics.specs.Machine.{Reply}
-use Rattle.test_directives.specs.Directives.{Call, Trace}
-use Rattle.test_directives.specs.Names.{names_of, first_place}
-use Rattle.test_directives.specs.Reading.{Read, run, has_run, continued, with_events, after_directive}
-use Rattle.test_directives.specs.Tests.{RunTest, first_named, are_values, may_be_wanted, is_call}
+use Rattle.test_directives.specs.Directives.{Trace}
+use Rattle.test_directives.specs.Reading.{Read, has_run, continued, after_directive}
+use Rattle.test_directives.specs.Tests.{RunTest, first_named}
 use Rattle.test_directives.specs.Views as views
 use Rattle.test_directives.specs.Views.{run_of, IsPlaced}
-use Rattle.test_directives.proofs.Calls.{called, no_call, is_call_at}
 use Rattle.test_directives.proofs.Finishing.{continued_last, has_run_last}
 use Rattle.std.proofs.lemmas.List.Elements.{All-pop}
 use Rattle.test_directives.proofs.functions.FunctionReader.add_trace.Goals as goal
@@ -35,12 +31,13 @@ returns-clause-taken c =
     ∙ (map-append run_of c.pop.new.self.items (c.in_ok-with_event.field-0 ∷ [])
     ∙ (ap (λ (r : RunTest). front ++ r ∷ []) c.in_ok-with_event.ensures.run
     ∙ (sym (continued_last front (run_of c.in-Some.run') (c.args.event ∷ [])) ∙ ap (λ (rs : List RunTest). continued rs (c.args.event ∷ [])) (sym old)))) in
-    let some : has_run (map run_of c.self.inside.tests.runs.items) ≡ true = ap has_run old ∙ has_run_last front (run_of c.in-Some.run') in
-    (ap (λ (v : Read). not (has_run v.tests.runs)) (sym c.self.view_is) ∙ ap not some,
-    (λ j. record {
-      functions = fs;
-      end_spot = c.self.inside.end_spot;
-      tests = record (views.function_of c.self.inside.tests) { runs = runs j };
-      script = replies_of c.self.inside.script;
-      has_check = c.self.inside.has_check;
-    }) ∙ ap (λ (v : Read). after_directive v c.args.line (Trace c.args.event)) c.self.view_is)
+    let some : has_run (map run_of c.self.inside.tests.runs.items) ≡ true = ap has_run old ∙ has_run_last front (run_of c.in-Some.run') in (
+      ap (λ (v : Read). not (has_run v.tests.runs)) (sym c.self.view_is) ∙ ap not some,
+      (λ j. record {
+        functions = fs;
+        end_spot = c.self.inside.end_spot;
+        tests = record (views.function_of c.self.inside.tests) { runs = runs j };
+        script = replies_of c.self.inside.script;
+        has_check = c.self.inside.has_check;
+      }) ∙ ap (λ (v : Read). after_directive v c.args.line (Trace c.args.event)) c.self.view_is,
+    )

@@ -1,8 +1,7 @@
 -- The functions of a text stand one behind the other.
-use Rattle.std.proofs.Common.{◌≡◌, ℕ, ◌+◌, ◌<◌, ◌≤◌, Bool, true, false, cond, List, [], ◌∷◌, ◌++◌, length, map, Ok, refl, sym, ap, subst, ◌∙◌, arith}
-use Rattle.grammar.specs.Rules.{Lexeme, Rule, Many, Tree, Derives, Each}
+use Rattle.std.proofs.Common.{◌≡◌, ℕ, ◌+◌, ◌<◌, ◌≤◌, Bool, true, false, cond, List, [], ◌∷◌, ◌++◌, length, map, sym, ap, subst, ◌∙◌, arith}
+use Rattle.grammar.specs.Rules.{Lexeme, Tree, Derives, Each}
 use Rattle.clif_lex.specs.declared.spans.Token.{Token}
-use Rattle.clif_lex.specs.Lexing.{tokens_of}
 use Rattle.clif_lex.specs.Spelling.{StandFrom}
 use Rattle.clif_lex.proofs.Readings.{tokens_stand}
 use Rattle.clif_words.specs.Lexemes.{lexeme, lexemes, is_comment}

@@ -1,17 +1,16 @@
 -- A text whose tokens are words, numbers and marks is one of ASCII bytes.
-use Rattle.std.proofs.Common.{◌≡◌, ℕ, zero, suc, ◌+◌, ◌-◌, ◌<◌, ◌==◌, Bool, true, false, not, cond, ◌&&◌, ◌||◌, nat_lt, List, [], ◌∷◌, ◌++◌, length, take, drop, refl, sym, ap, subst, ◌∙◌, arith, inl, inr}
+use Rattle.std.proofs.Common.{◌≡◌, ℕ, zero, suc, ◌+◌, ◌-◌, ◌==◌, Bool, true, false, cond, ◌&&◌, ◌||◌, nat_lt, List, [], ◌∷◌, take, drop, refl, sym, ap, ◌∙◌, arith, inl, inr}
 use Rattle.std.specs.Prelude.{◌⊎◌}
 use Rattle.std.specs.List.{list_all}
 use Rattle.std.specs.Str.{IsAscii, bytes_eq}
 use Rattle.std.specs.Char.{is_ascii_digit, is_ascii_hexdigit}
 use Rattle.std.proofs.lemmas.Bool.{ltb-true}
 use Rattle.std.proofs.lemmas.Bool.Decides.{nat_tests}
-use Rattle.std.proofs.lemmas.List.Folds.{list_all-append}
 use Rattle.grammar.proofs.Sets.{both}
 use Rattle.clif_lex.specs.declared.spans.TokenKind.{TokenKind}
 use Rattle.clif_lex.specs.declared.spans.TokenKind.TheVariants.{Header, Comment, Name, Word, Number, Srcloc, Arrow, Mark}
 use Rattle.clif_lex.specs.declared.spans.Token.{Token}
-use Rattle.clif_lex.specs.Bytes.{is_blank, is_letter, is_word_byte, is_decimal_byte, is_hex_byte, is_sign, is_mark, first, second}
+use Rattle.clif_lex.specs.Bytes.{is_blank, is_letter, is_word_byte, is_decimal_byte, is_hex_byte, is_sign, is_mark, first}
 use Rattle.clif_lex.specs.Lexing.{is_preamble}
 use Rattle.clif_lex.specs.Numbers.{unsigned, is_hex}
 use Rattle.clif_lex.specs.Spelling.{spells, are_digits, IsDivided, IsAtEnd}

@@ -1,7 +1,5 @@
 -- Which call is one of a function of the text, and which numbers are values.
-use Rattle.std.proofs.Common.{◌≡◌, ℕ, zero, suc, ◌+◌, ◌<◌, Bool, true, false, cond, ◌&&◌, not, List, [], ◌∷◌, length, map, drop, get_or, slice_get, ℤ, Option, Some, None, is_some, IfSome, refl, sym, ap, subst, ◌∙◌, arith}
-use Rattle.ir_core.specs.declared.signatures.Ty.{Ty}
-use Rattle.clk_num.specs.Operations.{DataValue}
+use Rattle.std.proofs.Common.{◌≡◌, ℕ, zero, suc, ◌+◌, ◌<◌, Bool, true, false, ◌&&◌, List, [], ◌∷◌, length, map, drop, get_or, slice_get, ℤ, Option, Some, None, is_some, IfSome, refl, sym, ap, ◌∙◌, arith}
 use Rattle.ir_semantics.specs.Values.{cons_some, value_for, values_for}
 use Rattle.clif_read.specs.declared.raw.RawFunction.{RawFunction}
 use Rattle.clif_read.specs.declared.raw.RawParam.{RawParam}

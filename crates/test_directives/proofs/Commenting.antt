@@ -1,7 +1,7 @@
 -- The first word of the table that a text begins with reads it.
-use Rattle.std.proofs.Common.{◌≡◌, ℕ, List, [], ◌∷◌, Option, Some, None, sym, ap, ◌∙◌}
+use Rattle.std.proofs.Common.{◌≡◌, ℕ, List, ◌∷◌, Option, Some, None, sym, ap}
 use Rattle.test_directives.specs.Blanks.{behind}
-use Rattle.test_directives.specs.Directives.{Directive, Comment, Plain, or_bad, by_readings}
+use Rattle.test_directives.specs.Directives.{Directive, Comment, or_bad, by_readings}
 
 abbrev read_by : (List ℕ → Option Directive) → Comment → Option (List ℕ) → Comment
 read_by read later None = later

@@ -1,13 +1,12 @@
 -- One function after the other takes its comments.
-use Rattle.std.proofs.Common.{◌≡◌, ℕ, ◌+◌, ◌-◌, ◌<◌, ◌≤◌, List, [], ◌∷◌, ◌++◌, length, map, take, drop, slice_get, Option, Some, None, refl, sym, ap, subst, ◌∙◌, arith, length-drop, append_assoc}
-use Rattle.std.proofs.lemmas.List.{take_all, map-append}
+use Rattle.std.proofs.Common.{◌≡◌, ℕ, ◌+◌, ◌-◌, ◌<◌, List, [], ◌∷◌, ◌++◌, length, map, take, drop, slice_get, Option, Some, None, refl, sym, ap, ◌∙◌, arith, length-drop, append_assoc}
+use Rattle.std.proofs.lemmas.List.{take_all}
 use Rattle.clif_lex.specs.Places.{line_at}
 use Rattle.clif_read.specs.declared.raw.RawFunction.{RawFunction}
 use Rattle.test_directives.specs.declared.places.PlacedComment.{PlacedComment}
-use Rattle.test_directives.specs.Placing.{placed_of, between, InOrder, LeavesBehind, AreAscending}
+use Rattle.test_directives.specs.Placing.{placed_of, between, LeavesBehind}
 use Rattle.test_directives.specs.Reading.{bad_comment, tests_by, bad_by}
-use Rattle.test_directives.specs.Tests.{Placed, FunctionTests, first_spot, tests_in, tests_of, or_else}
-use Rattle.test_directives.proofs.Ascending.{later, weaker_ascending}
+use Rattle.test_directives.specs.Tests.{Placed, FunctionTests, first_spot, tests_in, or_else}
 use Rattle.test_directives.proofs.Placed.{drop_twice}
 
 pub rest_is : {A : Type 0} (xs : List A) (n : ℕ) → take (length xs - n) (drop n xs) ≡ drop n xs

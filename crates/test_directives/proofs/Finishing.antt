@@ -3,10 +3,9 @@ use Rattle.std.proofs.Common.{◌≡◌, ℕ, Bool, true, false, cond, ◌&&◌,
 use Rattle.std.specs.List.{filter}
 use Rattle.std.proofs.lemmas.List.{append-nil}
 use Rattle.clif_read.specs.declared.raw.RawFunction.{RawFunction}
-use Rattle.ir_semantics.specs.Machine.{Reply}
-use Rattle.test_directives.specs.Directives.{Directive, Run, Host, Trace, Lines, Error, LineTest, Check, Nextln, Not, Comment, Plain, Asks, Bad, comment_of}
-use Rattle.test_directives.specs.Tests.{Placed, RunTest, FunctionTests, Said, said, said_by, traces, runs_with, line_tests, error_line, expected_line, expected_lines, is_plain, is_run, is_check, has_check_in, is_bad, asks, or_else, first_bad, tests_in}
-use Rattle.test_directives.specs.Reading.{Read, unread, has_run, with_events, continued, after_directive, after_comment, stops, finished, finished_by, stopped_by, bad_comment}
+use Rattle.test_directives.specs.Directives.{Directive, Run, Host, Trace, Lines, Error, LineTest, Comment, Plain, Asks, Bad, comment_of}
+use Rattle.test_directives.specs.Tests.{Placed, RunTest, Said, said, said_by, traces, runs_with, line_tests, error_line, expected_line, expected_lines, is_plain, is_run, has_check_in, asks, or_else, first_bad, tests_in}
+use Rattle.test_directives.specs.Reading.{Read, unread, has_run, with_events, continued, after_directive, after_comment, stops, finished, finished_by, stopped_by}
 
 -- ---- the events of the last run
 

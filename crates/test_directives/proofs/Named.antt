@@ -1,6 +1,6 @@
 -- The name that all of a text's tokens are, by reading them from the left.
 use Rattle.std.proofs.Common.{◌≡◌, ℕ, Bool, true, false, cond, List, Option, Some, None, Result, Ok, Err, refl, sym, ap, ◌∙◌}
-use Rattle.grammar.specs.Rules.{Lexeme, Kind, Syntax, Tree, Out, ◌>>=◌, heads_any, read, read_all}
+use Rattle.grammar.specs.Rules.{Lexeme, Kind, Syntax, Tree, Out, ◌>>=◌, heads_any, read}
 use Rattle.grammar.proofs.Binds.{ok_is}
 use Rattle.clif_insts.specs.Values.{seen}
 use Rattle.clif_read.specs.Declarations.{func_name_at}

@@ -1,12 +1,12 @@
 -- The comments of a function, one after the other.
-use Rattle.std.proofs.Common.{◌≡◌, ℕ, zero, suc, ◌+◌, ◌<◌, ◌≤◌, Bool, true, false, List, [], ◌∷◌, ◌++◌, length, map, drop, get_or, Some, refl, sym, ap, subst, ◌∙◌, arith, drop-cons}
+use Rattle.std.proofs.Common.{◌≡◌, ℕ, zero, suc, ◌+◌, ◌<◌, ◌≤◌, true, false, List, [], ◌∷◌, length, map, drop, get_or, Some, refl, sym, ap, ◌∙◌, arith, drop-cons}
 use Rattle.clif_lex.specs.declared.spans.Token.{Token}
 use Rattle.clif_read.specs.declared.raw.RawFunction.{RawFunction}
 use Rattle.test_directives.specs.declared.places.PlacedComment.{PlacedComment}
 use Rattle.test_directives.specs.Directives.{comment_of}
-use Rattle.test_directives.specs.Placing.{placed_of, between}
-use Rattle.test_directives.specs.Reading.{Read, Reads, after_comment, stops, finished_by, stopped_by, tests_by, bad_by}
-use Rattle.test_directives.specs.Tests.{Placed, comments, first_spot, tests_of, all_tests, first_bad, first_bad_of, or_else}
+use Rattle.test_directives.specs.Placing.{placed_of}
+use Rattle.test_directives.specs.Reading.{Read, Reads, stops, finished_by, stopped_by, tests_by, bad_by}
+use Rattle.test_directives.specs.Tests.{comments, first_spot, tests_of, all_tests, first_bad, first_bad_of, or_else}
 use Rattle.test_directives.proofs.Finishing.{finished_step, stopped_step, stopped_here, same_functions}
 use Rattle.test_directives.proofs.Placed.{between_comments}
 

@@ -1,5 +1,5 @@
 -- Blanks, and the words between them.
-use Rattle.std.specs.Prelude.{ℕ, ◌-◌, ◌==◌, nat_eq, if◌then◌else◌, List, [], ◌∷◌, length, take}
+use Rattle.std.specs.Prelude.{ℕ, ◌-◌, nat_eq, if◌then◌else◌, List, [], ◌∷◌, length, take}
 use Rattle.std.specs.Prelude.{drop, Option, Some, None}
 use Rattle.std.specs.List.{prefix_len, suffix_len, starts_with}
 use Rattle.clif_lex.specs.Bytes.{is_blank}

@@ -1,9 +1,9 @@
 -- Worked headers and comments.
-use Rattle.std.specs.Prelude.{◌≡◌, ℕ, true, ℤ, List, [], ◌∷◌, ◌++◌, pos, negsuc, Some, None, codes}
+use Rattle.std.specs.Prelude.{◌≡◌, ℕ, true, ℤ, List, [], ◌∷◌, pos, negsuc, Some, None, codes}
 use Rattle.clk_num.specs.declared.op.TrapCode.TheVariants.{IntDivz}
 use Rattle.test_directives.specs.Commands as command
 use Rattle.test_directives.specs.Commands.{command_of}
-use Rattle.test_directives.specs.Directives.{comment_of, Plain, Asks, Bad, Run, Host, Trace, Lines, Check, Error}
+use Rattle.test_directives.specs.Directives.{comment_of, Plain, Asks, Bad, Run, Trace, Lines, Check, Error}
 use Rattle.test_directives.specs.Directives.{Call, Wanted, Return, Equal, Unequal, Values, Trap}
 
 pub record WorkedHeaders : Type 0 where

@@ -1,5 +1,5 @@
 -- What is known of a function when the first of its comments were read, and what the next comment changes.
-use Rattle.std.specs.Prelude.{◌≡◌, ℕ, ⊤, Bool, true, false, ◌&&◌, ◌||◌, if◌then◌else◌, nat_lt, List, [], ◌∷◌}
+use Rattle.std.specs.Prelude.{◌≡◌, ℕ, ⊤, Bool, true, false, ◌||◌, if◌then◌else◌, nat_lt, List, [], ◌∷◌}
 use Rattle.std.specs.Prelude.{◌++◌, map, ℤ, Option, Some, None, All, Vec}
 use Rattle.clif_lex.specs.declared.spans.Token.{Token}
 use Rattle.clif_read.specs.declared.raw.RawFunction.{RawFunction}
@@ -12,7 +12,7 @@ use Rattle.test_directives.specs.Placing.{between}
 use Rattle.test_directives.specs.Directives.{Wanted, Directive, Run, Host, Trace, Lines, Error, Comment, Plain, Asks}
 use Rattle.test_directives.specs.Directives.{Bad, comment_of, spelled_name}
 use Rattle.test_directives.specs.Tests.{Placed, RunTest, FunctionTests, Said, traces, runs_with, said, line_tests}
-use Rattle.test_directives.specs.Tests.{error_line, expected_line, expected_lines, is_check, has_check_in, or_else}
+use Rattle.test_directives.specs.Tests.{error_line, expected_line, expected_lines, is_check, or_else}
 use Rattle.test_directives.specs.Tests.{is_misplaced, is_bad, first_bad, bad_header, commands, all_tests}
 use Rattle.test_directives.specs.Tests.{tests_of, first_spot}
 use Rattle.test_directives.specs.Views.{command_of, function_of, IsPlaced}

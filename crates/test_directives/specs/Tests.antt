@@ -12,7 +12,6 @@ use Rattle.clif_lex.specs.Spans.{spelling}
 use Rattle.clif_read.specs.declared.raw.RawFunction.{RawFunction}
 use Rattle.clif_read.specs.declared.raw.RawModule.{RawModule}
 use Rattle.clif_read.specs.declared.raw.RawParam.{RawParam}
-use Rattle.ir_core.specs.Lookup.{and_then}
 use Rattle.ir_semantics.specs.Machine.{Reply}
 use Rattle.ir_semantics.specs.Values.{values_for}
 use Rattle.test_directives.specs.Blanks.{behind}

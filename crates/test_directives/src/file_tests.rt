@@ -99,7 +99,7 @@ fn a_file_asks(rt: HostRuntime) {
             Wanted::Unequal(Expectation::Throw {
                 tag: 3,
                 p0: 7,
-                p1: u64::MAX
+                p1: 18446744073709551615
             })
         )
     );

@@ -184,7 +184,8 @@ impl<'r> FunctionReader<'r> {
     ) -> Result<(), DirectiveErr>
         ensures taken { OnOk result
             (spec.Takes self.old line (spec.run name numbers (views.wanted_of wanted)) self.new) }
-        ensures refused { IfErr result (spec.Misplaces self.old line (spec.run name numbers (views.wanted_of wanted))) }
+        ensures refused { IfErr result
+            (spec.Misplaces self.old line (spec.run name numbers (views.wanted_of wanted))) }
     {
         let Some(func) = self.named.place(name.as_slice()) else {
             return Err(DirectiveErr::BadDirective(line));

@@ -1,6 +1,6 @@
-use Rattle.std.proofs.Common.{◌≡◌, ℕ, ◌+◌, ◌*◌, ◌-◌, ◌<◌, ◌≤◌, List, length, take, get_or, sym, ap, ◌∙◌, arith}
+use Rattle.std.proofs.Common.{◌≡◌, ℕ, ◌+◌, ◌*◌, ◌-◌, ◌<◌, List, length, take, get_or, sym, ap, ◌∙◌, arith}
 use Rattle.std.proofs.lemmas.Grind.{take_at_read}
-use Rattle.test_directives.specs.Commands.{digits_value, most_size}
+use Rattle.test_directives.specs.Commands.{digits_value}
 use Rattle.test_directives.proofs.Sizes.{value_last, too_large}
 use Rattle.test_directives.proofs.commands.size_of.Goals as goal
 

@@ -1,4 +1,4 @@
-use Rattle.std.proofs.Common.{◌≡◌, ℕ, Bool, true, false, cond, Some, List, ◌∷◌, [], ◌++◌, ◌+◌, ◌<◌, take, length, get_or, Option, is_some, sym, ap, ◌∙◌, arith, length-take}
+use Rattle.std.proofs.Common.{◌≡◌, ℕ, cond, Some, List, ◌∷◌, [], ◌++◌, ◌+◌, ◌<◌, take, length, get_or, is_some, sym, ap, ◌∙◌, arith, length-take}
 use Rattle.std.specs.Str.{bytes_eq}
 use Rattle.indexmap.specs.IndexMap.{get_by}
 use Rattle.std.proofs.lemmas.Grind.{take_at_read}

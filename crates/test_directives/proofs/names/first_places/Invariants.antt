@@ -1,4 +1,4 @@
-use Rattle.std.proofs.Common.{◌≡◌, ℕ, List, take}
+use Rattle.std.proofs.Common.{take}
 use Rattle.test_directives.specs.Names.{ArePlaces}
 use Rattle.test_directives.proofs.names.first_places.Given as goal
 

@@ -1,5 +1,4 @@
 use Rattle.std.proofs.Common.{◌≡◌, ℕ, Bool, true, false, not, List, Option, Some, None, Ok, Err, IfOk, Result, refl, sym, ap, subst, ◌∙◌}
-use Rattle.std.proofs.lemmas.Result.{IfOk-weaker}
 use Rattle.grammar.specs.Rules.{Lexeme}
 use Rattle.grammar.proofs.Sets.{not_true}
 use Rattle.clif_insts.specs.declared.stop.Stop.{Stop}

@@ -1,7 +1,7 @@
-use Rattle.std.proofs.Common.{◌≡◌, nat_lt, map, sym, ap, subst, ◌∙◌}
+use Rattle.std.proofs.Common.{nat_lt, map, sym, ap, subst, ◌∙◌}
 use Rattle.std.specs.List.{prefix_len}
 use Rattle.test_directives.specs.declared.places.PlacedComment.{PlacedComment}
-use Rattle.test_directives.specs.Placing.{placed_of, between, InOrder, LeavesBehind}
+use Rattle.test_directives.specs.Placing.{placed_of, InOrder, LeavesBehind}
 use Rattle.test_directives.proofs.Placed.{cut_own, cut_rest, leaves_behind, in_order_left}
 use Rattle.test_directives.proofs.places.between.Goals as goal
 

@@ -1,4 +1,4 @@
-use Rattle.std.proofs.Common.{◌≡◌, ◌<◌, ◌≤◌, length, List, map, drop, get_or, sym, ap, ◌∙◌, arith}
+use Rattle.std.proofs.Common.{List, map, sym, ap, ◌∙◌, arith}
 use Rattle.test_directives.specs.declared.places.PlacedComment.{PlacedComment}
 use Rattle.test_directives.specs.Placing.{placed_of}
 use Rattle.test_directives.specs.Reading.{finished_by}

@@ -1,8 +1,8 @@
-use Rattle.std.proofs.Common.{◌≡◌, IfOk, IfErr, List, map, sym, ap, subst, ◌∙◌}
+use Rattle.std.proofs.Common.{IfErr, List, map, sym, ap, subst, ◌∙◌}
 use Rattle.std.proofs.lemmas.Result.{IfOk-weaker}
 use Rattle.test_directives.specs.Placing.{placed_of, InOrder}
 use Rattle.test_directives.specs.Reading.{tests_by, bad_by, IsFirst}
-use Rattle.test_directives.specs.Tests.{Placed, comments}
+use Rattle.test_directives.specs.Tests.{Placed}
 use Rattle.test_directives.proofs.Placed.{comments_in_order}
 use Rattle.test_directives.proofs.Reader.{tests_same, bad_same}
 use Rattle.test_directives.proofs.tests.read_functions.Goals as goal

@@ -1,5 +1,5 @@
 use Rattle.clif_lex.proofs.Readings.{tokens_stand, token_inside_text}
-use Rattle.std.proofs.Common.{◌≡◌, sym, subst}
+use Rattle.std.proofs.Common.{sym, subst}
 use Rattle.test_directives.specs.Placing.{AreAscending}
 use Rattle.test_directives.proofs.Ascending.{module_ascends}
 use Rattle.test_directives.proofs.tests.read_tests.Goals as goal

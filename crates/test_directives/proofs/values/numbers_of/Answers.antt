@@ -1,9 +1,7 @@
-use Rattle.std.proofs.Common.{◌≡◌, ℕ, ℤ, List, Some, refl, sym, ap, subst, ◌∙◌}
-use Rattle.host_script.specs.Script.{replies_of}
+use Rattle.std.proofs.Common.{ℤ, List, Some, refl, sym, ap, subst, ◌∙◌}
 use Rattle.script_text.specs.Grammar as grammar
 use Rattle.script_text.specs.Scripts.{Refuses}
-use Rattle.script_text.specs.Values.{number_list_value, script_value}
-use Rattle.test_directives.specs.Directives as spec
+use Rattle.script_text.specs.Values.{number_list_value}
 use Rattle.test_directives.specs.Directives.{values_of}
 use Rattle.test_directives.proofs.Texts.{read_is, refused_is, no_text}
 use Rattle.test_directives.proofs.values.numbers_of.Goals as goal

@@ -1,17 +1,13 @@
-use Rattle.std.proofs.Common.{◌≡◌, ℕ, Bool, true, false, not, ◌&&◌, ◌<◌, List, [], ◌∷◌, ◌++◌, map, length, slice_get, Option, Some, None, refl, sym, ap, subst, ◌∙◌}
+use Rattle.std.proofs.Common.{◌≡◌, ℕ, true, not, List, [], ◌∷◌, ◌++◌, map, slice_get, Some, sym, ap, subst, ◌∙◌}
 use Rattle.std.specs.Prelude.{All}
 use Rattle.std.proofs.lemmas.List.{map-append}
 use Rattle.std.proofs.lemmas.List.Elements.{All-append, All-cons, All-nil}
-use Rattle.clif_read.specs.declared.raw.RawFunction.{RawFunction}
 use Rattle.host_script.specs.Script.{replies_of}
-use Rattle.ir_semantics.specs.Machine.{Reply}
-use Rattle.test_directives.specs.Directives.{Call, Trace}
-use Rattle.test_directives.specs.Names.{names_of, first_place}
-use Rattle.test_directives.specs.Reading.{Read, run, has_run, continued, with_events, after_directive}
-use Rattle.test_directives.specs.Tests.{RunTest, first_named, are_values, may_be_wanted, is_call}
+use Rattle.test_directives.specs.Directives.{Trace}
+use Rattle.test_directives.specs.Reading.{Read, has_run, continued, after_directive}
+use Rattle.test_directives.specs.Tests.{RunTest, first_named}
 use Rattle.test_directives.specs.Views as views
 use Rattle.test_directives.specs.Views.{run_of, IsPlaced}
-use Rattle.test_directives.proofs.Calls.{called, no_call, is_call_at}
 use Rattle.test_directives.proofs.Finishing.{continued_last, has_run_last}
 use Rattle.std.proofs.lemmas.List.Elements.{All-pop}
 use Rattle.test_directives.proofs.functions.FunctionReader.add_trace.Goals as goal

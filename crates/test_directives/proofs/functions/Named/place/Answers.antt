@@ -1,4 +1,4 @@
-use Rattle.std.proofs.Common.{◌≡◌, rules, ◌∙◌, arith}
+use Rattle.std.proofs.Common.{◌≡◌, rules}
 use Rattle.test_directives.specs.Names.{names_of, first_place}
 use Rattle.test_directives.proofs.Calls.{place_within}
 use Rattle.test_directives.proofs.functions.Named.place.Goals as goal

@@ -80,7 +80,7 @@ SHAPES = [
     ('sites of a large body that the caller size refuses', 40_000, refused_sites,
      ['--callee-size', '262144', '--caller-size', '50000']),
     ('functions in a chain', 65_536, chain, []),
-    ('entries of a table, and calls under it', 360, entries_and_calls, WIDEST),
+    ('entries of a table, and calls under it', 280, entries_and_calls, WIDEST),
 ]
 
 

@@ -12,5 +12,5 @@ mod stack;
 mod turns;
 
 pub use calls::Graph;
-pub use making::graph;
+pub use making::{callee_number, graph};
 pub use ordering::{Order, pieces};

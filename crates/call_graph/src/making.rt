@@ -1,12 +1,11 @@
 //! Which functions of a module each function calls.
 ghost use Rattle.std.specs.Prelude.{◌≡◌, ℕ, ◌+◌, ◌<◌, List, [], Some, None, length, map, slice_get, IfOk, OnOk};
-ghost use Rattle.ir_core.specs.Uses.{callee_of};
-ghost use Rattle.ir_core.specs.Viewed.{instruction_of, line_of};
+ghost use Rattle.ir_core.specs.Viewed.{line_of};
 ghost use Rattle.call_graph.specs.Calls.{number_of, with_number, put_new, each_once, calls_in, graph_of};
 ghost use Rattle.call_graph.specs.Marks.{Fresh, Marked, target_by, targets_in, TargetsBelow};
 
 use crate::calls::Graph;
-use ir_core::{Callee, Func, FuncRef, Inst, InstData, List, Module};
+use ir_core::{Callee, Func, InstData, List, Module};
 use std::alloc::{AllocError, Global};
 
 /// The calls of a module. Only `AllocError` refuses.
@@ -103,34 +102,22 @@ fn add_line(
     ensures marked { OnOk result (Marked stamp seen.new.items calls.new.items) }
     ensures long { OnOk result (length seen.new.items ≡ length seen.old.items) }
 {
-    match target(numbers, line) {
+    match callee_number(numbers, line) {
         Some(target) => add_call(seen, stamp, calls, target),
         None => Ok(()),
     }
 }
 
-/// The function that an instruction calls.
-fn target(numbers: &[Option<usize>], line: &InstData) -> Option<usize>
+/// The function that an instruction calls, by the functions that the declarations of its function mean.
+pub fn callee_number(numbers: &[Option<usize>], line: &InstData) -> Option<usize>
     ensures { result ≡ target_by numbers.now (line_of line.now) }
 {
-    match called(&line.inst) {
+    match line.inst.callee() {
         Some(callee) => match numbers.get(callee.number() as usize) {
             Some(number) => *number,
             None => None,
         },
         None => None,
-    }
-}
-
-/// The declaration that a direct call names.
-fn called(inst: &Inst) -> Option<FuncRef>
-    ensures { result ≡ callee_of (instruction_of inst.now) }
-{
-    match inst {
-        Inst::Call { callee, .. } => Some(*callee),
-        Inst::ReturnCall { callee, .. } => Some(*callee),
-        Inst::TryCall { callee, .. } => Some(*callee),
-        _ => None,
     }
 }
 

@@ -37,9 +37,9 @@ fn user_name(reader: &mut Reader<'_>) -> Result<RawFuncName, Stop>
     Ok(RawFuncName::User { space, number })
 }
 
-/// The name of a function or of a callee.
+/// The name of a function or of a callee, as `u0:1` or `%name`. Stops as a reader of tokens does.
 #[tactic(auto, unfolding(crate::specs::Declarations::func_name_at))]
-pub(crate) fn func_name(alloc: Global, reader: &mut Reader<'_>) -> Result<RawFuncName, Stop>
+pub fn func_name(alloc: Global, reader: &mut Reader<'_>) -> Result<RawFuncName, Stop>
     ensures is { Gives same reader.new result (spec.func_name_at reader.old) }
     ensures shorter { IfOk result (λ _. length reader.new < length reader.old) }
 {

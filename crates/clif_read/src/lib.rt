@@ -17,6 +17,7 @@ mod stretches;
 mod tags;
 mod texts;
 
+pub use declarations::func_name;
 pub use ranges::{PIECE, stretch_end};
 pub use raw::{
     RawAttribute, RawBlock, RawBlockParam, RawCalleeSig, RawDecl, RawFuncName, RawFunction,

@@ -4,8 +4,7 @@ ghost use Rattle.std.specs.Io.KnownBytes.{Appends};
 ghost use Rattle.clk_flow.specs.Faults.{HasCause};
 ghost use Rattle.clk_flow.specs.Whole.{AppendsPrefix};
 ghost use Rattle.ir_core.specs.Size.{size_of, total};
-ghost use Rattle.ir_core.specs.Uses.{callee_of};
-ghost use Rattle.ir_core.specs.Viewed.{instruction_of, line_of};
+ghost use Rattle.ir_core.specs.Viewed.{line_of};
 ghost use Rattle.ir_text.specs.Writable.{Writable};
 ghost use Rattle.settings.specs.Shown.{inline_shown};
 ghost use Rattle.clifinl.specs.GenCommand.{calls_within, function_sites, sites_in, summary_of, summary_text};
@@ -18,7 +17,7 @@ use crate::status::Status;
 use clk_flow::{Failed, Gate, Sink};
 use inline_finish::Policy;
 use ir_check::Checked;
-use ir_core::{Func, FuncRef, Inst, InstData, Module};
+use ir_core::{Func, InstData, Module};
 use itoa::Buffer;
 use settings::InlineSettings;
 use std::alloc::{AllocError, Global};
@@ -132,24 +131,12 @@ fn count_line_sites(module: &Module, func: &Func, lines: &[InstData]) -> usize
 fn is_site(module: &Module, func: &Func, line: &InstData) -> bool
     ensures { result ≡ calls_within «module».now func.now.function (line_of line.now) }
 {
-    match called(&line.inst) {
+    match line.inst.callee() {
         Some(callee) => match func.callees().get(callee.number() as usize) {
             Some(declared) => module.find(&declared.name).is_some(),
             None => false,
         },
         None => false,
-    }
-}
-
-/// The declaration that a direct call names.
-fn called(inst: &Inst) -> Option<FuncRef>
-    ensures { result ≡ callee_of (instruction_of inst.now) }
-{
-    match inst {
-        Inst::Call { callee, .. } => Some(*callee),
-        Inst::ReturnCall { callee, .. } => Some(*callee),
-        Inst::TryCall { callee, .. } => Some(*callee),
-        _ => None,
     }
 }
 

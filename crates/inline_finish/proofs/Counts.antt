@@ -15,7 +15,7 @@ use Rattle.inline_pass.specs.Going.{Task, Twins}
 use Rattle.inline_pass.specs.GoingLaws.{Onward}
 use Rattle.inline_finish.specs.Midway.{Left, Behind, twins_of}
 
-inlined_most : (bodies : FuncName → Option Function) (p : Policy) (now : Point → Point) (sites : List Point) (body : Function) → inlined_by bodies p now sites body ≤ length sites
+pub inlined_most : (bodies : FuncName → Option Function) (p : Policy) (now : Point → Point) (sites : List Point) (body : Function) → inlined_by bodies p now sites body ≤ length sites
 inlined_most bodies p now [] body = omega arith
 inlined_most bodies p now (s ∷ ss) body = go (and_then (callee_at body (now s)) bodies) (λ now body. inlined_most bodies p now ss body)
   where
@@ -27,7 +27,7 @@ inlined_most bodies p now (s ∷ ss) body = go (and_then (callee_at body (now s)
         by true h k = omega (arith, h)
         by false h k = omega (arith, k)
 
-sites_most : (b i : ℕ) (ls : List Line) → length (sites_in b i ls) ≤ length ls
+pub sites_most : (b i : ℕ) (ls : List Line) → length (sites_in b i ls) ≤ length ls
 sites_most b i [] = omega arith
 sites_most b i (l ∷ ls) = go (is_site (callee_of l.inst)) (sites_most b (suc i) ls)
   where

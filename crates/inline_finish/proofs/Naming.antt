@@ -20,7 +20,8 @@ use Rattle.call_graph.proofs.PieceNumbers.{apart_by_numbers}
 use Rattle.inline_pass.specs.Policy.{Policy}
 use Rattle.inline_pass.specs.Finished.{finished, finished_body}
 use Rattle.inline_pass.proofs.Passing.{then_some}
-use Rattle.inline_finish.specs.Targets.{target_of, targets_in, target_by}
+use Rattle.call_graph.specs.Marks.{target_by}
+use Rattle.inline_finish.specs.Targets.{target_of, targets_in}
 
 abbrev by_piece : (A : Type 0) → Bool → Option A → Option A
 by_piece A b o = if b then o else None

@@ -42,7 +42,8 @@ use Rattle.inline_finish.specs.declared.deciding.Taken.{Taken}
 use Rattle.inline_finish.specs.Bodies.{IsBodyOf, HasCallees}
 use Rattle.inline_finish.specs.Deciding.{IsSite, IsDecided}
 use Rattle.inline_finish.specs.Midway.{IsReady, point_of, Twin, twins_of, Left, ahead_of, Midway, Behind, IsOwnLine}
-use Rattle.inline_finish.specs.Targets.{targets_in, target_by}
+use Rattle.call_graph.specs.Marks.{target_by}
+use Rattle.inline_finish.specs.Targets.{targets_in}
 use Rattle.inline_finish.proofs.Places as places
 use Rattle.inline_finish.proofs.Naming.{named, not_named, target_apart, body_found, no_body}
 

@@ -4,19 +4,20 @@ ghost use Rattle.ir_core.specs.Edits.{IsPoint};
 ghost use Rattle.ir_core.specs.Lookup.{block_numbers};
 ghost use Rattle.ir_core.specs.Lists.{In};
 ghost use Rattle.ir_core.specs.Sound.{IsSound};
-ghost use Rattle.ir_core.specs.Uses.{callee_of};
-ghost use Rattle.ir_core.specs.Viewed.{instruction_of, line_of};
+ghost use Rattle.ir_core.specs.Viewed.{line_of};
+ghost use Rattle.call_graph.specs.Marks.{target_by};
 ghost use Rattle.inline_pass.specs.Putting.{finishing};
 ghost use Rattle.inline_finish.specs.Bodies.{HasCallees};
 ghost use Rattle.inline_finish.specs.Building.{policy_of};
 ghost use Rattle.inline_finish.specs.Midway.{IsReady, IsMidway, IsBehind, IsBetween, IsOwnLine, left_in, from_block};
 ghost use Rattle.inline_finish.specs.Midway.{behind_block, passed_line};
-ghost use Rattle.inline_finish.specs.Targets.{target_by, targets_in};
+ghost use Rattle.inline_finish.specs.Targets.{targets_in};
 
 use crate::bodies::{Bodies, Policy};
 use crate::deciding::decide;
+use call_graph::callee_number;
 use inline_caller::Caller;
-use ir_core::{Block, Func, FuncRef, Inst, InstData, Point};
+use ir_core::{Block, Func, InstData, Point};
 use std::alloc::{AllocError, Global};
 use std::sync::ledger::Ledger;
 use step_counter::Steps;
@@ -29,31 +30,6 @@ pub(crate) struct Progress {
     pub size: usize,
     pub at: Point,
     pub inlined: u64,
-}
-
-/// The declaration that a direct call names.
-fn called(inst: &Inst) -> Option<FuncRef>
-    ensures { result ≡ callee_of (instruction_of inst.now) }
-{
-    match inst {
-        Inst::Call { callee, .. } => Some(*callee),
-        Inst::ReturnCall { callee, .. } => Some(*callee),
-        Inst::TryCall { callee, .. } => Some(*callee),
-        _ => None,
-    }
-}
-
-/// The function in another piece that a line calls.
-fn target(targets: &[Option<usize>], line: &InstData) -> Option<usize>
-    ensures { result ≡ target_by targets.now (line_of line.now) }
-{
-    match called(&line.inst) {
-        Some(callee) => match targets.get(callee.number() as usize) {
-            Some(target) => *target,
-            None => None,
-        },
-        None => None,
-    }
 }
 
 /// Behind a line at which nothing is inlined.
@@ -114,7 +90,7 @@ fn finish_line<B: Bodies, L: Ledger>(
     ensures counted { IfOk result (λ p. steps.new + progress.inlined ≡ steps.old + p.inlined) }
     ensures rises { steps.old ≤ steps.new }
 {
-    let callee = match target(targets, line) {
+    let callee = match callee_number(targets, line) {
         Some(callee) => callee,
         None => return Ok(pass_line(progress)),
     };

@@ -37,6 +37,14 @@ sum_next g m i j f e is =
     subst (λ (z : ℕ). sum (map g (take z m)) ≡ sum (map g (take i m)) + g f) q
     (ap (λ (l : List Function). sum (map g l)) (take_more m i f e) ∙ (ap sum (map-append g (take i m) (f ∷ [])) ∙ (sum_by-append (λ (z : ℕ). z) (map g (take i m)) (g f ∷ []) ∙ ap (λ (z : ℕ). sum (map g (take i m)) + z) (zero_add (g f)))))
 
+-- what is made of one more item of a front of a list
+pub map_next :
+    (g : Function → ℕ) (m : Module) (i : ℕ) (f : Function) → slice_get m i ≡ Some f
+    → map g (take (i + 1) m) ≡ map g (take i m) ++ g f ∷ []
+map_next g m i f e =
+    let next : suc i ≡ i + 1 = omega arith in
+    ap (λ (n : ℕ). map g (take n m)) (sym next) ∙ (ap (map g) (take_more m i f e) ∙ map-append g (take i m) (f ∷ []))
+
 -- ---- modules that are the same up to numbering
 
 each_more : {A : Type 0} (P : A → Type 0) (xs : List A) (a : A) → Each P xs → P a → Each P (xs ++ a ∷ [])

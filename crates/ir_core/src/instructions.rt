@@ -1,4 +1,8 @@
 //! Instructions.
+ghost use Rattle.std.specs.Prelude.{◌≡◌};
+ghost use Rattle.ir_core.specs.Uses.{callee_of};
+ghost use Rattle.ir_core.specs.Viewed.{instruction_of};
+
 use crate::boxed::Boxed;
 use crate::lists::List;
 use crate::numbers::{Block, FuncRef, SigRef, Slot, Value};
@@ -140,6 +144,20 @@ pub enum Inst {
         normal: Boxed<BlockCall>,
         table: Boxed<Table<BlockCall>>,
     },
+}
+
+impl Inst {
+    /// The declaration that a direct call names.
+    pub fn callee(&self) -> Option<FuncRef>
+        ensures { result ≡ callee_of (instruction_of self.now) }
+    {
+        match self {
+            Inst::Call { callee, .. } => Some(*callee),
+            Inst::ReturnCall { callee, .. } => Some(*callee),
+            Inst::TryCall { callee, .. } => Some(*callee),
+            _ => None,
+        }
+    }
 }
 
 /// An instruction with its results and debug tags. `ty` is the controlling type of an instruction whose form has a

@@ -2,7 +2,6 @@
 use Rattle.std.proofs.Common.{◌≡◌, ℕ, suc, ◌+◌, ◌<◌, List, [], ◌∷◌, ◌++◌, length, map, sum, take}
 use Rattle.std.proofs.Common.{Option, Some, None, refl, sym, ap, ◌∙◌, subst, arith}
 use Rattle.std.specs.Prelude.{slice_get, slice_index_or}
-use mathlib.Core.List.{map-append}
 use Rattle.std.proofs.lemmas.Option.{slice_get_within, slice_get_read}
 use Rattle.ir_core.specs.Module.{Function, Module}
 use Rattle.ir_core.specs.Lookup.{find_function}
@@ -12,20 +11,12 @@ use Rattle.ir_semantics.specs.Canon.{SameFunction, SameUpToNumbering}
 use Rattle.call_graph.proofs.Numbers.{some_at}
 use Rattle.inline_pass.specs.Finished.{finished}
 use Rattle.inline_pass.specs.Inlined.{inlined}
-use Rattle.inline_pass.proofs.Gathering.{take_more, sum_next, same_next, new_name, whole_of}
+use Rattle.inline_pass.proofs.Gathering.{map_next, sum_next, same_next, new_name, whole_of}
 use Rattle.inline_finish.specs.declared.bodies.Built.{Built}
 use Rattle.inline_finish.specs.declared.bodies.Policy as code
 use Rattle.inline_finish.specs.Building.{policy_of, IsBuilt}
 use Rattle.module_pass.specs.Places.{AreBuilt}
 use Rattle.module_pass.proofs.Filled.{is_of}
-
--- what is made of one more item of a front of a list
-map_next :
-    (g : Function → ℕ) (m : Module) (i : ℕ) (f : Function) → slice_get m i ≡ Some f
-    → map g (take (i + 1) m) ≡ map g (take i m) ++ g f ∷ []
-map_next g m i f e =
-    let next : suc i ≡ i + 1 = omega arith in
-    ap (λ (n : ℕ). map g (take n m)) (sym next) ∙ (ap (map g) (take_more m i f e) ∙ map-append g (take i m) (f ∷ []))
 
 -- ---- the body that is taken out of a place
 

@@ -4,7 +4,6 @@ pub mod Finishing
 pub mod FirstNames
 pub mod Ascending
 pub mod TokenSteps
-pub mod Prefixes
 pub mod Ascii
 pub mod Texts
 pub mod Sizes

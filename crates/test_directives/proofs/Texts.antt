@@ -22,7 +22,7 @@ use Rattle.script_text.specs.Symbols.{lexeme, plain}
 use Rattle.script_text.specs.declared.terminal.Terminal.TheVariants.{Other}
 use Rattle.script_text.specs.Scripts.{Reads, GoesNoFurther, StopsIn}
 use Rattle.test_directives.proofs.Ascii.{is_of_script, divided_small, small_is_ascii}
-use Rattle.test_directives.proofs.Prefixes.{is_plain, prefix_begins}
+use Rattle.grammar.proofs.Prefixes.{is_plain, prefix_begins}
 
 -- ---- what is read, and what is refused
 

@@ -1,16 +1,13 @@
 //! Names of functions, as the canonical text spells them.
 ghost use Rattle.std.specs.Prelude.{◌≡◌, ◌≢◌, None, IfOk};
 ghost use Rattle.clif_insts.specs.declared.stop.Stop.TheVariants.{NoMemory};
-ghost use Rattle.clif_insts.specs.Reading.{Gives, same};
 ghost use Rattle.clif_lex.specs.Spelling.{AreIn};
-ghost use Rattle.clif_read.specs.Declarations as spec_decls;
 ghost use Rattle.test_directives.specs.Directives as spec;
 ghost use Rattle.test_directives.specs.Names as spec_names;
 
-use clif_insts::{Reader, Stop, number};
+use clif_insts::{Reader, Stop};
 use clif_lex::{LexErr, Tokens, tokens};
-use clif_read::{RawFuncName, RawFunction};
-use clif_words::Class;
+use clif_read::{RawFuncName, RawFunction, func_name};
 use indexmap::IndexMap;
 use ir_core::List;
 use std::alloc::{AllocError, Global};
@@ -74,41 +71,6 @@ pub(crate) fn first_places<'n>(
         }
     }
     Ok(places)
-}
-
-/// `%name`
-#[tactic(auto, unfolding(clif_read::specs::Declarations::text_name_at))]
-fn text_name(alloc: Global, reader: &mut Reader<'_>) -> Result<RawFuncName, Stop>
-    ensures { Gives same reader.new result (spec_decls.text_name_at reader.old) }
-{
-    let text = reader.take_text(alloc, Class::Name)?;
-    Ok(RawFuncName::Text {
-        name: text.bytes,
-        spot: text.spot,
-    })
-}
-
-/// `u0:1`
-#[tactic(auto, unfolding(clif_read::specs::Declarations::user_name_at))]
-fn user_name(reader: &mut Reader<'_>) -> Result<RawFuncName, Stop>
-    ensures { Gives same reader.new result (spec_decls.user_name_at reader.old) }
-{
-    let space = reader.take(Class::UserName)?;
-    reader.take(Class::Colon)?;
-    let number = number(reader)?;
-    Ok(RawFuncName::User { space, number })
-}
-
-/// The name that the next tokens are.
-#[tactic(auto, unfolding(clif_read::specs::Declarations::func_name_at))]
-fn func_name(alloc: Global, reader: &mut Reader<'_>) -> Result<RawFuncName, Stop>
-    ensures { Gives same reader.new result (spec_decls.func_name_at reader.old) }
-{
-    if reader.next_is(Class::Name) {
-        text_name(alloc, reader)
-    } else {
-        user_name(reader)
-    }
 }
 
 /// The name that all of these tokens are, spelled. `None` where they are none.

@@ -1,6 +1,5 @@
 -- What an answered cell holds, by the number of its function.
 use Rattle.std.proofs.Common.{◌≡◌, ◌≢◌, inl, inr, ℕ, suc, ◌+◌, ◌<◌, ◌≤◌, List, [], ◌∷◌, ◌++◌, length, map, take, get_or, set, Option, Some, refl, sym, ap, ◌∙◌, subst, arith}
-use mathlib.Core.List.{map-append}
 use Rattle.std.specs.Prelude.{slice_get, IsSomeAnd}
 use Rattle.std.specs.Arc.{arc_value}
 use Rattle.std.specs.declared.sync.Arc.{Arc}
@@ -9,7 +8,6 @@ use Rattle.std.proofs.lemmas.Bool.{cases_eq}
 use Rattle.std.proofs.lemmas.Option.{slice_get_within, slice_get_read}
 use Rattle.ir_core.proofs.Order.{get_set_other}
 use Rattle.ir_core.specs.Module.{Function, Module}
-use Rattle.inline_pass.proofs.Gathering.{take_more}
 use Rattle.inline_finish.specs.declared.bodies.Built.{Built}
 use Rattle.inline_finish.specs.declared.bodies.Policy.{Policy}
 use Rattle.inline_finish.specs.Building.{policy_of, IsBuilt}
@@ -21,14 +19,6 @@ use Rattle.worker_driver.specs.Plans.{IsPlanOf}
 use Rattle.worker_driver.specs.Turns.{AllAnswered, AllBodies, IsAnswer}
 use Rattle.worker_driver.proofs.Orders.{same_item}
 use Rattle.worker_driver.proofs.ReadBodies.{ticket_is, function_is, stands, list_long}
-
--- what is made of one more item of a front of a list
-pub map_next :
-    (g : Function → ℕ) (m : Module) (i : ℕ) (f : Function) → slice_get m i ≡ Some f
-    → map g (take (i + 1) m) ≡ map g (take i m) ++ g f ∷ []
-map_next g m i f e =
-    let next : suc i ≡ i + 1 = omega arith in
-    ap (λ (n : ℕ). map g (take n m)) (sym next) ∙ (ap (map g) (take_more m i f e) ∙ map-append g (take i m) (f ∷ []))
 
 module _ (p : Policy) (m : Module) (plan : Plan) (is : IsPlanOf m plan) where
   -- two functions have different tickets

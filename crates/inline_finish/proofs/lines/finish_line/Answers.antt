@@ -9,7 +9,8 @@ use Rattle.inline_finish.specs.Bodies.{IsBodyOf, AreCountsOf}
 use Rattle.inline_finish.specs.Building.{policy_of}
 use Rattle.inline_finish.specs.Deciding.{IsDecided}
 use Rattle.inline_finish.specs.Midway.{Left, Behind, IsBehind, left_in}
-use Rattle.inline_finish.specs.Targets.{target_by, targets_in}
+use Rattle.call_graph.specs.Marks.{target_by}
+use Rattle.inline_finish.specs.Targets.{targets_in}
 use Rattle.inline_finish.proofs.Counts.{count_fits}
 use Rattle.inline_finish.proofs.Sizes.{counts_there}
 use Rattle.inline_finish.proofs.Steps.{point_there, still}

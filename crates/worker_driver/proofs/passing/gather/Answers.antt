@@ -10,9 +10,9 @@ use Rattle.inline_pass.specs.Inlined.{inlined}
 use Rattle.inline_finish.specs.declared.bodies.Built.{Built}
 use Rattle.inline_finish.specs.Building.{policy_of}
 use Rattle.worker_driver.specs.declared.plan.Plan.{Plan}
-use Rattle.inline_pass.proofs.Gathering.{sum_next, same_next, new_name, whole_of}
+use Rattle.inline_pass.proofs.Gathering.{map_next, sum_next, same_next, new_name, whole_of}
 use Rattle.worker_driver.proofs.ReadBodies.{tickets_long}
-use Rattle.worker_driver.proofs.Answering.{map_next, ticket_below, next_is, none_refused, left_more, bodies_more}
+use Rattle.worker_driver.proofs.Answering.{ticket_below, next_is, none_refused, left_more, bodies_more}
 use Rattle.worker_driver.proofs.passing.gather.Goals as goal
 
 pub index-ticket-requires : goal.index-ticket-requires

@@ -1,5 +1,5 @@
 -- The least spots of faults by kind: what they are, and what the code makes of the words of a function.
-use Rattle.std.specs.Prelude.{ℕ, nat_lt, Option, None, Some, if◌then◌else◌}
+use Rattle.std.specs.Prelude.{ℕ, Bool, ◌&&◌, nat_lt, Option, None, Some, is_none, if◌then◌else◌}
 use Rattle.ir_core.specs.Size.{capped}
 use Rattle.clif_lex.specs.declared.faults.TextKind.{TextKind}
 use Rattle.clif_lex.specs.declared.faults.TextKind.TheVariants.{Duplicate, Undefined, NumberRange, Untyped, TooLarge}
@@ -20,6 +20,10 @@ pub record AreLeast (Stands : TextKind → ℕ → Type 0) (least : LeastSpots) 
 
 abbrev pub no_spots : LeastSpots
 no_spots = record { duplicate = None; undefined = None; number_range = None; untyped = None; too_large = None }
+
+abbrev pub has_none : LeastSpots → Bool
+has_none l =
+    is_none l.duplicate && is_none l.undefined && is_none l.number_range && is_none l.untyped && is_none l.too_large
 
 abbrev pub joined : LeastSpots → LeastSpots → LeastSpots
 joined a b = record {

@@ -46,8 +46,9 @@ fn inside_functions(alloc: Global, functions: &[RawFunction]) -> Result<LeastSpo
     Ok(least)
 }
 
-/// The least spots of faults among functions.
-fn among_functions(alloc: Global, functions: &[RawFunction]) -> Result<LeastSpots, AllocError>
+/// The least spots of the faults among functions: of a name that stood before, and of one function too many. Takes time
+/// linear in their names.
+pub fn among_functions(alloc: Global, functions: &[RawFunction]) -> Result<LeastSpots, AllocError>
     ensures { IfOk result (λ least. AreLeast (ListFault functions.now) least) }
 {
     Ok(LeastSpots {

@@ -106,8 +106,8 @@ impl FunctionNames {
         }
     }
 
-    /// The least spots of the function's faults.
-    pub(crate) fn least(&self, func: &RawFunction) -> LeastSpots
+    /// The least spots of the function's faults. Takes time linear in the function's text.
+    pub fn least(&self, func: &RawFunction) -> LeastSpots
         requires { AreNamesOf func.now self.now }
         ensures { AreLeast (FunctionFault func.now) result }
     {

@@ -33,6 +33,17 @@ impl LeastSpots {
         }
     }
 
+    /// Whether there is no fault.
+    pub fn is_none(&self) -> bool
+        ensures { result ≡ spec.has_none self.now }
+    {
+        self.duplicate.is_none()
+            && self.undefined.is_none()
+            && self.number_range.is_none()
+            && self.untyped.is_none()
+            && self.too_large.is_none()
+    }
+
     /// The least spots of two sets of faults.
     pub(crate) fn join(self, other: LeastSpots) -> LeastSpots
         ensures { result ≡ spec.joined self other }

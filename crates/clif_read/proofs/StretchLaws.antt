@@ -18,7 +18,8 @@ use Rattle.clif_read.specs.ModuleGrammar.{function, module_rule}
 use Rattle.clif_read.specs.ModuleValues.{function_value, module_value}
 use Rattle.clif_read.specs.Modules.{functions_at, whole_module_at}
 use Rattle.clif_read.specs.Texts.{IsModule}
-use Rattle.clif_read.specs.Stretches.{IsModuleText, IsShare, IsRange, Functions, AreFunctions, AreListed, Follow, IsFront, with_functions}
+use Rattle.clif_read.specs.Stretches.{IsModuleText, IsShare, IsRange, Functions, AreFunctions, AreListed, IsFront, with_functions}
+use Rattle.range_workers.specs.Follow.{Follow}
 use Rattle.clif_read.proofs.ModuleLaws.{functions_is}
 use Rattle.clif_read.proofs.Whole.{found_at}
 

@@ -59,11 +59,6 @@ pub record AreFunctions (text : List ℕ) (from to : ℕ) (functions : List RawF
 abbrev pub AreListed : List ℕ → List Token → ℕ → ℕ → List RawFunction → Type 0
 AreListed text tokens from to functions = Functions (lexemes text (slice_range tokens from to)) functions
 
--- behind what stands up to the first place these functions stand, up to the second
-abbrev pub Follow : (ℕ → ℕ → List RawFunction → Type 0) → ℕ → ℕ → List RawFunction → Type 0
-Follow stand from to functions =
-    (start : ℕ) (before : List RawFunction) → stand start from before → stand start to (before ++ functions)
-
 -- the text up to a place is this module, and no Header may stand behind it
 pub record IsFront (text : List ℕ) (to : ℕ) (m : RawModule) : Type 0 where
   pub tokens : List Token

@@ -9,21 +9,21 @@ mod lines;
 mod modules;
 mod ranges;
 mod raw;
-mod room;
 mod shares;
-mod sharing;
 mod signatures;
 mod stretches;
 mod tags;
 mod texts;
 
 pub use declarations::func_name;
+pub use modules::all_functions;
 pub use ranges::{PIECE, stretch_end};
 pub use raw::{
     RawAttribute, RawBlock, RawBlockParam, RawCalleeSig, RawDecl, RawFuncName, RawFunction,
     RawLine, RawModule, RawParam, RawSignature, RawTag,
 };
-pub use room::make_room;
 pub use shares::{read_in_shares, read_raw, read_raw_by};
-pub use stretches::{read_in_stretches, read_text, read_text_alone, read_text_by};
+pub use stretches::{
+    front_end, read_front, read_in_stretches, read_text, read_text_alone, read_text_by,
+};
 pub use texts::read_raw_alone;

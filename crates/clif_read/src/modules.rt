@@ -116,7 +116,7 @@ pub(crate) fn functions(alloc: Global, reader: &mut Reader<'_>) -> Result<Vec<Ra
 }
 
 /// The functions of all the tokens that are left. None where anything else stands there, or memory runs out.
-pub(crate) fn all_functions(alloc: Global, reader: &mut Reader<'_>) -> Option<Vec<RawFunction>>
+pub fn all_functions(alloc: Global, reader: &mut Reader<'_>) -> Option<Vec<RawFunction>>
     ensures { IfSome result (λ found. Functions reader.old found.items) }
 {
     let Ok(found) = functions(alloc, reader) else {

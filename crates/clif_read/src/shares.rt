@@ -10,11 +10,11 @@ ghost use Rattle.clif_read.specs.Texts.{IsModule, Stopped};
 
 use crate::modules::{all_functions, whole_module};
 use crate::raw::{RawFunction, RawModule};
-use crate::sharing::{Ranges, read_shares};
 use crate::stretches::extended;
 use crate::texts::read_raw_alone;
 use clif_insts::Reader;
 use clif_lex::{TextErr, Tokens};
+use range_workers::{Ranges, read_shares};
 use std::alloc::Global;
 use std::thread::Threads;
 
@@ -58,7 +58,7 @@ struct TokenRanges<'t> {
     tokens: &'t Tokens,
 }
 
-impl<'t> Ranges for TokenRanges<'t> {
+impl<'t> Ranges<RawFunction> for TokenRanges<'t> {
     ghost range = { λ ranges from to. IsShare ranges.text.now ranges.tokens.now from to };
 
     ghost stand = { λ ranges from to functions. IsShare ranges.text.now ranges.tokens.now from to

@@ -10,11 +10,11 @@ ghost use Rattle.clif_read.specs.Stretches.{AreFunctions, IsFaultOf, IsFront, Is
 use crate::modules::{all_functions, whole_module};
 use crate::ranges::{PIECE, stretch_end};
 use crate::raw::{RawFunction, RawModule};
-use crate::sharing::{Ranges, joined, read_shares};
 use crate::texts::read_raw_alone;
 use clif_insts::Reader;
 use clif_lex::{TextErr, TokenKind, Tokens, next_line_with, tokens, tokens_between};
 use ir_core::List;
+use range_workers::{Ranges, joined, read_shares};
 use std::alloc::Global;
 use std::thread::Threads;
 
@@ -24,7 +24,7 @@ struct TextRanges<'t> {
     text: &'t [u8],
 }
 
-impl<'t> Ranges for TextRanges<'t> {
+impl<'t> Ranges<RawFunction> for TextRanges<'t> {
     ghost range = { λ ranges from to. IsRange ranges.text.now from to };
 
     ghost stand = { λ ranges from to functions. AreFunctions ranges.text.now from to functions };
@@ -59,7 +59,7 @@ fn may_go_on_with_headers(tokens: &Tokens) -> bool
 }
 
 /// Where the front of a text ends: behind so many bytes and a line that begins with `function`, at the next such line.
-fn front_end(text: &[u8], size: usize) -> usize
+pub fn front_end(text: &[u8], size: usize) -> usize
     ensures { IsCut text.now result }
 {
     let first = next_line_with(text, 0, b"function");
@@ -68,7 +68,7 @@ fn front_end(text: &[u8], size: usize) -> usize
 
 /// The module that stands before a place of the text. None where it is none, a Header may still follow, or memory runs
 /// out.
-fn read_front(alloc: Global, text: &[u8], end: usize) -> Option<RawModule>
+pub fn read_front(alloc: Global, text: &[u8], end: usize) -> Option<RawModule>
     requires within { end ≤ length text.now }
     ensures { IfSome result (λ found. IsFront text.now end found) }
 {

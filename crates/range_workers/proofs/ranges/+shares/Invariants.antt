@@ -1,5 +1,5 @@
 use Rattle.std.proofs.Common.{◌+◌, ◌*◌}
-use Rattle.clif_read.proofs.sharing.+shares.Given as goal
+use Rattle.range_workers.proofs.ranges.+shares.Given as goal
 
 abbrev pub decreases-read_shares : goal.decreases-read_shares
 decreases-read_shares g l = 2 * l.workers

@@ -2,21 +2,19 @@
 
 ghost use Rattle.std.specs.Prelude.{◌≡◌, ◌<◌, ◌≤◌, ◌++◌, ℕ, List, IfSome};
 ghost use Rattle.std.specs.Thread.{IsSync};
-ghost use Rattle.clif_read.specs.declared.raw.RawFunction.{RawFunction};
-ghost use Rattle.clif_read.specs.Stretches.{Follow};
+ghost use Rattle.range_workers.specs.Follow.{Follow};
 
-use crate::raw::RawFunction;
 use crate::room::make_room;
 use std::alloc::Global;
 use std::thread::{Threads, join};
 
-/// What is read range by range: places of a text, or of the list of its tokens.
-pub(crate) trait Ranges: Sync {
+/// What is read range by range, as places of a text or of the list of its tokens, into items.
+pub trait Ranges<T>: Sync {
     /// Two places, one behind the other or the same.
     ghost range: { Self → ℕ → ℕ → Type 0 };
 
-    /// From the first place to the second stand these functions, and nothing else.
-    ghost stand: { Self → ℕ → ℕ → List RawFunction → Type 0 };
+    /// From the first place to the second stand these items, and nothing else.
+    ghost stand: { Self → ℕ → ℕ → List T → Type 0 };
 
     /// Where a stretch of a range ends.
     fn stretch_end(&self, from: usize, end: usize, size: usize) -> usize
@@ -25,8 +23,8 @@ pub(crate) trait Ranges: Sync {
         ensures rest { range self.now result «end» }
         ensures forward { from < «end» → from < result };
 
-    /// The functions of one stretch. None where anything else stands there, or memory runs out.
-    fn read_stretch(&self, alloc: Global, from: usize, end: usize) -> Option<Vec<RawFunction>>
+    /// The items of one stretch. None where anything else stands there, or memory runs out.
+    fn read_stretch(&self, alloc: Global, from: usize, end: usize) -> Option<Vec<T>>
         requires { range self.now from «end» }
         ensures { IfSome result (λ found. Follow (stand self.now) from «end» found.items) };
 
@@ -34,11 +32,8 @@ pub(crate) trait Ranges: Sync {
     ghost ordered: { (s : Self) (from to : ℕ) → range s from to → from ≤ to };
 }
 
-/// The functions of one range and those of the next. None where memory runs out.
-pub(crate) fn joined(
-    mut found: Vec<RawFunction>,
-    mut more: Vec<RawFunction>,
-) -> Option<Vec<RawFunction>>
+/// The items of one range and those of the next. None where memory runs out.
+pub fn joined<T: Drop>(mut found: Vec<T>, mut more: Vec<T>) -> Option<Vec<T>>
     ensures { IfSome result (λ all. all.items ≡ found.items ++ more.items) }
 {
     match found.append(&mut more) {
@@ -47,14 +42,14 @@ pub(crate) fn joined(
     }
 }
 
-/// The functions of a range, read stretch by stretch. None where anything else stands there, or memory runs out.
-fn read_range<P: Ranges>(
+/// The items of a range, read stretch by stretch. None where anything else stands there, or memory runs out.
+fn read_range<T: Drop, P: Ranges<T>>(
     alloc: Global,
     ranges: &P,
     from: usize,
     end: usize,
     size: usize,
-) -> Option<Vec<RawFunction>>
+) -> Option<Vec<T>>
     requires { P.range ranges.now from «end» }
     ensures { IfSome result (λ found. Follow (P.stand ranges.now) from «end» found.items) }
 {
@@ -70,10 +65,10 @@ fn read_range<P: Ranges>(
     Some(found)
 }
 
-/// The functions of a range, read by so many workers at once. None where anything else stands there, or memory runs
+/// The items of a range, read by so many workers at once. None where anything else stands there, or memory runs
 /// out.
 #[cycle(shares)]
-pub(crate) fn read_shares<R: Threads + Sync, P: Ranges>(
+pub fn read_shares<R: Threads + Sync, T: Drop + Send, P: Ranges<T>>(
     rt: &R,
     alloc: Global,
     ranges: &P,
@@ -81,7 +76,7 @@ pub(crate) fn read_shares<R: Threads + Sync, P: Ranges>(
     end: usize,
     workers: usize,
     size: usize,
-) -> Option<Vec<RawFunction>>
+) -> Option<Vec<T>>
     requires { P.range ranges.now from «end» }
     ensures { IfSome result (λ found. Follow (P.stand ranges.now) from «end» found.items) }
 {
@@ -92,11 +87,11 @@ pub(crate) fn read_shares<R: Threads + Sync, P: Ranges>(
     let others = workers - few;
     let share = (end - from) / workers;
     let middle = ranges.stretch_end(from, end, share.saturating_mul(few));
-    let low = || -> Option<Vec<RawFunction>>
+    let low = || -> Option<Vec<T>>
         requires { IsSync R.row × IsSync P.row × P.range ranges.now from middle }
         ensures { IfSome result (λ found. Follow (P.stand ranges.entry.now) from middle found.items) }
     { read_shares(rt, alloc, ranges, from, middle, few, size) };
-    let high = || -> Option<Vec<RawFunction>>
+    let high = || -> Option<Vec<T>>
         requires { IsSync R.row × IsSync P.row × P.range ranges.now middle «end» }
         ensures { IfSome result (λ found. Follow (P.stand ranges.entry.now) middle «end» found.items) }
     { read_shares(rt, alloc, ranges, middle, end, others, size) };

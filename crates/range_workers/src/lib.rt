@@ -1,0 +1,8 @@
+//! What stands in a range, found stretch by stretch, by several workers at once.
+#![tactic(auto)]
+
+mod ranges;
+mod room;
+
+pub use ranges::{Ranges, joined, read_shares};
+pub use room::make_room;

@@ -14,7 +14,7 @@ use clif_read::{RawFunction, RawModule};
 use std::alloc::{AllocError, Global};
 
 /// The most functions that a module may have.
-const MOST_FUNCTIONS: usize = 65_536;
+pub const MOST_FUNCTIONS: usize = 65_536;
 
 /// A fault of names or numbers.
 #[derive(Clone, Copy, Debug, PartialEq, Eq)]

@@ -18,7 +18,7 @@ mod tables;
 mod uses;
 mod words;
 
-pub use first::{NamesFault, among_functions, first_fault};
+pub use first::{MOST_FUNCTIONS, NamesFault, among_functions, first_fault};
 pub use firsts::{Def, Firsts};
 pub use function::FunctionNames;
 pub use least::LeastSpots;

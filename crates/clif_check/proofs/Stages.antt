@@ -32,7 +32,7 @@ use Rattle.clif_check.specs.Laws.{AcceptedHasNoFault, OneModule}
 
 -- ---- one raw module
 
-one_raw : (text : List ℕ) (a b : RawModule) → IsModuleText text a → IsModuleText text b → a ≡ b
+pub one_raw : (text : List ℕ) (a b : RawModule) → IsModuleText text a → IsModuleText text b → a ≡ b
 one_raw text a b p q =
     let same : p.tokens ≡ q.tokens = (let e = sym p.lexed ∙ q.lexed in cc) in
     let other : IsModule (lexemes text p.tokens) b = subst (λ (ts : List Token). IsModule (lexemes text ts) b) (sym same) q.read in
@@ -46,14 +46,14 @@ stopped_is_none ts end kind.UnknownOpcode spot broken = broken.0
 stopped_is_none ts end kind.Unsupported spot broken = broken.0
 stopped_is_none ts end k spot broken = absurd broken
 
-read_is_faultless : (text : List ℕ) (raw : RawModule) (k : TextKind) (spot : ℕ) → IsModuleText text raw → IsFirstFault text (tokens_of text) (errors.Fault k spot) → ⊥
+pub read_is_faultless : (text : List ℕ) (raw : RawModule) (k : TextKind) (spot : ℕ) → IsModuleText text raw → IsFirstFault text (tokens_of text) (errors.Fault k spot) → ⊥
 read_is_faultless text raw k spot is fault =
     let stopped : Stopped (lexemes text is.tokens) _ (errors.Fault k spot) = subst (λ (r : Result (List Token) LexErr). IsFirstFault text r (errors.Fault k spot)) is.lexed fault in
     stopped_is_none _ _ k spot stopped is.read.0 is.read.1
 
 -- ---- no fault of the names, and no rule that is not kept
 
-meant_is_faultless : (raw : RawModule) (m : Module) (k : TextKind) (spot : ℕ) → NoFault raw → Means raw m → Accepted m → FirstOfRaw raw k spot → ⊥
+pub meant_is_faultless : (raw : RawModule) (m : Module) (k : TextKind) (spot : ℕ) → NoFault raw → Means raw m → Accepted m → FirstOfRaw raw k spot → ⊥
 meant_is_faultless raw m k spot free means accepted (inl wrong) = free k spot wrong.0
 meant_is_faultless raw m k spot free means accepted (inr breaks) =
     let same : m ≡ breaks.meant = one_meaning raw m breaks.meant free means breaks.means in

@@ -4,7 +4,7 @@ use Rattle.std.specs.Prelude.{◌⊎◌}
 use Rattle.clk_flow.specs.Faults.{Rose}
 use Rattle.settings.specs.Settings.{GenSettings}
 use Rattle.clifinl.specs.declared.status.Status.{Status}
-use Rattle.clifinl.specs.declared.status.Status.TheVariants.{Done, Refused, Usage, ReadFault, WriteFault, NoMemory}
+use Rattle.clifinl.specs.declared.status.Status.TheVariants.{Done, Refused, Usage, ReadFault, WriteFault, NoMemory, ChecksFailed}
 use Rattle.clifinl.specs.GenCommand.{IsGenRun, gen_text}
 use Rattle.clifinl.specs.RunCommand.{IsUnread}
 use Rattle.clifinl.specs.Runs.{Outside, Wrote}
@@ -18,6 +18,7 @@ ends output before after faults now WriteFault wrote none = absurd (none wrote.1
 ends output before after faults now (Refused refusal) wrote none = absurd wrote
 ends output before after faults now Usage wrote none = absurd wrote
 ends output before after faults now ReadFault wrote none = absurd wrote
+ends output before after faults now ChecksFailed wrote none = absurd wrote
 
 pub gen_run : (s : GenSettings) (before after : Outside) (status : Status) → IsUnread before after
     → Wrote (gen_text s) before.written after.written before.write_faults after.write_faults status → IsGenRun s before after status

@@ -6,6 +6,8 @@ pub mod Spots
 pub mod RunEnds
 pub mod InlineEnds
 pub mod GenEnds
+pub mod OneReport
+pub mod TestEnds
 pub mod Examples
 pub mod Measures
 pub mod Bounds

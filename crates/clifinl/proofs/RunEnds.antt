@@ -20,8 +20,8 @@ use Rattle.script_text.specs.Scripts.{Reads, StopsIn}
 use Rattle.script_text.specs.Values.{number_list_value, script_value}
 use Rattle.settings.specs.Settings.{RunSettings}
 use Rattle.clifinl.specs.declared.status.Status.{Status}
-use Rattle.clifinl.specs.declared.status.Status.TheVariants.{Done, Refused, Usage, ReadFault, WriteFault, NoMemory}
-use Rattle.clifinl.specs.declared.status.Refusal.TheVariants.{Text, TooLong, BadScript, NoEntry, BadArgs}
+use Rattle.clifinl.specs.declared.status.Status.TheVariants.{Done, Refused, Usage, ReadFault, WriteFault, NoMemory, ChecksFailed}
+use Rattle.clifinl.specs.declared.status.Refusal.TheVariants.{Text, TooLong, BadScript, NoEntry, BadArgs, BadDirective}
 use Rattle.clifinl.specs.RunCommand.{CanRun, EntryRunEnds, HasCause, HasEntry, HasOutcome, HasUnfitNumbers, IsEntryRefusal, IsFunctionRun, IsListRefusal, IsNoList, IsScriptRefusal, IsScriptText, IsUnread, ReadsScript}
 use Rattle.clifinl.specs.Runs.{IsFirstFault, Outside, Stopped, Took, Wrote, count_line}
 use Rattle.clifinl.proofs.Beginnings.{read_stops_nowhere}
@@ -64,10 +64,12 @@ list_refused s m entry (Refused (Text k place)) why = absurd why
 list_refused s m entry (Refused TooLong) why = absurd why
 list_refused s m entry (Refused (BadScript count)) why = absurd why
 list_refused s m entry (Refused NoEntry) why = absurd why
+list_refused s m entry (Refused (BadDirective line)) why = absurd why
 list_refused s m entry Done why = absurd why
 list_refused s m entry Usage why = absurd why
 list_refused s m entry ReadFault why = absurd why
 list_refused s m entry WriteFault why = absurd why
+list_refused s m entry ChecksFailed why = absurd why
 
 -- a run whose text is written
 pub entry_ends : (s : RunSettings) (script : Script) (m : Module) (outcome : Outcome) → HasOutcome s script m outcome
@@ -80,6 +82,7 @@ entry_ends s script m outcome has before after faults now NoMemory wrote = tt
 entry_ends s script m outcome has before after faults now (Refused refusal) wrote = absurd wrote
 entry_ends s script m outcome has before after faults now Usage wrote = absurd wrote
 entry_ends s script m outcome has before after faults now ReadFault wrote = absurd wrote
+entry_ends s script m outcome has before after faults now ChecksFailed wrote = absurd wrote
 
 -- ---- a run for each end
 
@@ -101,10 +104,12 @@ module _ (s : RunSettings) (before after : Outside) where
   script_refused (Refused TooLong) why unread = absurd why
   script_refused (Refused NoEntry) why unread = absurd why
   script_refused (Refused BadArgs) why unread = absurd why
+  script_refused (Refused (BadDirective line)) why unread = absurd why
   script_refused Done why unread = absurd why
   script_refused Usage why unread = absurd why
   script_refused ReadFault why unread = absurd why
   script_refused WriteFault why unread = absurd why
+  script_refused ChecksFailed why unread = absurd why
 
   -- no module was read
   stop_cause : IsScriptText s.script → (status : Status) → Stopped IsFirstFault before.left after.left before.read_faults after.read_faults status → HasCause s before after status
@@ -115,9 +120,11 @@ module _ (s : RunSettings) (before after : Outside) where
   stop_cause script (Refused (BadScript count)) why = absurd why
   stop_cause script (Refused NoEntry) why = absurd why
   stop_cause script (Refused BadArgs) why = absurd why
+  stop_cause script (Refused (BadDirective line)) why = absurd why
   stop_cause script Done why = absurd why
   stop_cause script Usage why = absurd why
   stop_cause script WriteFault why = absurd why
+  stop_cause script ChecksFailed why = absurd why
 
   pub stopped : IsScriptText s.script → (status : Status) → Stopped IsFirstFault before.left after.left before.read_faults after.read_faults status → Ends status
   stopped script status why =
@@ -159,5 +166,7 @@ module _ (s : RunSettings) (before after : Outside) where
     ended (Refused (Text k place)) ends = absurd ends
     ended (Refused TooLong) ends = absurd ends
     ended (Refused (BadScript count)) ends = absurd ends
+    ended (Refused (BadDirective line)) ends = absurd ends
     ended Usage ends = absurd ends
     ended ReadFault ends = absurd ends
+    ended ChecksFailed ends = absurd ends

@@ -7,8 +7,8 @@ use Rattle.clif_lex.specs.declared.faults.Place.{Place}
 use Rattle.clif_lex.specs.declared.faults.TextKind.{TextKind}
 use Rattle.ir_core.specs.Module.{Module}
 use Rattle.clifinl.specs.declared.status.Status.{Status}
-use Rattle.clifinl.specs.declared.status.Status.TheVariants.{Done, Refused, Usage, ReadFault, WriteFault, NoMemory}
-use Rattle.clifinl.specs.declared.status.Refusal.TheVariants.{Text, TooLong, BadScript, NoEntry, BadArgs}
+use Rattle.clifinl.specs.declared.status.Status.TheVariants.{Done, Refused, Usage, ReadFault, WriteFault, NoMemory, ChecksFailed}
+use Rattle.clifinl.specs.declared.status.Refusal.TheVariants.{Text, TooLong, BadScript, NoEntry, BadArgs, BadDirective}
 use Rattle.clif_check.specs.Faults.{IsAccepted}
 use Rattle.clif_check.proofs.Stages.{accepted_has_no_fault}
 use Rattle.clifinl.specs.Runs.{IsFirstFault, most_bytes, ReadsWhole, GivesTooMany, Outside, Took, NoText, Stopped, Wrote, IsRun}
@@ -23,7 +23,7 @@ told (Some xs) (Some ys) bytes all whole is =
     let same : xs ≡ all = cc in sym (append-nil bytes) ∙ ap (λ (rest : List ℕ). bytes ++ rest) (sym whole.ended) ∙ sym whole.taken ∙ same
 
 -- a source that gave too many has too many
-told_long : (before after : Option (List ℕ)) (all : List ℕ) → GivesTooMany before after → before ≡ Some all → most_bytes < length all
+pub told_long : (before after : Option (List ℕ)) (all : List ℕ) → GivesTooMany before after → before ≡ Some all → most_bytes < length all
 told_long None after all many is = absurd cc
 told_long (Some xs) None all many is = absurd many.1
 told_long (Some xs) (Some ys) all many is =
@@ -40,11 +40,13 @@ stopped_at_no_text Refuses before after faults now (Refused TooLong) why = why
 stopped_at_no_text Refuses before after faults now (Refused (BadScript count)) why = absurd why
 stopped_at_no_text Refuses before after faults now (Refused NoEntry) why = absurd why
 stopped_at_no_text Refuses before after faults now (Refused BadArgs) why = absurd why
+stopped_at_no_text Refuses before after faults now (Refused (BadDirective line)) why = absurd why
 stopped_at_no_text Refuses before after faults now ReadFault why = why
 stopped_at_no_text Refuses before after faults now NoMemory why = why
 stopped_at_no_text Refuses before after faults now Done why = absurd why
 stopped_at_no_text Refuses before after faults now Usage why = absurd why
 stopped_at_no_text Refuses before after faults now WriteFault why = absurd why
+stopped_at_no_text Refuses before after faults now ChecksFailed why = absurd why
 
 module _ (Takes : List ℕ → Module → Type 0) (Refuses : List ℕ → TextKind → Place → Type 0) (output : Module → List ℕ)
     (before after : Outside) where
@@ -99,6 +101,7 @@ module _ (Takes : List ℕ → Module → Type 0) (Refuses : List ℕ → TextKi
   written m (Refused refusal) took wrote = absurd wrote
   written m Usage took wrote = absurd wrote
   written m ReadFault took wrote = absurd wrote
+  written m ChecksFailed took wrote = absurd wrote
 
   -- a text that is refused is none that is taken
   module _ (honest : (bytes : List ℕ) (k : TextKind) (place : Place) (m : Module) → Refuses bytes k place → Takes bytes m → ⊥) where
@@ -116,11 +119,13 @@ module _ (Takes : List ℕ → Module → Type 0) (Refuses : List ℕ → TextKi
     stopped (Refused (BadScript count)) why = absurd why
     stopped (Refused NoEntry) why = absurd why
     stopped (Refused BadArgs) why = absurd why
+    stopped (Refused (BadDirective line)) why = absurd why
     stopped ReadFault why = not_read why
     stopped NoMemory why = out_of_memory
     stopped Done why = absurd why
     stopped Usage why = absurd why
     stopped WriteFault why = absurd why
+    stopped ChecksFailed why = absurd why
 
 -- an accepted text is not refused
 pub honest : (bytes : List ℕ) (k : TextKind) (place : Place) (m : Module) → IsFirstFault bytes k place → IsAccepted bytes m → ⊥

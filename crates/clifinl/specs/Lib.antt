@@ -6,3 +6,4 @@ pub mod Lines
 pub mod Measured
 pub mod RunCommand
 pub mod Runs
+pub mod TestCommand

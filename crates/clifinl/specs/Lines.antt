@@ -3,9 +3,10 @@
 use Rattle.std.specs.Prelude.{ℕ, List, [], ◌++◌, codes, decimal}
 use Rattle.clif_lex.specs.Faults.{kind_name}
 use Rattle.clifinl.specs.declared.status.Refusal.{Refusal}
-use Rattle.clifinl.specs.declared.status.Refusal.TheVariants.{Text, TooLong, BadScript, NoEntry, BadArgs}
+use Rattle.clifinl.specs.declared.status.Refusal.TheVariants.{Text, TooLong, BadScript, NoEntry, BadArgs, BadDirective}
 use Rattle.clifinl.specs.declared.status.Status.{Status}
-use Rattle.clifinl.specs.declared.status.Status.TheVariants.{Done, Refused, Usage, ReadFault, WriteFault, NoMemory}
+use Rattle.clifinl.specs.declared.status.Status.TheVariants.{Done, Refused, Usage, ReadFault, WriteFault}
+use Rattle.clifinl.specs.declared.status.Status.TheVariants.{NoMemory, ChecksFailed}
 
 abbrev pub refusal_line : Refusal → List ℕ
 refusal_line (Text kind place) =
@@ -15,6 +16,7 @@ refusal_line TooLong = codes "error TooLong\n"
 refusal_line (BadScript count) = codes "error BadScript " ++ decimal count ++ codes "\n"
 refusal_line NoEntry = codes "error NoEntry\n"
 refusal_line BadArgs = codes "error BadArgs\n"
+refusal_line (BadDirective line) = codes "error BadDirective " ++ decimal line ++ codes "\n"
 
 abbrev pub line_of : Status → List ℕ
 line_of Done = []
@@ -23,3 +25,4 @@ line_of Usage = []
 line_of ReadFault = codes "error ReadFault\n"
 line_of WriteFault = codes "error WriteFault\n"
 line_of NoMemory = codes "error NoMemory\n"
+line_of ChecksFailed = []

@@ -16,6 +16,7 @@ use crate::inlining::inline;
 use crate::report::tell;
 use crate::running::run;
 use crate::status::Status;
+use crate::testing::test;
 use clk_flow::{Gate, Sink, Source, put};
 use settings::{Settings, Stopped, read_settings};
 use std::alloc::Global;
@@ -34,7 +35,8 @@ fn carry_out<R: Threads + Wait + Sync, I: Source, O: Sink, G: Gate>(
     ensures run { IsRunOf (shown settings.now)
         (outside (I.left input.old) (I.faults input.old) (O.written out.old) (O.faults out.old))
         (outside (I.left input.new) (I.faults input.new) (O.written out.new) (O.faults out.new)) result }
-    ensures nothing { (out.new ≡ out.old) ⊎ ((result ≡ Status.Done) ⊎ (result ≡ Status.WriteFault)) }
+    ensures nothing { (out.new ≡ out.old)
+        ⊎ ((result ≡ Status.Done) ⊎ ((result ≡ Status.ChecksFailed) ⊎ (result ≡ Status.WriteFault))) }
 {
     match settings {
         Settings::Check => check(rt, alloc, input, out),
@@ -42,6 +44,7 @@ fn carry_out<R: Threads + Wait + Sync, I: Source, O: Sink, G: Gate>(
         Settings::Inline(options) => inline(rt, alloc, options, input, out, gate),
         Settings::Run(options) => run(rt, alloc, options, input, out),
         Settings::Gen(options) => generated(rt, alloc, options, out, gate),
+        Settings::Test => test(alloc, input, out),
     }
 }
 
@@ -49,8 +52,8 @@ fn carry_out<R: Threads + Wait + Sync, I: Source, O: Sink, G: Gate>(
 /// write to `out` how many functions it has, and its canonical text; `run` runs a function of it, and writes what the
 /// run did; `inline` writes the canonical text of the module with its calls inlined, from callees to callers, as the
 /// sizes of the settings allow, and tells the gate of each function that a worker begins; `gen` reads nothing, makes a
-/// module, and writes its canonical text, or in numbers what inlining its calls does. A refusal is told on `err` in one
-/// line.
+/// module, and writes its canonical text, or in numbers what inlining its calls does; `test` carries out the tests that
+/// stand in the text from `input`, and writes the report of their checks. A refusal is told on `err` in one line.
 pub fn command<R: Threads + Wait + Sync, I: Source, O: Sink, E: Sink, G: Gate>(
     rt: &R,
     alloc: Global,
@@ -69,10 +72,11 @@ pub fn command<R: Threads + Wait + Sync, I: Source, O: Sink, E: Sink, G: Gate>(
     ensures run { (s : asked.Settings) → settings_of (map string_bytes words.now) ≡ Some s → IsRunOf s
         (outside (I.left input.old) (I.faults input.old) (O.written out.old) (O.faults out.old))
         (outside (I.left input.new) (I.faults input.new) (O.written out.new) (O.faults out.new)) result }
-    ensures nothing { (out.new ≡ out.old) ⊎ ((result ≡ Status.Done) ⊎ (result ≡ Status.WriteFault)) }
+    ensures nothing { (out.new ≡ out.old)
+        ⊎ ((result ≡ Status.Done) ⊎ ((result ≡ Status.ChecksFailed) ⊎ (result ≡ Status.WriteFault))) }
 
-    // What was told: nothing where all was done, else the line of the status. A fault of `err` changes nothing else.
-    ensures silent { result ≡ Status.Done → err.new ≡ err.old }
+    // What was told: nothing where all was written, else the line of the status. A fault of `err` changes nothing else.
+    ensures silent { (result ≡ Status.Done) ⊎ (result ≡ Status.ChecksFailed) → err.new ≡ err.old }
     ensures told { result ≢ Status.Usage → AppendsPrefix (E.written err.old) (E.written err.new) (line_of result) }
     ensures told_whole { result ≢ Status.Usage → (Rose (E.faults err.old) (E.faults err.new) → ⊥)
         → Appends (E.written err.old) (E.written err.new) (line_of result) }

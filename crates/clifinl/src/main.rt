@@ -11,6 +11,7 @@ mod report;
 mod running;
 mod status;
 mod summary;
+mod testing;
 #[cfg(test)]
 mod tests;
 mod writing;

@@ -63,7 +63,7 @@ pub(crate) fn read_module<R: Threads + Wait + Sync, I: Source>(
 }
 
 /// The place of a byte. Behind the text it is that of the text's end.
-fn place_of(text: &[u8], spot: usize) -> Place
+pub(crate) fn place_of(text: &[u8], spot: usize) -> Place
     requires { length text.now ≤ 4294967294 }
     ensures { IsPlaceOf text.now spot result }
 {

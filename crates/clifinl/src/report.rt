@@ -1,5 +1,5 @@
 //! The line on standard error after a refusal.
-ghost use Rattle.std.specs.Prelude.{◌≡◌, ◌++◌, OnOk, OnErr, codes, decimal};
+ghost use Rattle.std.specs.Prelude.{◌≡◌, ◌⊎◌, ◌++◌, OnOk, OnErr, codes, decimal};
 ghost use Rattle.std.specs.Io.KnownBytes.{Appends};
 ghost use Rattle.clk_flow.specs.Faults.{HasCause, Rose};
 ghost use Rattle.clk_flow.specs.Whole.{AppendsPrefix};
@@ -10,22 +10,18 @@ use crate::status::{Refusal, Status};
 use clk_flow::{Failed, Sink, put};
 use itoa::Buffer;
 
-/// Writes at which byte a script goes no further.
-fn put_script_fault<K: Sink>(sink: &mut K, count: u64) -> Result<(), Failed>
+/// Writes a line that ends with a number.
+fn put_numbered<K: Sink>(sink: &mut K, front: &[u8], number: u64) -> Result<(), Failed>
     ensures whole { OnOk result (Appends (K.written sink.old) (K.written sink.new)
-        (codes "error BadScript " ++ decimal count ++ codes "\n")) }
+        (front.now ++ decimal number ++ codes "\n")) }
     ensures part { OnErr result (AppendsPrefix (K.written sink.old) (K.written sink.new)
-        (codes "error BadScript " ++ decimal count ++ codes "\n")) }
+        (front.now ++ decimal number ++ codes "\n")) }
     ensures cause { HasCause (K.faults sink.old) (K.faults sink.new) result }
 {
-    let mut number = Buffer::new();
+    let mut digits = Buffer::new();
     put_all(
         sink,
-        &[
-            b"error BadScript ".as_slice(),
-            number.format(count).as_bytes(),
-            b"\n".as_slice(),
-        ],
+        &[front, digits.format(number).as_bytes(), b"\n".as_slice()],
     )
 }
 
@@ -53,9 +49,12 @@ fn put_refusal<K: Sink>(sink: &mut K, refusal: Refusal) -> Result<(), Failed>
             )
         }
         Refusal::TooLong => put(sink, b"error TooLong\n"),
-        Refusal::BadScript(count) => put_script_fault(sink, count),
+        Refusal::BadScript(count) => put_numbered(sink, b"error BadScript ", count),
         Refusal::NoEntry => put(sink, b"error NoEntry\n"),
         Refusal::BadArgs => put(sink, b"error BadArgs\n"),
+        Refusal::BadDirective(line) => {
+            put_numbered(sink, b"error BadDirective ", u64::from(line))
+        }
     }
 }
 
@@ -66,7 +65,7 @@ fn report<K: Sink>(sink: &mut K, status: Status) -> Result<(), Failed>
     ensures cause { HasCause (K.faults sink.old) (K.faults sink.new) result }
 {
     match status {
-        Status::Done | Status::Usage => put(sink, b""),
+        Status::Done | Status::Usage | Status::ChecksFailed => put(sink, b""),
         Status::Refused(refusal) => put_refusal(sink, refusal),
         Status::ReadFault => put(sink, b"error ReadFault\n"),
         Status::WriteFault => put(sink, b"error WriteFault\n"),
@@ -74,16 +73,16 @@ fn report<K: Sink>(sink: &mut K, status: Status) -> Result<(), Failed>
     }
 }
 
-/// Tells how a run ended: nothing where all was done, else a line. It takes no memory, and a fault of the sink changes
-/// nothing else.
+/// Tells how a run ended: nothing where all was written, else a line. It takes no memory, and a fault of the sink
+/// changes nothing else.
 pub(crate) fn tell<K: Sink>(sink: &mut K, status: Status)
-    ensures silent { status ≡ Status.Done → sink.new ≡ sink.old }
+    ensures silent { (status ≡ Status.Done) ⊎ (status ≡ Status.ChecksFailed) → sink.new ≡ sink.old }
     ensures told { AppendsPrefix (K.written sink.old) (K.written sink.new) (line_of status) }
     ensures told_whole { (Rose (K.faults sink.old) (K.faults sink.new) → ⊥)
         → Appends (K.written sink.old) (K.written sink.new) (line_of status) }
 {
     match status {
-        Status::Done => {}
+        Status::Done | Status::ChecksFailed => {}
         refusal => {
             let _told = report(sink, refusal);
         }

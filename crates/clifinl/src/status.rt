@@ -16,6 +16,8 @@ pub enum Refusal {
     NoEntry,
     /// The arguments are no list of numbers, not as many as the parameters, or one is no value of its parameter's type.
     BadArgs,
+    /// The first line with a directive or a `test` that asks for nothing that there is.
+    BadDirective(u32),
 }
 
 /// How a run of the program ends.
@@ -33,12 +35,14 @@ pub enum Status {
     WriteFault,
     /// Memory ran out.
     NoMemory,
+    /// What was asked for was written: the report of tests of which some failed.
+    ChecksFailed,
 }
 
 impl Status {
     ghost use Rattle.clifinl.specs.Codes.{code_of};
 
-    /// The exit status of the process: 0 to 5 in the order of the variants.
+    /// The exit status of the process: 0 to 6 in the order of the variants.
     pub fn code(&self) -> u8
         ensures { result ≡ code_of self.now }
     {
@@ -49,6 +53,7 @@ impl Status {
             Status::ReadFault => 3,
             Status::WriteFault => 4,
             Status::NoMemory => 5,
+            Status::ChecksFailed => 6,
         }
     }
 }

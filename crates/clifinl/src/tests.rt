@@ -319,3 +319,32 @@ fn a_generated_module(rt: HostRuntime) -> Result<(), AllocError> {
     }
     Ok(())
 }
+
+/// Two checks of one function, of which the second fails.
+const TESTED: &[u8] = b"test interpret\nfunction %f(i64) -> i64 {\n    fn0 = %h(i64) -> i64\n\
+    block0(v0: i64):\n    v1 = call fn0(v0)\n    return v1\n}\n\
+    ; host: return(9)\n; run: %f(5) == 9\n; trace: host %h(5)\n; run: %f(5) == 8\n";
+
+const REPORT: &[u8] = b"pass interpret %f line 9\n\
+    fail interpret %f line 11\n  expected returned [8]\n  got script ended\n1 passed, 1 failed, 0 skipped\n";
+
+#[test]
+fn reports_and_their_refusals(rt: HostRuntime) -> Result<(), AllocError> {
+    let skipped = b"skip compile\n0 passed, 0 failed, 1 skipped\n".as_slice();
+    for (input, code, out, told) in [
+        (TESTED, 6, REPORT, ""),
+        (b"test compile\n".as_slice(), 0, skipped, ""),
+        (
+            b"test\n".as_slice(),
+            1,
+            b"".as_slice(),
+            "error BadDirective 1\n",
+        ),
+    ] {
+        let ran = run_command(&rt, rt.alloc(), ["test"].as_slice(), input, 99, 1000)?;
+        assert!(rt; ran.status.code() == code, "at {told}");
+        assert!(rt; ran.out.bytes() == out, "at {told}");
+        assert!(rt; ran.err.bytes() == told.as_bytes(), "at {told}");
+    }
+    Ok(())
+}

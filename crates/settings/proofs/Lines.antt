@@ -2,7 +2,7 @@
 use Rattle.std.proofs.Common.{refl}
 use Rattle.clap.proofs.OnLiterals.{clap_on_literals}
 use Rattle.settings.specs.Options.{number_of}
-use Rattle.settings.specs.Laws.{SomeAreRefused, SomeHaveSettings, TablesAreSimple}
+use Rattle.settings.specs.Laws.{SomeAreRefused, SomeHaveSettings, TableIsSimple}
 
 pub some_are_refused : SomeAreRefused
 unfolding clap_on_literals number_of
@@ -11,7 +11,7 @@ some_are_refused = record {
   help = refl;
   help_of_a_command = refl;
   no_command = refl;
-  not_there_yet = refl;
+  option_of_test = refl;
   two_commands = refl;
   no_entry = refl;
   no_worker = refl;
@@ -25,8 +25,8 @@ some_are_refused = record {
 
 pub some_have_settings : SomeHaveSettings
 unfolding clap_on_literals number_of
-some_have_settings = record { check = refl; print = refl; inline = refl; run = refl; gen = refl; gen_text = refl }
+some_have_settings = record { check = refl; print = refl; inline = refl; run = refl; gen = refl; gen_text = refl; test = refl }
 
-pub tables_are_simple : TablesAreSimple
+pub table_is_simple : TableIsSimple
 unfolding clap_on_literals
-tables_are_simple = record { now = refl; whole = refl }
+table_is_simple = refl

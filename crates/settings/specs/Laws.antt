@@ -1,8 +1,8 @@
 -- What the table says of some command lines, without the program's name.
 use Rattle.std.specs.Prelude.{◌≡◌, List, [], ◌∷◌, Some, None, codes, false, true}
 use Rattle.clap.specs.Words.{Text, is_simple_and_free}
-use Rattle.settings.specs.Settings.{Settings, Check, Print, Inline, Run, Gen, InlineSettings}
-use Rattle.settings.specs.Table.{table, whole_table}
+use Rattle.settings.specs.Settings.{Settings, Check, Print, Inline, Run, Gen, Test, InlineSettings}
+use Rattle.settings.specs.Table.{table}
 use Rattle.settings.specs.Meaning.{settings_of}
 
 abbrev pub AreRefused : List Text → Type 0
@@ -16,7 +16,7 @@ pub record SomeAreRefused : Type 0 where
   pub help : AreRefused (codes "--help" ∷ [])
   pub help_of_a_command : AreRefused (codes "run" ∷ codes "--help" ∷ [])
   pub no_command : AreRefused (codes "optimise" ∷ [])
-  pub not_there_yet : AreRefused (codes "test" ∷ [])
+  pub option_of_test : AreRefused (codes "test" ∷ codes "--workers" ∷ codes "4" ∷ [])
   pub two_commands : AreRefused (codes "check" ∷ codes "check" ∷ [])
   pub no_entry : AreRefused (codes "run" ∷ [])
   pub no_worker : AreRefused (codes "inline" ∷ codes "--workers" ∷ codes "0" ∷ [])
@@ -42,8 +42,8 @@ pub record SomeHaveSettings : Type 0 where
   pub gen_text : Have (Gen (record { number = 18446744073709551615; functions = 20000; text = true; pass = usual }))
       (codes "gen" ∷ codes "--text" ∷ codes "--functions" ∷ codes "20000" ∷ codes "--number"
       ∷ codes "18446744073709551615" ∷ [])
+  pub test : Have Test (codes "test" ∷ [])
 
--- `clap`'s clauses speak of these tables
-pub record TablesAreSimple : Type 0 where
-  pub now : is_simple_and_free table ≡ true
-  pub whole : is_simple_and_free whole_table ≡ true
+-- `clap`'s clauses speak of this table
+abbrev pub TableIsSimple : Type 0
+TableIsSimple = is_simple_and_free table ≡ true

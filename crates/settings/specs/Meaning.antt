@@ -3,7 +3,8 @@ use Rattle.std.specs.Prelude.{◌≡◌, List, [], ◌∷◌, Option, Some, None
 use Rattle.std.specs.Str.{bytes_eq}
 use Rattle.clap.specs.Words.{Row, Text, Kinds, fault_of, first_of, subcommand_of}
 use Rattle.settings.specs.Options.{given, is_set, number_in}
-use Rattle.settings.specs.Settings.{Settings, Check, Print, Inline, Run, Gen, InlineSettings, RunSettings, GenSettings}
+use Rattle.settings.specs.Settings.{Settings, Check, Print, Inline, Run, Gen, Test}
+use Rattle.settings.specs.Settings.{InlineSettings, RunSettings, GenSettings}
 use Rattle.settings.specs.Table.{table, callee_size, caller_size, workers, memory, steps, number, functions}
 
 -- ---- by the rows of the options
@@ -40,6 +41,7 @@ settings_named name rows =
     else if bytes_eq name (codes "inline") then option_map (λ s. Inline s) (inline_settings rows)
     else if bytes_eq name (codes "run") then option_map (λ s. Run s) (run_settings rows)
     else if bytes_eq name (codes "gen") then option_map (λ s. Gen s) (gen_settings rows)
+    else if bytes_eq name (codes "test") then Some Test
     else None
 
 abbrev pub settings_at : Option (Text × List Row) → Option Settings

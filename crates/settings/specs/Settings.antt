@@ -30,3 +30,4 @@ pub data Settings : Type 0 where
   Inline : InlineSettings → Settings
   Run : RunSettings → Settings
   Gen : GenSettings → Settings
+  Test : Settings

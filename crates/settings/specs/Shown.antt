@@ -2,7 +2,7 @@
 use Rattle.std.specs.Prelude.{string_bytes}
 use Rattle.settings.specs.Settings as spec
 use Rattle.settings.specs.declared.requests.Settings.{Settings}
-use Rattle.settings.specs.declared.requests.Settings.TheVariants.{Check, Print, Inline, Run, Gen}
+use Rattle.settings.specs.declared.requests.Settings.TheVariants.{Check, Print, Inline, Run, Gen, Test}
 use Rattle.settings.specs.declared.requests.InlineSettings.{InlineSettings}
 use Rattle.settings.specs.declared.requests.RunSettings.{RunSettings}
 use Rattle.settings.specs.declared.requests.GenSettings.{GenSettings}
@@ -28,3 +28,4 @@ shown Print = spec.Print
 shown (Inline s) = spec.Inline (inline_shown s)
 shown (Run s) = spec.Run (run_shown s)
 shown (Gen s) = spec.Gen (gen_shown s)
+shown Test = spec.Test

@@ -1,5 +1,5 @@
 -- The command table: the commands and their options, as `clap` reads it.
-use Rattle.std.specs.Prelude.{ℕ, false, true, List, [], ◌∷◌, ◌++◌, codes}
+use Rattle.std.specs.Prelude.{ℕ, false, true, List, [], ◌∷◌, codes}
 use Rattle.clap.specs.Words.{App, Rule, Shape, Text, new_app}
 use Rattle.clap.specs.Simple.{new_shape}
 use Rattle.settings.specs.Options.{Number, flag, number_or, required_number, required_text, text_or_empty}
@@ -53,14 +53,9 @@ table_of commands =
       subs = commands;
     }
 
--- the commands that are there
 abbrev pub commands : List Shape
 commands = command (codes "check") [] ∷ command (codes "print") [] ∷ command (codes "inline") inline_options
-    ∷ command (codes "run") run_options ∷ command (codes "gen") gen_options ∷ []
+    ∷ command (codes "run") run_options ∷ command (codes "gen") gen_options ∷ command (codes "test") [] ∷ []
 
 abbrev pub table : App
 table = table_of commands
-
--- the whole table, with the command that is still to come
-abbrev pub whole_table : App
-whole_table = table_of (commands ++ command (codes "test") [] ∷ [])

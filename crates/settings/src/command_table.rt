@@ -18,13 +18,15 @@ pub(crate) fn command_table<'a>(alloc: Global) -> Result<Command<'a>, AllocError
     let inline = inline_command(alloc)?;
     let run = run_command(alloc)?;
     let generating = gen_command(alloc)?;
+    let testing = plain_command(alloc, "test");
     Command::new(alloc, "clifinl")
         .subcommand_required(true)
         .subcommand(check)?
         .subcommand(print)?
         .subcommand(inline)?
         .subcommand(run)?
-        .subcommand(generating)
+        .subcommand(generating)?
+        .subcommand(testing)
 }
 
 fn plain_command<'a>(alloc: Global, name: &'a str) -> Command<'a>

@@ -1,5 +1,5 @@
 //! Laws of the command table: functions without a body, each of which has its law as its contract.
-ghost use Rattle.settings.specs.Laws.{SomeAreRefused, SomeHaveSettings, TablesAreSimple};
+ghost use Rattle.settings.specs.Laws.{SomeAreRefused, SomeHaveSettings, TableIsSimple};
 
 /// Help, unknown and repeated words, and numbers out of their ranges have no settings.
 pub fn some_are_refused()
@@ -11,7 +11,7 @@ pub fn some_have_settings()
     ensures { SomeHaveSettings }
 {}
 
-/// The table, and the one with the command that is still to come, are of the kind that `clap`'s clauses speak of.
-pub fn tables_are_simple()
-    ensures { TablesAreSimple }
+/// The table is of the kind that `clap`'s clauses speak of.
+pub fn table_is_simple()
+    ensures { TableIsSimple }
 {}

@@ -95,6 +95,8 @@ fn find_settings(alloc: Global, matches: &ArgMatches) -> Result<Option<Settings>
         Ok(run_settings(alloc, options)?.map(Settings::Run))
     } else if name == "gen" {
         Ok(gen_settings(options).map(Settings::Gen))
+    } else if name == "test" {
+        Ok(Some(Settings::Test))
     } else {
         Ok(None)
     }

@@ -14,6 +14,8 @@ pub enum Settings {
     Run(RunSettings),
     /// `gen`: what the pass does to a generated module, or the text of that module.
     Gen(GenSettings),
+    /// `test`: what comes of the tests that stand in the text.
+    Test,
 }
 
 /// The options of `inline`.

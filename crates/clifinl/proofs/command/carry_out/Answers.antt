@@ -14,5 +14,8 @@ returns-in-Inline-clause-run g c = rw c.in-Inline.is c.inline.ensures.run
 pub returns-in-Run-clause-run : goal.returns-in-Run-clause-run
 returns-in-Run-clause-run g c = rw c.in-Run.is c.run.ensures.run
 
+pub returns-in-Test-clause-run : goal.returns-in-Test-clause-run
+returns-in-Test-clause-run g c = rw c.in-Test.is c.test.ensures.run
+
 pub returns-in-Gen-clause-run : goal.returns-in-Gen-clause-run
 returns-in-Gen-clause-run g c = rw c.in-Gen.is (gen_run _ _ _ _ (record { left = refl; faults = refl }) c.generated.ensures.wrote)

@@ -13,5 +13,5 @@ returns c =
       app = ap app_of_fields c.subcommand_required.ensures ∙ ap wants_subcommand c.new.ensures.app;
       plain = ap (λ (f : Command-F Command). f.has_globals) c.subcommand_required.ensures ∙ c.new.ensures.local;
     } in
-    IfOk-weaker c.subcommand-5.result _ _ (λ r added. (adds_command added (adds_command c.in_ok-subcommand-4.ensures (adds_command c.in_ok-subcommand-3.ensures (adds_command c.in_ok-subcommand-2.ensures
-    (adds_command c.in_ok-subcommand.ensures program c.plain_command-check.ensures) c.plain_command-print.ensures) c.in_ok-inline.ensures) c.in_ok-run.ensures) c.in_ok-generating.ensures).app) c.subcommand-5.ensures
+    IfOk-weaker c.subcommand-6.result _ _ (λ r added. (adds_command added (adds_command c.in_ok-subcommand-5.ensures (adds_command c.in_ok-subcommand-4.ensures (adds_command c.in_ok-subcommand-3.ensures (adds_command c.in_ok-subcommand-2.ensures
+    (adds_command c.in_ok-subcommand.ensures program c.plain_command-check.ensures) c.plain_command-print.ensures) c.in_ok-inline.ensures) c.in_ok-run.ensures) c.in_ok-generating.ensures) c.plain_command-testing.ensures).app) c.subcommand-6.ensures

@@ -1,0 +1,127 @@
+-- A text has one number of failed checks.
+use Rattle.std.proofs.Common.{◌≡◌, ℕ, zero, suc, Bool, true, false, List, [], ◌∷◌, ◌++◌, length, flat_map, slice_get, Option, None, Some, refl, sym, ap, subst, inl, inr, arith, ◌∙◌}
+use Rattle.std.specs.List.{list_any}
+use Rattle.clif_lex.specs.declared.faults.TextKind.{TextKind}
+use Rattle.clif_lex.specs.declared.spans.Token.{Token}
+use Rattle.clif_lex.specs.Places.{line_at}
+use Rattle.clif_read.specs.declared.raw.RawModule.{RawModule}
+use Rattle.clif_read.specs.Stretches.{IsModuleText}
+use Rattle.clif_names.proofs.FaultLaws.{one_first_fault}
+use Rattle.clif_meaning.specs.Reads.{alone}
+use Rattle.clif_meaning.proofs.OneMeaning.{one_meaning}
+use Rattle.clif_check.specs.Faults.{FirstOfRaw, BreaksRule}
+use Rattle.clif_check.proofs.Stages.{meant_is_faultless, one_raw}
+use Rattle.ir_check.specs.Faults as rules
+use Rattle.ir_check.proofs.Firsts.{at_most_one}
+use Rattle.ir_core.specs.Module.{Module}
+use Rattle.filetest.specs.declared.report.Report.{Report}
+use Rattle.filetest.specs.Checks.{checks_of, failed}
+use Rattle.filetest.specs.Report as report
+use Rattle.filetest.specs.FaultLines.{AreFaultLines, IsFaultLine}
+use Rattle.filetest.specs.Tested.{HasFaultLines, IsRaw, IsReport, IsTestedModule, asked, is_verifier, needs_module}
+use Rattle.test_directives.specs.Commands as command
+use Rattle.test_directives.specs.Commands.{Command}
+use Rattle.test_directives.specs.Tests.{FunctionTests, all_tests}
+
+-- ---- a text has one raw module
+
+pub is_module : (text : List ℕ) (ts : List Token) (raw : RawModule) → IsRaw text ts raw → IsModuleText text raw
+is_module text ts raw is = record { tokens = ts; lexed = is.tokens; read = is.read }
+
+pub one_list : (text : List ℕ) (ts us : List Token) (a b : RawModule) → IsRaw text ts a → IsRaw text us b → ts ≡ us
+one_list text ts us a b p q = let e = sym p.tokens ∙ q.tokens in cc
+
+pub same_raw : (text : List ℕ) (ts us : List Token) (a b : RawModule) → IsRaw text ts a → IsRaw text us b → a ≡ b
+same_raw text ts us a b p q = one_raw text a b (is_module text ts a p) (is_module text us b q)
+
+-- ---- lists
+
+same_items : {A : Type 0} (xs ys : List A) → length xs ≡ length ys → ((i : ℕ) (x y : A) → slice_get xs i ≡ Some x → slice_get ys i ≡ Some y → x ≡ y) → xs ≡ ys
+same_items [] [] e same = refl
+same_items [] (y ∷ ys) e same = absurd (omega (arith, e))
+same_items (x ∷ xs) [] e same = absurd (omega (arith, e))
+same_items (x ∷ xs) (y ∷ ys) e same =
+    let first : x ≡ y = same zero x y refl refl in
+    let others : xs ≡ ys = same_items xs ys (omega (arith, e)) (λ i a b p q. same (suc i) a b p q) in
+    cc
+
+-- ---- a raw module has one first fault
+
+one_broken : (raw : RawModule) (k l : TextKind) (s t : ℕ) → BreaksRule raw k s → BreaksRule raw l t → s ≡ t
+one_broken raw k l s t a b =
+    let meant : b.meant ≡ a.meant = one_meaning raw b.meant a.meant a.free b.means a.means in
+    let first : rules.FirstFault a.meant b.func b.item b.rule = subst (λ (m : Module). rules.FirstFault m b.func b.item b.rule) meant b.first in
+    let same = at_most_one a.meant a.func b.func a.item b.item a.rule b.rule a.first first in
+    let func = same.0 in let item = same.1 in
+    let x = a.spot_is in let y = b.spot_is in
+    cc
+
+one_spot : (raw : RawModule) (k l : TextKind) (s t : ℕ) → FirstOfRaw raw k s → FirstOfRaw raw l t → s ≡ t
+one_spot raw k l s t (inl a) (inl b) = (one_first_fault raw k l s t a b).1
+one_spot raw k l s t (inl a) (inr b) = absurd (b.free k s a.0)
+one_spot raw k l s t (inr a) (inl b) = absurd (a.free l t b.0)
+one_spot raw k l s t (inr a) (inr b) = one_broken raw k l s t a b
+
+one_line : (text : List ℕ) (raw : RawModule) (a b : Option ℕ) → IsFaultLine text raw a → IsFaultLine text raw b → a ≡ b
+one_line text raw None None p q = refl
+one_line text raw None (Some l) p q = absurd (meant_is_faultless raw p.0 q.1.0 q.0 p.1.free p.1.means p.1.accepted q.1.1)
+one_line text raw (Some l) None p q = absurd (meant_is_faultless raw q.0 p.1.0 p.0 q.1.free q.1.means q.1.accepted p.1.1)
+one_line text raw (Some l) (Some m) p q =
+    let same : p.0 ≡ q.0 = one_spot raw p.1.0 q.1.0 p.0 q.0 p.1.1 q.1.1 in
+    ap (λ (n : ℕ). Some n) (p.2 ∙ ap (line_at text) same ∙ sym q.2)
+
+one_lines : (text : List ℕ) (raw : RawModule) (fs gs : List (Option ℕ)) → AreFaultLines text raw fs → AreFaultLines text raw gs → fs ≡ gs
+one_lines text raw fs gs p q =
+    same_items fs gs (p.count ∙ sym q.count) (λ i a b is at. one_line text (alone raw i) a b (p.each i a is) (q.each i b at))
+
+-- ---- the checks do not depend on how the report came about
+
+one_tested : (b : Bool) (raw : RawModule) (m n : Module) → IsTestedModule b raw m → IsTestedModule b raw n → m ≡ n
+one_tested true raw m n p q = one_meaning raw m n p.free p.means q.means
+one_tested false raw m n p q = p ∙ sym q
+
+module _ (m : Module) (ts : List FunctionTests) (fs gs : List (Option ℕ)) where
+  -- the lines of faults count for `verifier` alone
+  without_faults : (c : Command) → is_verifier c ≡ false → checks_of m ts fs c ≡ checks_of m ts gs c
+  without_faults command.Verifier other = absurd cc
+  without_faults command.Cat other = refl
+  without_faults command.Interpret other = refl
+  without_faults command.Run other = refl
+  without_faults (command.Inline words) other = refl
+  without_faults (command.Other word) other = refl
+
+  none_verified : (cs : List Command) → list_any is_verifier cs ≡ false → flat_map (checks_of m ts fs) cs ≡ flat_map (checks_of m ts gs) cs
+  none_verified [] none = refl
+  none_verified (c ∷ cs) none = go (is_verifier c) refl none (none_verified cs)
+    where
+      go : (b : Bool) → is_verifier c ≡ b → list_any is_verifier (c ∷ cs) ≡ false
+          → (list_any is_verifier cs ≡ false → flat_map (checks_of m ts fs) cs ≡ flat_map (checks_of m ts gs) cs)
+          → flat_map (checks_of m ts fs) (c ∷ cs) ≡ flat_map (checks_of m ts gs) (c ∷ cs)
+      go true is all more = absurd (grind (arith, is, all))
+      go false is all more =
+          let first = without_faults c is in
+          let others : flat_map (checks_of m ts fs) cs ≡ flat_map (checks_of m ts gs) cs = more (grind (arith, is, all)) in
+          ap (λ l. l ++ flat_map (checks_of m ts fs) cs) first ∙ ap (λ l. checks_of m ts gs c ++ l) others
+
+  one_count : (b : Bool) (text : List ℕ) (raw : RawModule) (cs : List Command) → list_any is_verifier cs ≡ b
+      → HasFaultLines b text raw fs → HasFaultLines b text raw gs → failed m ts fs cs ≡ failed m ts gs cs
+  one_count true text raw cs is p q = ap (λ (ls : List (Option ℕ)). failed m ts ls cs) (one_lines text raw fs gs p q)
+  one_count false text raw cs is p q = ap report.failed (none_verified cs is)
+
+-- ---- the law
+
+pub one_failed : (text : List ℕ) (r s : Report) → IsReport text r → IsReport text s → r.failed ≡ s.failed
+one_failed text r s p q =
+    let tokens : q.tokens ≡ p.tokens = one_list text q.tokens p.tokens q.raw p.raw q.read p.read in
+    let raw : q.raw ≡ p.raw = same_raw text q.tokens p.tokens q.raw p.raw q.read p.read in
+    let Tested : List Token → RawModule → Type 0 = λ ts raw. IsTestedModule (needs_module (asked text ts)) raw q.tested in
+    let tested : Tested p.tokens p.raw = subst (λ (w : RawModule). Tested p.tokens w) raw (subst (λ (ts : List Token). Tested ts q.raw) tokens q.is_tested) in
+    let Lines : List Token → RawModule → Type 0 = λ ts raw. HasFaultLines (list_any is_verifier (asked text ts)) text raw q.faults in
+    let lines : Lines p.tokens p.raw = subst (λ (w : RawModule). Lines p.tokens w) raw (subst (λ (ts : List Token). Lines ts q.raw) tokens q.are_faults) in
+    let Count : List Token → RawModule → Type 0 = λ ts raw. s.failed ≡ failed q.tested (all_tests text ts raw.functions) q.faults (asked text ts) in
+    let count : Count p.tokens p.raw = subst (λ (w : RawModule). Count p.tokens w) raw (subst (λ (ts : List Token). Count ts q.raw) tokens q.failed_is) in
+    let same : q.tested ≡ p.tested = one_tested (needs_module (asked text p.tokens)) p.raw q.tested p.tested tested p.is_tested in
+    let other : failed p.tested (all_tests text p.tokens p.raw.functions) p.faults (asked text p.tokens)
+    ≡ failed p.tested (all_tests text p.tokens p.raw.functions) q.faults (asked text p.tokens) =
+    one_count p.tested (all_tests text p.tokens p.raw.functions) p.faults q.faults (list_any is_verifier (asked text p.tokens)) text p.raw (asked text p.tokens) refl p.are_faults lines in
+    p.failed_is ∙ other ∙ ap (λ (m : Module). failed m (all_tests text p.tokens p.raw.functions) q.faults (asked text p.tokens)) (sym same) ∙ sym count

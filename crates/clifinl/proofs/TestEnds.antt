@@ -1,0 +1,171 @@
+-- How runs of `test` end.
+use Rattle.std.proofs.Common.{◌≡◌, ℕ, ◌<◌, List, Option, Some, length, refl, sym, ap, subst, inl, inr, arith, ◌∙◌}
+use Rattle.std.specs.Prelude.{Bool, true, false, ◌==◌}
+use Rattle.clif_lex.specs.declared.faults.Place.{Place}
+use Rattle.clif_lex.specs.declared.faults.TextKind.{TextKind}
+use Rattle.clif_lex.specs.declared.spans.Token.{Token}
+use Rattle.clif_read.specs.declared.raw.RawModule.{RawModule}
+use Rattle.clif_check.specs.Faults.{FirstOfRaw, IsAcceptedRaw}
+use Rattle.clif_check.proofs.Stages.{meant_is_faultless, read_is_faultless}
+use Rattle.clk_flow.specs.Faults.{Rose}
+use Rattle.filetest.specs.declared.report.Report.{Report}
+use Rattle.filetest.specs.declared.testing.TestErr.TheVariants as err
+use Rattle.filetest.specs.Tested.{HasBadLine, HasLaterFault, IsRefusal, IsReport, IsTestedModule, asked, needs_module}
+use Rattle.test_directives.specs.Tests.{bad_line}
+use Rattle.clifinl.specs.declared.status.Status.{Status}
+use Rattle.clifinl.specs.declared.status.Status.TheVariants.{Done, Refused, Usage, ReadFault, WriteFault, NoMemory, ChecksFailed}
+use Rattle.clifinl.specs.declared.status.Refusal.TheVariants.{Text, TooLong, BadScript, NoEntry, BadArgs, BadDirective}
+use Rattle.clifinl.specs.Runs.{GivesTooMany, NoText, Outside, ReadsWhole, Stopped, most_bytes}
+use Rattle.clifinl.specs.TestCommand.{HasNoReport, IsTestFault, IsTestRun, ReportEnds, TookReport, end_of}
+use Rattle.clifinl.proofs.OneReport.{is_module, one_failed, one_list, same_raw}
+use Rattle.clifinl.proofs.Runs.{told, told_long}
+
+-- ---- a text that has a report is not refused
+
+no_bad_line : (text : List ℕ) (r : Report) (line : ℕ) → IsReport text r → HasBadLine text line → ⊥
+no_bad_line text r line report (ts, raw, is, bad) =
+    let tokens : ts ≡ report.tokens = one_list text ts report.tokens raw report.raw is report.read in
+    let same : raw ≡ report.raw = same_raw text ts report.tokens raw report.raw is report.read in
+    let moved : bad_line text report.tokens report.raw ≡ Some line =
+    subst (λ (m : RawModule). bad_line text report.tokens m ≡ Some line) same (subst (λ (us : List Token). bad_line text us raw ≡ Some line) tokens bad) in
+    let good = report.good in
+    absurd cc
+
+no_later_fault : (text : List ℕ) (r : Report) (k : TextKind) (spot : ℕ) → IsReport text r → HasLaterFault text k spot → ⊥
+no_later_fault text r k spot report (ts, raw, is, good, needed, first) =
+    let tokens : ts ≡ report.tokens = one_list text ts report.tokens raw report.raw is report.read in
+    let same : raw ≡ report.raw = same_raw text ts report.tokens raw report.raw is report.read in
+    let asks : needs_module (asked text report.tokens) ≡ true = subst (λ (us : List Token). needs_module (asked text us) ≡ true) tokens needed in
+    let accepted : IsAcceptedRaw report.raw report.tested = subst (λ (b : Bool). IsTestedModule b report.raw report.tested) asks report.is_tested in
+    meant_is_faultless report.raw report.tested k spot accepted.free accepted.means accepted.accepted (subst (λ (m : RawModule). FirstOfRaw m k spot) same first)
+
+no_fault : (text : List ℕ) (r : Report) (k : TextKind) (spot : ℕ) → IsReport text r → IsRefusal text (err.Text k spot) → ⊥
+no_fault text r k spot report (inl unread) = read_is_faultless text report.raw k spot (is_module text report.tokens report.raw report.read) unread
+no_fault text r k spot report (inr later) = no_later_fault text r k spot report later
+
+-- ---- how the failed checks decide
+
+done_end : (r : Report) → r.failed ≡ 0 → Done ≡ end_of r
+done_end r none = rw none refl
+
+failed_end : (r : Report) → (r.failed ≡ 0 → ⊥) → ChecksFailed ≡ end_of r
+failed_end r some = let other : (r.failed == 0) ≡ false = grind (arith, some) in rw other refl
+
+-- ---- a run for each end
+
+module _ (before after : Outside) where
+  abbrev Ends : Status → Type 0
+  Ends status = IsTestRun before after status
+
+  pub out_of_memory : Ends NoMemory
+  out_of_memory = record {
+    cause = tt;
+    complete = λ bytes r is short report none. inr refl;
+    refuses = λ bytes is short no. inr (inr refl);
+    too_long = λ bytes is long. inr (inr refl);
+  }
+
+  not_read : Rose before.read_faults after.read_faults → Ends ReadFault
+  not_read rose = record {
+    cause = rose;
+    complete = λ bytes r is short report none. absurd (none.reads rose);
+    refuses = λ bytes is short no. inr (inl refl);
+    too_long = λ bytes is long. inr (inl refl);
+  }
+
+  given_too_many : GivesTooMany before.left after.left → Ends (Refused TooLong)
+  given_too_many many = record {
+    cause = many;
+    complete = λ bytes r is short report none. let long = told_long _ _ _ many is in absurd (omega (arith, long, short));
+    refuses = λ bytes is short no. let long = told_long _ _ _ many is in absurd (omega (arith, long, short));
+    too_long = λ bytes is long. inl refl;
+  }
+
+  -- a text that was read whole is not too long
+  not_long : {Q : Type 0} (own bytes : List ℕ) → ReadsWhole before.left after.left own → before.left ≡ Some bytes → most_bytes < length bytes → Q
+  not_long own bytes whole is long =
+      let same : own ≡ bytes = told _ _ _ _ whole is in absurd (omega (arith, long, whole.short, ap length same))
+
+  -- the bytes that are told are those that were read
+  report_of_own : (own bytes : List ℕ) (r : Report) → ReadsWhole before.left after.left own → before.left ≡ Some bytes → IsReport bytes r → IsReport own r
+  report_of_own own bytes r whole is report = subst (λ (b : List ℕ). IsReport b r) (sym (told _ _ _ _ whole is)) report
+
+  faulty : (k : TextKind) (place : Place) (bytes : List ℕ) → ReadsWhole before.left after.left bytes → IsTestFault bytes k place → Ends (Refused (Text k place))
+  faulty k place bytes whole fault = record {
+    cause = (bytes, whole, fault);
+    complete = λ all r is short report none. absurd (no_fault bytes r k fault.0 (report_of_own bytes all r whole is report) fault.1);
+    refuses = λ all is short no. inl (inl tt);
+    too_long = λ all is long. not_long bytes all whole is long;
+  }
+
+  misdirected : (line : ℕ) (bytes : List ℕ) → ReadsWhole before.left after.left bytes → HasBadLine bytes line → Ends (Refused (BadDirective line))
+  misdirected line bytes whole bad = record {
+    cause = (bytes, whole, bad);
+    complete = λ all r is short report none. absurd (no_bad_line bytes r line (report_of_own bytes all r whole is report) bad);
+    refuses = λ all is short no. inl (inr tt);
+    too_long = λ all is long. not_long bytes all whole is long;
+  }
+
+  pub stopped : (status : Status) → HasNoReport before.left after.left before.read_faults after.read_faults status → Ends status
+  stopped (Refused (Text k place)) why = faulty k place why.0 why.1 why.2
+  stopped (Refused (BadDirective line)) why = misdirected line why.0 why.1 why.2
+  stopped (Refused TooLong) why = given_too_many why
+  stopped ReadFault why = not_read why
+  stopped NoMemory why = out_of_memory
+  stopped (Refused (BadScript count)) why = absurd why
+  stopped (Refused NoEntry) why = absurd why
+  stopped (Refused BadArgs) why = absurd why
+  stopped Done why = absurd why
+  stopped Usage why = absurd why
+  stopped WriteFault why = absurd why
+  stopped ChecksFailed why = absurd why
+
+  module _ (r : Report) (took : TookReport before.left after.left r) where
+    -- the text has a report
+    has_report : {Q : Type 0} (bytes : List ℕ) → before.left ≡ Some bytes → ((s : Report) → IsReport bytes s → ⊥) → Q
+    has_report bytes is without = absurd (without r (subst (λ (b : List ℕ). IsReport b r) (told _ _ _ _ took.1 is) took.2))
+
+    -- each report of the text has as many failed checks
+    as_many : (bytes : List ℕ) (s : Report) → before.left ≡ Some bytes → IsReport bytes s → s.failed ≡ r.failed
+    as_many bytes s is report = one_failed took.0 s r (report_of_own took.0 bytes s took.1 is report) took.2
+
+    pub ended : (status : Status) → ReportEnds r before.written after.written before.write_faults after.write_faults status → Ends status
+    ended Done ends = record {
+      cause = (r, took, ends);
+      complete = λ bytes s is short report none. inl (done_end s (as_many bytes s is report ∙ ends.0));
+      refuses = λ bytes is short no. has_report bytes is no;
+      too_long = λ bytes is long. not_long took.0 bytes took.1 is long;
+    }
+    ended ChecksFailed ends = record {
+      cause = (r, took, ends);
+      complete = λ bytes s is short report none. inl (failed_end s (λ no-failed. ends.0 (sym (as_many bytes s is report) ∙ no-failed)));
+      refuses = λ bytes is short no. has_report bytes is no;
+      too_long = λ bytes is long. not_long took.0 bytes took.1 is long;
+    }
+    ended WriteFault ends = record {
+      cause = (r, took, ends);
+      complete = λ bytes s is short report none. absurd (none.writes ends.1);
+      refuses = λ bytes is short no. has_report bytes is no;
+      too_long = λ bytes is long. not_long took.0 bytes took.1 is long;
+    }
+    ended (Refused refusal) ends = absurd ends
+    ended Usage ends = absurd ends
+    ended ReadFault ends = absurd ends
+    ended NoMemory ends = absurd ends
+
+-- ---- reading
+
+-- where the source was not read whole, there is no report
+pub not_whole : (before after : Option (List ℕ)) (faults now : ℕ) (status : Status) → Stopped NoText before after faults now status → HasNoReport before after faults now status
+not_whole before after faults now (Refused (Text k place)) why = absurd why.2
+not_whole before after faults now (Refused TooLong) why = why
+not_whole before after faults now (Refused (BadDirective line)) why = absurd why
+not_whole before after faults now (Refused (BadScript count)) why = absurd why
+not_whole before after faults now (Refused NoEntry) why = absurd why
+not_whole before after faults now (Refused BadArgs) why = absurd why
+not_whole before after faults now ReadFault why = why
+not_whole before after faults now NoMemory why = tt
+not_whole before after faults now Done why = absurd why
+not_whole before after faults now Usage why = absurd why
+not_whole before after faults now WriteFault why = absurd why
+not_whole before after faults now ChecksFailed why = absurd why

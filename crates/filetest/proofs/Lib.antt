@@ -1,0 +1,15 @@
+pub mod CommandChecks
+pub mod Containing
+pub mod Cutting
+pub mod Differing
+pub mod Ends
+pub mod FaultChecks
+pub mod FaultLaws
+pub mod LineChecking
+pub mod Limits
+pub mod PassChecks
+pub mod Placing
+pub mod RunChecks
+pub mod Telling
+pub mod TextChecks
+pub mod Whole

@@ -1,0 +1,197 @@
+//! Checks of the first fault of each function.
+ghost use Rattle.std.specs.Prelude.{◌≡◌, ◌≤◌, [], ◌∷◌, length, map, option_map, reverse, IfOk, OnOk};
+ghost use Rattle.clif_lex.specs.Places.{line_at};
+ghost use Rattle.clif_meaning.specs.Meaning.{HasBlocks};
+ghost use Rattle.test_directives.specs.Views.{command_of, function_of};
+ghost use Rattle.filetest.specs.Checks as checks;
+ghost use Rattle.filetest.specs.FaultLines.{AreFaultLines, AreFaultSpots, IsFaultSpot};
+ghost use Rattle.filetest.specs.Ends.{unless};
+ghost use Rattle.filetest.specs.LineTests.{pair};
+ghost use Rattle.filetest.specs.Telling.{Tells};
+ghost use Rattle.filetest.specs.Views.{failure_of};
+
+use crate::report::{Pair, Writer};
+use crate::testing::TestErr;
+use clif_check::check_raw;
+use clif_lex::TextErr;
+use clif_read::{RawFunction, RawModule};
+use ir_core::List;
+use std::alloc::{AllocError, Global};
+use test_directives::{Command, FunctionTests};
+
+/// The spot of the first fault of a raw module, `None` where it is accepted.
+fn fault_spot(alloc: Global, raw: &RawModule) -> Result<Option<usize>, TestErr>
+    requires { HasBlocks raw.now }
+    ensures { IfOk result (IsFaultSpot raw.now) }
+{
+    match check_raw(alloc, raw) {
+        Ok(_) => Ok(None),
+        Err(TextErr::Fault { spot, .. }) => Ok(Some(spot)),
+        Err(TextErr::NoMemory) => Err(TestErr::NoMemory),
+    }
+}
+
+/// The raw module that has a function alone.
+fn alone(alloc: Global, headers: List<usize>, func: RawFunction) -> Result<RawModule, AllocError>
+    ensures { IfOk result (λ raw. (raw.headers ≡ headers) × (raw.functions ≡ func ∷ [])) }
+{
+    let mut functions = Vec::new(alloc);
+    functions.push(func)?;
+    Ok(RawModule {
+        headers,
+        functions: List::from_vec(functions),
+    })
+}
+
+/// The spots in the other order.
+fn reversed(spots: Vec<Option<usize>>) -> Vec<Option<usize>>
+    ensures { result.items ≡ reverse spots.items }
+{
+    let mut reversed = spots;
+    reversed.reverse();
+    reversed
+}
+
+/// The spots of the first faults of the functions, each taken as a module by itself. No function is copied.
+fn fault_spots(alloc: Global, raw: RawModule) -> Result<Vec<Option<usize>>, TestErr>
+    requires { HasBlocks raw }
+    ensures { IfOk result (λ spots. AreFaultSpots raw spots.items) }
+{
+    let RawModule {
+        mut headers,
+        functions,
+    } = raw;
+    let mut left = functions.into_vec();
+    let mut spots = Vec::new(alloc);
+    'functions: while let Some(func) = left.pop() {
+        let alone = alone(alloc, headers, func)?;
+        let spot = fault_spot(alloc, &alone)?;
+        spots.push(spot)?;
+        headers = alone.headers;
+    }
+    Ok(reversed(spots))
+}
+
+/// The line of a byte of the text, further on than another byte, whose line is given.
+fn line_from(text: &[u8], at: usize, line: u32, spot: usize) -> u32
+    requires short { length text.now ≤ 4294967294 }
+    requires ordered { at ≤ spot }
+    requires within { spot ≤ length text.now }
+    requires known { line ≡ line_at text.now at }
+    ensures { result ≡ line_at text.now spot }
+{
+    let mut line = line;
+    for i in at..spot {
+        if text[i] == b'\n' {
+            line += 1;
+        }
+    }
+    line
+}
+
+/// The lines of the spots. Takes time linear in the text where the spots stand in order, as those of functions do.
+fn lines_of_spots(
+    alloc: Global,
+    text: &[u8],
+    spots: &[Option<usize>],
+) -> Result<Vec<Option<u32>>, AllocError>
+    requires short { length text.now ≤ 4294967294 }
+    ensures { IfOk result (λ lines. lines.items ≡ map (option_map (line_at text.now)) spots.now) }
+{
+    let mut lines = Vec::new(alloc);
+    let mut at = 0;
+    let mut line = 1;
+    for i in 0..spots.len() {
+        match spots[i] {
+            None => lines.push(None)?,
+            Some(spot) => {
+                let until = spot.min(text.len());
+                if until < at {
+                    at = 0;
+                    line = 1;
+                }
+                line = line_from(text, at, line, until);
+                at = until;
+                lines.push(Some(line))?;
+            }
+        }
+    }
+    Ok(lines)
+}
+
+/// The line of the first fault of each function of a text, taken as a module by itself. Takes time linear in the text,
+/// but for logarithms.
+pub(crate) fn fault_lines(
+    alloc: Global,
+    text: &[u8],
+    raw: RawModule,
+) -> Result<Vec<Option<u32>>, TestErr>
+    requires short { length text.now ≤ 4294967294 }
+    requires blocks { HasBlocks raw }
+    ensures { IfOk result (λ lines. AreFaultLines text.now raw lines.items) }
+{
+    let spots = fault_spots(alloc, raw)?;
+    Ok(lines_of_spots(alloc, text, spots.as_slice())?)
+}
+
+/// `line 7` or `accepted`
+fn shown_line(alloc: Global, line: Option<u32>) -> Result<Vec<u8>, AllocError>
+    ensures { IfOk result (λ text. text.items ≡ checks.shown_fault line) }
+{
+    match line {
+        None => Vec::from_slice(alloc, b"accepted"),
+        Some(line) => {
+            let mut buffer = itoa::Buffer::new();
+            let mut text = Vec::from_slice(alloc, b"line ")?;
+            text.extend_from_slice(buffer.format(line).as_bytes())?;
+            Ok(text)
+        }
+    }
+}
+
+/// Whether two faults stand on one line, or there is none.
+fn is_same_line(a: Option<u32>, b: Option<u32>) -> bool
+    ensures { result ≡ checks.same_fault a b }
+{
+    match (a, b) {
+        (None, None) => true,
+        (Some(a), Some(b)) => a == b,
+        _ => false,
+    }
+}
+
+/// The failure of a function whose first fault is not where it is expected.
+fn fault_failure(
+    alloc: Global,
+    expected: Option<u32>,
+    got: Option<u32>,
+) -> Result<Option<Pair>, AllocError>
+    ensures { IfOk result (λ failure. failure_of failure ≡ unless (checks.same_fault expected got)
+        (pair (checks.shown_fault expected) (checks.shown_fault got))) }
+{
+    if is_same_line(expected, got) {
+        return Ok(None);
+    }
+    let expected = shown_line(alloc, expected)?;
+    let got = shown_line(alloc, got)?;
+    Ok(Some(Pair { expected, got }))
+}
+
+/// Compares the first fault of each function with its first `error:`.
+pub(crate) fn check_faults(
+    alloc: Global,
+    command: &Command,
+    faults: &[Option<u32>],
+    tests: &[FunctionTests],
+    out: &mut Writer,
+) -> Result<(), AllocError>
+    ensures { OnOk result (Tells out.old out.new (command_of command.now)
+        (checks.fault_checks (map function_of tests.now) faults.now)) }
+{
+    for i in 0..tests.len().min(faults.len()) {
+        let func = &tests[i];
+        let failure = fault_failure(alloc, func.error, faults[i])?;
+        out.check(command, func.name.as_slice(), func.line, failure)?;
+    }
+    Ok(())
+}

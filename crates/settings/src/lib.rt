@@ -5,8 +5,6 @@ mod command_table;
 pub mod laws;
 mod reading;
 mod requests;
-#[cfg(test)]
-mod tests;
 
 pub use reading::{Stopped, read_settings};
 pub use requests::{GenSettings, InlineSettings, RunSettings, Settings};

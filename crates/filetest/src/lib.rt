@@ -11,8 +11,6 @@ mod lines;
 mod report;
 mod runs;
 mod testing;
-#[cfg(test)]
-mod tests;
 mod texts;
 mod verifying;
 

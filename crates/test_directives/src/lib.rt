@@ -9,8 +9,6 @@ mod blanks;
 mod commands;
 mod comments;
 mod directives;
-#[cfg(test)]
-mod file_tests;
 mod functions;
 pub mod laws;
 mod names;

@@ -1,5 +1,5 @@
 //! The worked rows, to the byte.
-use crate::{TestErr, run_tests};
+use filetest::{TestErr, run_tests};
 use std::alloc::AllocError;
 
 #[test]

@@ -1,7 +1,7 @@
 //! Whole files, read for what they ask.
-use crate::{DirectiveErr, TestFile, read_tests};
 use clif_lex::tokens;
 use clif_read::read_raw_alone;
+use test_directives::{DirectiveErr, TestFile, read_tests};
 
 /// What the file asks for. The text is one that is read.
 fn asked(rt: HostRuntime, text: &[u8]) -> Result<TestFile, DirectiveErr> {

@@ -5,10 +5,10 @@
 
 `rt ci`, or `rt run` in crates/clifinl, builds the program and leaves it in out/. SCALE (1) makes the large texts
 smaller. It runs:
-- `check`, `print` and `inline` with a sink that takes every number of bytes below the output's length: status 4, and
-  exactly the output's beginning;
-- a source that fails (a folder in place of a file): status 3;
-- `check` of a text cut behind each of its tokens: one line with a place and a kind, and nothing written;
+- each command with a sink that takes every number of bytes below the output's length: status 4, and exactly the
+  output's beginning;
+- each command that reads with a source that fails (a folder in place of a file): status 3;
+- `check` of a text cut behind each of its tokens: Syntax at its end, and nothing written, but behind a function;
 - `inline`, `test` and `gen` by two workers under limits on memory (`ulimit -v`), each a little further than the one
   before, from what the program cannot begin with to what it needs in all: done with the same bytes, or status 5 and
   nothing written;
@@ -107,8 +107,15 @@ LIMITED = [
     (['test'], TESTED, 6),
     (['gen', '--number', '1', '--functions', '50', '--workers', '2'], '', 0),
 ]
+COMMANDS = [
+    (['check'], EXAMPLE, 0),
+    (['print'], EXAMPLE, 0),
+    (['inline'], EXAMPLE, 0),
+    (['run', '--entry', '%guarded', '--args=5', '--script=return(7)'], EXAMPLE, 0),
+    (['test'], TESTED, 6),
+    (['gen', '--functions', '3', '--text'], '', 0),
+]
 TOKEN = re.compile(r'->|%\w+|\w+|[(){}\[\],:=.<>]')
-LINE = re.compile(rb'error (\d+:\d+ [A-Za-z]+|TooLong|ReadFault|WriteFault|NoMemory)\n')
 FAULTS = []
 
 
@@ -138,17 +145,17 @@ def call(program, words, text, room=None, memory=None, processors=None):
 
 
 def rooms(program):
-    text = EXAMPLE.encode()
-    for words in (['check'], ['print'], ['inline']):
-        _, whole, _ = call(program, words, text)
+    for words, text, wanted in COMMANDS:
+        status, whole, err = call(program, words, text.encode())
+        expect((status, err) == (wanted, b''), f'{words[0]}: {status} {err!r}')
         for room in range(len(whole)):
-            status, out, err = call(program, words, text, room=room)
-            expect((status, out, err) == (4, whole[:room], b'error WriteFault\n'), f'{words[0]} with room for {room}')
+            found = call(program, words, text.encode(), room=room)
+            expect(found == (4, whole[:room], b'error WriteFault\n'), f'{words[0]} with room for {room}')
 
 
 def sources(program):
     folder = os.open('/', os.O_RDONLY)
-    for words in (['check'], ['print'], ['inline']):
+    for words, _, _ in COMMANDS[:-1]:
         done = subprocess.run([program, *words], stdin=folder, capture_output=True, check=False)
         expect((done.returncode, done.stdout, done.stderr) == (3, b'', b'error ReadFault\n'), f'{words[0]} of a folder')
     os.close(folder)
@@ -157,11 +164,13 @@ def sources(program):
 def cuts(program):
     for match in TOKEN.finditer(EXAMPLE):
         text = EXAMPLE[:match.end()]
-        status, out, err = call(program, ['check'], text.encode())
-        if status == 0:
-            expect(text.endswith('}'), f'a text cut at {match.end()} is accepted')
+        *lines, last = text.split('\n')
+        found = call(program, ['check'], text.encode())
+        if text.endswith('}'):
+            wanted = (0, f'ok {text.count("}")}\n'.encode(), b'')
         else:
-            expect(status == 1 and out == b'' and LINE.fullmatch(err), f'a text cut at {match.end()}: {err!r}')
+            wanted = (1, b'', f'error {len(lines) + 1}:{len(last) + 1} Syntax\n'.encode())
+        expect(found == wanted, f'a text cut at {match.end()}: {found}')
 
 
 def answered(program, name, words, text, kind=None):

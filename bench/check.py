@@ -11,25 +11,10 @@ import os
 import sys
 import tempfile
 
+from small_functions import clif_functions
 from timing import median, run
 
 TURNS = 5
-
-
-def chains(size):
-    """Functions that each call the one before, in chains of 64."""
-    parts, length = [], 0
-    while length < size and len(parts) < 65_536:
-        i = len(parts)
-        if i % 64 == 0:
-            text = f'function %f{i}(i64) -> i64 fast {{\nblock0(v0: i64):\n    v1 = iadd_imm v0, {i}\n    return v1\n}}\n\n'
-        else:
-            text = (f'function %f{i}(i64) -> i64 fast {{\n    sig0 = (i64) -> i64 fast\n    fn0 = %f{i - 1} sig0\n\n'
-                    f'block0(v0: i64):\n    v1 = iadd_imm v0, {i}\n    v2 = call fn0(v1)\n    brif v2, block1, block2(v1)\n\n'
-                    f'block1:\n    return v2\n\nblock2(v3: i64):\n    v4 = imul v3, v2\n    return v4\n}}\n\n')
-        parts.append(text)
-        length += len(text)
-    return ''.join(parts)
 
 
 def body(index, lines):
@@ -68,11 +53,30 @@ def functions(count):
     return ''.join(f'function %f{i}() fast {{\nblock0:\n    return\n}}\n\n' for i in range(count))
 
 
+def far_functions(count):
+    return ''.join(f'function u{i % 7}:{131_000 * (i // 7)}() fast {{\nblock0:\n    return\n}}\n\n' for i in range(count))
+
+
+def far_values(count):
+    """Values whose numbers are far apart, up to the greatest that 131,000 of them may have."""
+    lines = ''.join(f'    v{32_700 * i} = iconst.i8 0\n' for i in range(count))
+    return f'function %f() fast {{\nblock0:\n{lines}    return\n}}\n'
+
+
+def names(count):
+    """Callee declarations of different names."""
+    declared = ''.join(f'    fn{i} = %name{i} sig0\n' for i in range(count))
+    return f'function %f() fast {{\n    sig0 = () fast\n{declared}\nblock0:\n    return\n}}\n'
+
+
 SHAPES = {
     'functions': (32_000, functions),
     'lines of a function': (25_000, lambda n: body(0, n)),
     'blocks of a function': (40_000, blocks),
     'aliases in a chain': (1_000_000, aliases),
+    'values with numbers far apart': (65_000, far_values),
+    'names of callees': (120_000, names),
+    'names of functions, far apart': (32_000, far_functions),
 }
 
 
@@ -86,6 +90,8 @@ def medians(jobs, path):
 
 
 def main():
+    if len(sys.argv) < 2:
+        sys.exit(__doc__)
     program = os.path.abspath(sys.argv[1])
     scale = float(sys.argv[2]) if len(sys.argv) > 2 else 1
     one = ['taskset', '-c', '0']
@@ -95,7 +101,8 @@ def main():
         jobs[command + ', one processor'] = [*one, program, command]
     with tempfile.TemporaryDirectory() as folder:
         path = os.path.join(folder, 'text')
-        for name, text in (('small functions', chains(int(14e6 * scale))), ('large bodies', bodies(int(60e6 * scale)))):
+        texts = {'small functions': ''.join(clif_functions(14e6 * scale, False)), 'large bodies': bodies(60e6 * scale)}
+        for name, text in texts.items():
             with open(path, 'w') as file:
                 file.write(text)
             found = medians(jobs, path)

@@ -5,16 +5,22 @@
 
 `rt ci`, or `rt run` in crates/clifinl, builds the program and leaves it in out/. SCALE (1) makes the large texts
 smaller. It runs:
-- `check`, `print` and `inline` with a sink that takes every number of bytes below the output's length: status 4, and
-  exactly the output's beginning;
-- a source that fails (a folder in place of a file): status 3;
-- `check` of a text cut behind each of its tokens: one line with a place and a kind, and nothing written;
-- limits on memory from what the program needs to begin with to what it needs in all: done with the same bytes, or
-  status 5 and nothing written;
-- 65,536 functions and one more; a chain of 65,536 callers; one block of 130,000 values; a chain of aliases; one name
-  of 60 MB; brackets 1,000,000 deep;
+- each command with a sink that takes every number of bytes below the output's length: status 4, and exactly the
+  output's beginning;
+- each command that reads with a source that fails (a folder in place of a file): status 3;
+- `check` of a text cut behind each of its tokens: Syntax at its end, and nothing written, but behind a function;
+- `inline`, `test` and `gen` by two workers under limits on memory (`ulimit -v`), each a little further than the one
+  before, from what the program cannot begin with to what it needs in all: done with the same bytes, or status 5 and
+  nothing written;
+- a text at each limit and one past it: functions of a module, parts of a function, bytes of a text; a chain of 65,536
+  callers; the values and the parameters of a block; the longest chain of aliases that a text has room for (3,400,000);
+  one name of 60 MB; brackets 1,000,000 deep;
+- `run`: 1,000,000,000 steps of an endless loop, the last byte of the greatest memory and the one behind it, arguments
+  at each end of each type and one past it, the longest script that a command line holds (a word of it has at most
+  131,072 bytes, so none has a megabyte), and scripts and arguments that are none;
 - `inline` of a text of 64 MiB on one, two and four processors, under limits on memory.
-Where the kit is at hand, `rt try clifinl --fail-alloc 1.. -- inline` in crates/clifinl refuses each allocation in turn."""
+Where the kit is at hand, `rt try clifinl --fail-alloc 1.. -- inline` in crates/clifinl refuses each allocation in
+turn."""
 import os
 import re
 import resource
@@ -52,8 +58,64 @@ block3:
     return v5
 }
 '''
+CALLED = '''function %f0() -> i32 {
+block0:
+    v0 = iconst.i32 10
+    return v0
+}
+
+function %f1() -> i32 {
+    fn0 = %f0() -> i32
+
+block0:
+    v0 = call fn0()
+    return v0
+}
+'''
+TESTED = '''test interpret
+function %f(i64) -> i64 {
+    fn0 = %h(i64) -> i64
+block0(v0: i64):
+    v1 = call fn0(v0)
+    return v1
+}
+; host: return(9)
+; run: %f(5) == 9
+; run: %f(5) == 8
+'''
+SPIN = 'function %f() {\nblock0:\n    jump block1\nblock1:\n    jump block1\n}\n'
+STORE = 'function %f(i64) {\nblock0(v0: i64):\n    v1 = iconst.i8 7\n    store v1, v0\n    return\n}\n'
+HOST = '''function %f(i64) {
+    fn0 = %h()
+
+block0(v0: i64):
+    jump block1(v0)
+
+block1(v1: i64):
+    call fn0()
+    v2 = iadd_imm v1, -1
+    brif v2, block1(v2), block2
+
+block2:
+    return
+}
+'''
+ENDS = (('i8', -2**7, 2**8 - 1), ('i16', -2**15, 2**16 - 1), ('i32', -2**31, 2**32 - 1), ('i64', -2**63, 2**64 - 1))
+# The words, the text, the status: `test` has one check that fails.
+LIMITED = [
+    (['inline'], CALLED, 0),
+    (['test'], TESTED, 6),
+    (['gen', '--number', '1', '--functions', '50', '--workers', '2'], '', 0),
+]
+COMMANDS = [
+    (['check'], EXAMPLE, 0),
+    (['print'], EXAMPLE, 0),
+    (['inline'], EXAMPLE, 0),
+    (['run', '--entry', '%guarded', '--args=5', '--script=return(7)'], EXAMPLE, 0),
+    (['test'], TESTED, 6),
+    (['gen', '--functions', '3', '--text'], '', 0),
+]
 TOKEN = re.compile(r'->|%\w+|\w+|[(){}\[\],:=.<>]')
-LINE = re.compile(rb'error (\d+:\d+ [A-Za-z]+|TooLong|ReadFault|WriteFault|NoMemory)\n')
 FAULTS = []
 
 
@@ -66,8 +128,6 @@ def expect(holds, what):
 def call(program, words, text, room=None, memory=None, processors=None):
     """The status, what was written, and the line on standard error. `room` is how many bytes the sink takes."""
     def limit():
-        if memory is not None:
-            resource.setrlimit(resource.RLIMIT_AS, (memory, memory))
         if room is not None:
             signal.signal(signal.SIGXFSZ, signal.SIG_IGN)
             resource.setrlimit(resource.RLIMIT_FSIZE, (room, room))
@@ -77,24 +137,25 @@ def call(program, words, text, room=None, memory=None, processors=None):
     with tempfile.TemporaryFile() as source, tempfile.TemporaryFile() as sink:
         source.write(text)
         source.seek(0)
-        done = subprocess.run([program, *words], stdin=source, stdout=sink, stderr=subprocess.PIPE, preexec_fn=limit,
-                              check=False)
+        limited = [] if memory is None else ['sh', '-c', f'ulimit -v {memory >> 10}; exec "$0" "$@"']
+        done = subprocess.run([*limited, program, *words], stdin=source, stdout=sink, stderr=subprocess.PIPE,
+                              preexec_fn=limit, check=False)
         sink.seek(0)
         return done.returncode, sink.read(), done.stderr
 
 
 def rooms(program):
-    text = EXAMPLE.encode()
-    for words in (['check'], ['print'], ['inline']):
-        _, whole, _ = call(program, words, text)
+    for words, text, wanted in COMMANDS:
+        status, whole, err = call(program, words, text.encode())
+        expect((status, err) == (wanted, b''), f'{words[0]}: {status} {err!r}')
         for room in range(len(whole)):
-            status, out, err = call(program, words, text, room=room)
-            expect((status, out, err) == (4, whole[:room], b'error WriteFault\n'), f'{words[0]} with room for {room}')
+            found = call(program, words, text.encode(), room=room)
+            expect(found == (4, whole[:room], b'error WriteFault\n'), f'{words[0]} with room for {room}')
 
 
 def sources(program):
     folder = os.open('/', os.O_RDONLY)
-    for words in (['check'], ['print'], ['inline']):
+    for words, _, _ in COMMANDS[:-1]:
         done = subprocess.run([program, *words], stdin=folder, capture_output=True, check=False)
         expect((done.returncode, done.stdout, done.stderr) == (3, b'', b'error ReadFault\n'), f'{words[0]} of a folder')
     os.close(folder)
@@ -103,42 +164,116 @@ def sources(program):
 def cuts(program):
     for match in TOKEN.finditer(EXAMPLE):
         text = EXAMPLE[:match.end()]
-        status, out, err = call(program, ['check'], text.encode())
-        if status == 0:
-            expect(text.endswith('}'), f'a text cut at {match.end()} is accepted')
+        *lines, last = text.split('\n')
+        found = call(program, ['check'], text.encode())
+        if text.endswith('}'):
+            wanted = (0, f'ok {text.count("}")}\n'.encode(), b'')
         else:
-            expect(status == 1 and out == b'' and LINE.fullmatch(err), f'a text cut at {match.end()}: {err!r}')
+            wanted = (1, b'', f'error {len(lines) + 1}:{len(last) + 1} Syntax\n'.encode())
+        expect(found == wanted, f'a text cut at {match.end()}: {found}')
 
 
-def answered(program, name, words, text, wanted, **limits):
-    status, out, err = call(program, words, text, **limits)
-    expect(status == wanted and (LINE.fullmatch(err) if wanted not in (0, 2) else err == b''),
-           f'{name}: {status} {err!r}')
+def answered(program, name, words, text, kind=None):
+    """What is written where there is no fault, else nothing beside the line of a fault of this kind."""
+    status, out, err = call(program, words, text.encode())
+    if kind is None:
+        expect((status, err) == (0, b''), f'{name}: {status} {err!r}')
+    else:
+        line = re.compile(rb'error (\d+:\d+ )?' + kind.encode() + rb'\n')
+        expect(status == 1 and out == b'' and line.fullmatch(err), f'{name}: {status} {err!r}')
     return out
 
 
-def large(program, scale):
-    def returning(name):
-        return f'function %{name}() {{\nblock0:\n    return\n}}\n'
+def returning(name):
+    return f'function %{name}() {{\nblock0:\n    return\n}}\n'
 
-    functions = ''.join(returning(f'f{i}') for i in range(65_536))
-    expect(answered(program, '65,536 functions', ['check'], functions.encode(), 0) == b'ok 65536\n', 'the count')
-    answered(program, 'one function more', ['check'], (functions + returning('more')).encode(), 1)
-    chain = returning('f0') + ''.join(
+
+def one_block(lines):
+    return f'function %f() {{\nblock0:\n{lines}    return\n}}\n'
+
+
+def nops(count):
+    return one_block('    nop\n' * count)
+
+
+def chain_of_callers(count):
+    return returning('f0') + ''.join(
         f'function %f{i}() {{\n    fn0 = %f{i - 1}()\nblock0:\n    call fn0()\n    return\n}}\n'
-        for i in range(1, 65_536))
-    answered(program, 'a chain of callers', ['inline'], chain.encode(), 0)
-    values = ''.join(f'    v{i} = iconst.i8 0\n' for i in range(130_000))
-    block = f'function %f() {{\nblock0:\n{values}    return\n}}\n'
-    answered(program, 'values of a block', ['inline'], block.encode(), 0)
-    count = int(4_000_000 * scale)
-    aliases = ''.join(f'    v{i + 1} -> v{i}\n' for i in range(count))
-    answered(program, 'aliases', ['check'],
-             f'function %f(i8) -> i8 {{\nblock0(v0: i8):\n{aliases}    return v{count}\n}}\n'.encode()[:67_000_000], 0
-             if count < 2_400_000 else 1)
-    answered(program, 'one name', ['check'], returning('x' * int(60_000_000 * scale)).encode(), 0)
-    answered(program, 'brackets', ['check'], b'[' * 1_000_000, 1)
-    answered(program, 'a text that is too long', ['check'], b' ' * 67_108_865, 1)
+        for i in range(1, count))
+
+
+def values(count):
+    return one_block(''.join(f'    v{i} = iconst.i8 0\n' for i in range(count)))
+
+
+def params(count):
+    listed = ', '.join(f'v{i}: i8' for i in range(count))
+    return f'function %f() {{\nblock0:\n    return\nblock1({listed}):\n    return\n}}\n'
+
+
+def aliases(count):
+    lines = ''.join(f'v{i + 1}->v{i}\n' for i in range(count))
+    return f'function %f(i8) -> i8 {{\nblock0(v0: i8):\n{lines}return v{count}\n}}\n'
+
+
+def large(program, scale):
+    functions = ''.join(returning(f'f{i}') for i in range(65_536))
+    expect(answered(program, '65,536 functions', ['check'], functions) == b'ok 65536\n', 'the count')
+    answered(program, 'one function more', ['check'], functions + returning('more'), 'TooLarge')
+    answered(program, 'the greatest function', ['check'], nops(262_142))
+    answered(program, 'a function with one part more', ['check'], nops(262_143), 'TooLarge')
+    answered(program, 'a chain of callers', ['inline'], chain_of_callers(65_536))
+    answered(program, 'values of a block', ['inline'], values(130_000))
+    answered(program, 'parameters of a block', ['check'], params(262_000))
+    answered(program, 'aliases', ['check'], aliases(int(3_400_000 * scale)))
+    answered(program, 'one name', ['check'], returning('x' * int(60_000_000 * scale)))
+    answered(program, 'brackets', ['check'], '[' * 1_000_000, 'Syntax')
+    answered(program, 'the longest text', ['check'], ' ' * 67_108_864)
+    answered(program, 'a text that is too long', ['check'], ' ' * 67_108_865, 'TooLong')
+
+
+def ran(program, name, words, text, wanted):
+    """A run of the function %f that answers so."""
+    found = call(program, ['run', '--entry', '%f', *words], text.encode())
+    expect(found == wanted, f'{name}: {found[0]} {found[1][:80]!r} {found[2]!r}')
+
+
+def runs(program):
+    ran(program, 'an endless loop', ['--steps', '1000000000'], SPIN, (0, b'going\n', b''))
+    last = b'returned []\nmemory 00fffff0:' + b' 00' * 15 + b' 07\n'
+    for at, out in ((16_777_215, last), (16_777_216, b'trapped heap_oob\n')):
+        ran(program, f'byte {at}', ['--memory', '16777216', f'--args={at}'], STORE, (0, out, b''))
+    for ty, low, high in ENDS:
+        text = f'function %f({ty}) {{\nblock0(v0: {ty}):\n    return\n}}\n'
+        for number in (low, high):
+            ran(program, f'{ty} {number}', [f'--args={number}'], text, (0, b'returned []\n', b''))
+        for number in (low - 1, high + 1):
+            ran(program, f'{ty} {number}', [f'--args={number}'], text, (1, b'', b'error BadArgs\n'))
+    for words, line in ((['--args=1,'], b'BadArgs'), (['--args=1,2'], b'BadArgs'),
+                        (['--args=v'], b'BadArgs'), (['--args=1', '--script=return('], b'BadScript 8'),
+                        (['--args=1', '--script=,'], b'BadScript 1'), (['--args=1', '--script=trap'], b'BadScript 5')):
+        ran(program, ' '.join(words), words, STORE, (1, b'', b'error ' + line + b'\n'))
+    count = 18_000
+    ran(program, 'the longest script', [f'--args={count}', '--script=' + ','.join(['return'] * count)], HOST,
+        (0, b'host %h()\n' * count + b'returned []\n', b''))
+
+
+def refusals(program):
+    """Each run within a little more memory than before, from what the program cannot begin with on."""
+    for words, text, wanted in LIMITED:
+        whole = call(program, words, text.encode())
+        expect(whole[0] == wanted, f'{words[0]}: {whole[0]}')
+        answers, begun = set(), False
+        for memory in range(1 << 20, 1 << 28, 1 << 14):
+            found = call(program, words, text.encode(), memory=memory)
+            begun = begun or found[0] in (5, wanted)
+            expect(not begun or found in (whole, (5, b'', b'error NoMemory\n')),
+                   f'{words[0]} within {memory}: {found[0]} {found[2]!r}')
+            answers.add(found[0])
+            if found == whole:
+                break
+        expect(found == whole, f'{words[0]} is never done')
+        print(f'{words[0]}: {sorted(answers)}, done within {memory}')
 
 
 def memories(program, scale):
@@ -156,12 +291,12 @@ def memories(program, scale):
     body = 'function %large(i64) -> i64 {\nblock0(v0: i64):\n' + '    v1 = iadd v0, v0\n    return v1\n}\n'
     comment = ';' + ' ' * 78 + '\n'
     text = ''.join(parts) + body
-    text = (text + comment * ((size - len(text)) // len(comment))).encode()
-    whole = answered(program, 'a text of 64 MiB', ['inline'], text, 0)
+    text = text + comment * ((size - len(text)) // len(comment))
+    whole = answered(program, 'a text of 64 MiB', ['inline'], text)
     everywhere = sorted(os.sched_getaffinity(0))
     for count in (1, 2, 4):
         for memory in (None, 4 << 30, 1 << 30, 512 << 20, 256 << 20, 128 << 20, 64 << 20):
-            status, out, err = call(program, ['inline', '--workers', str(count)], text, memory=memory,
+            status, out, err = call(program, ['inline', '--workers', str(count)], text.encode(), memory=memory,
                                     processors=everywhere[:count])
             done = (status, out, err) == (0, whole, b'')
             refused = (status, out, err) == (5, b'', b'error NoMemory\n')
@@ -178,7 +313,9 @@ def main():
     rooms(program)
     sources(program)
     cuts(program)
+    refusals(program)
     large(program, scale)
+    runs(program)
     memories(program, scale)
     print(f'{len(FAULTS)} faults')
     sys.exit(1 if FAULTS else 0)

@@ -4,20 +4,28 @@
     python3 bench/inline.py PATH/clifinl [SCALE]
 
 `rt ci`, or `rt run` in crates/clifinl, builds the program and leaves it in out/. First 14 MB of small functions in chains
-of calls and 60 MB of large bodies (SCALE times as much), with one, two and four workers: the median of five runs by the
-clock, as a multiple of `wc -w`, how much is written, and the most memory that a run held, a byte of input and output
-together. Then modules of one shape each and their halves, with one worker: twice the sites should take at most 2.2 times
-the time, by the processor's clock."""
+of calls, the same with fans and `try_call`s, and 60 MB of large bodies (SCALE times as much), with one, two and four
+workers: the median of five runs by the clock, as a multiple of `wc -w`, how much is written, and the most memory that a
+run held, a byte of input and output together. Beside the second text, where it is installed, LLVM's `opt` inlines the
+same functions, read and written as LLVM IR, by its own policy. Then modules of one shape each and their halves, with one
+worker: twice the sites should take at most 2.2 times the time, by the processor's clock.
+
+A function has at most 262,144 parts. A site of the least callee has four of them once it is inlined, so 40,000 sites
+before 200,000 lines cannot all be, nor can 1,000 calls under a table of 1,000 entries: the shapes below have one of the
+two numbers, and the other as large as it can be."""
 import os
+import shutil
 import subprocess
 import sys
 import tempfile
 
-from check import bodies, chains, medians
+from check import bodies, medians
+from small_functions import clif_functions, llvm_functions
 
 WIDEST = ['--callee-size', '262144', '--caller-size', '262144']
 
 SMALL = 'function %g() fast {\nblock0:\n    return\n}\n\n'
+THREE = 'function %g() fast {\nblock0:\n    jump block1\n\nblock1:\n    jump block2\n\nblock2:\n    return\n}\n\n'
 
 
 def caller(lines):
@@ -32,8 +40,25 @@ def sites_in_blocks(count):
     return SMALL + caller(''.join(f'    call fn0()\n    jump block{i + 1}\n\nblock{i + 1}:\n' for i in range(count)))
 
 
-def sites_before_lines(count):
-    return SMALL + caller('    call fn0()\n' * (count // 2) + '    nop\n' * (2 * count))
+def sites_of_three_blocks(count):
+    return THREE + caller('    call fn0()\n' * count)
+
+
+def try_sites(count):
+    lines = (f'    try_call fn0(), sig0, block{i + 1}, []\n\nblock{i + 1}:\n' for i in range(count))
+    return SMALL + caller(''.join(lines))
+
+
+def sites_before_lines(sites, lines):
+    return SMALL + caller('    call fn0()\n' * sites + '    nop\n' * lines)
+
+
+def few_sites_before_lines(lines):
+    return sites_before_lines(lines * 3 // 40, lines)
+
+
+def many_sites_before_lines(sites):
+    return sites_before_lines(sites, sites * 5 // 2)
 
 
 def callees(count):
@@ -54,12 +79,11 @@ def refused_sites(count):
     return f'function %g() fast {{\nblock0:\n{lines}    return\n}}\n\n' + caller('    call fn0()\n' * count)
 
 
-def entries_and_calls(count):
+def calls_under_a_table(count):
     calls = '    call fn0()\n' * count
-    table = ', '.join(f'tag{i}: block2(exn0, exn1)' for i in range(count))
+    table = ', '.join(f'tag{i}: block2' for i in range(1_000))
     return (f'function %g() fast {{\n    sig0 = () fast\n    fn0 = %h sig0\n\nblock0:\n{calls}    return\n}}\n\n'
-            'function %f() fast {\n    sig0 = () fast\n    fn0 = %g sig0\n\nblock0:\n'
-            f'    try_call fn0(), sig0, block1, [{table}]\n\nblock1:\n    return\n\nblock2(v0: i64, v1: i64):\n    return\n}}\n')
+            + caller(f'    try_call fn0(), sig0, block1, [{table}]\n\nblock1:\n    return\n\nblock2:\n'))
 
 
 def chain(count):
@@ -69,18 +93,22 @@ def chain(count):
     return first + rest
 
 
-# The name, the number, the text, the options; the half of the number is measured beside.
+# The number, what it counts, the text, the options; the half of the number is measured beside.
 SHAPES = [
-    ('sites in one block', 40_000, sites_in_a_block, WIDEST),
-    ('blocks with a site each', 40_000, sites_in_blocks, WIDEST),
-    ('lines, half as many sites before them', 80_000, sites_before_lines, WIDEST),
-    ('different callees of one caller', 20_000, callees, WIDEST),
-    ('blocks of a callee', 60_000, blocks_of_a_callee, WIDEST),
-    ('sites of a large body that is refused', 40_000, refused_sites, []),
-    ('sites of a large body that the caller size refuses', 40_000, refused_sites,
+    (40_000, 'sites in one block', sites_in_a_block, WIDEST),
+    (32_000, 'sites in one block', sites_in_a_block, WIDEST),
+    (32_000, 'sites in one block, of a callee of three blocks', sites_of_three_blocks, WIDEST),
+    (32_000, 'sites that are `try_call`s', try_sites, WIDEST),
+    (40_000, 'blocks with a site each', sites_in_blocks, WIDEST),
+    (200_000, 'lines, 3 sites for 40 of them before', few_sites_before_lines, WIDEST),
+    (40_000, 'sites, 5 lines for 2 of them behind', many_sites_before_lines, WIDEST),
+    (20_000, 'different callees of one caller', callees, WIDEST),
+    (60_000, 'blocks of a callee', blocks_of_a_callee, WIDEST),
+    (250, 'calls under a table of 1,000 entries', calls_under_a_table, WIDEST),
+    (40_000, 'sites of a large body that is refused', refused_sites, []),
+    (40_000, 'sites of a large body that the caller size refuses', refused_sites,
      ['--callee-size', '262144', '--caller-size', '50000']),
-    ('functions in a chain', 65_536, chain, []),
-    ('entries of a table, and calls under it', 280, entries_and_calls, WIDEST),
+    (65_536, 'functions in a chain', chain, []),
 ]
 
 
@@ -90,25 +118,43 @@ def written(words, path):
         return len(subprocess.run(words, stdin=text, stdout=subprocess.PIPE, check=True).stdout)
 
 
-def measure_texts(program, scale, path):
+def opt_jobs(count, path):
+    """`opt` over so many functions of the mixed text, where it is installed."""
+    opt = shutil.which('opt')
+    if opt is None:
+        print('`opt` is not installed')
+        return {}
+    with open(path, 'w') as file:
+        file.writelines(llvm_functions(count))
+    return {'opt': [opt, '-S', '-passes=inline', '-o', '-', path]}
+
+
+def measure_text(program, name, text, path, others):
+    """`inline` of a text, and the other jobs beside it."""
+    with open(path, 'w') as file:
+        file.write(text)
     jobs = {'wc -w': ['wc', '-w']}
     for workers in (1, 2, 4):
         jobs[f'{workers} workers'] = [program, 'inline', '--workers', str(workers)]
-    for name, text in (('small functions', chains(int(14e6 * scale))), ('large bodies', bodies(int(60e6 * scale)))):
-        with open(path, 'w') as file:
-            file.write(text)
-        both = len(text) + written(jobs['1 workers'], path)
-        found = medians(jobs, path)
-        words = found['wc -w'].clock
-        print('%s, %.1f MB, %.1f MB are written: wc -w %.3f s' % (name, len(text) / 1e6, (both - len(text)) / 1e6, words))
-        for job in list(jobs)[1:]:
-            clock, processor, memory = found[job]
-            print('  %-10s %.3f s, %.2f times wc -w, %.3f s of the processors, %.1f bytes a byte of both' % (
-                job, clock, clock / words, processor, memory / both))
+    both = len(text) + written(jobs['1 workers'], path)
+    found = medians({**jobs, **others}, path)
+    words = found.pop('wc -w').clock
+    print('%s, %.1f MB, %.1f MB are written: wc -w %.3f s' % (name, len(text) / 1e6, (both - len(text)) / 1e6, words))
+    for job, (clock, processor, memory) in found.items():
+        print('  %-10s %.3f s, %.2f times wc -w, %.3f s of the processors, %.1f bytes a byte of both' % (
+            job, clock, clock / words, processor, memory / both))
+
+
+def measure_texts(program, scale, path):
+    measure_text(program, 'small functions', ''.join(clif_functions(14e6 * scale, False)), path, {})
+    mixed = clif_functions(14e6 * scale, True)
+    measure_text(program, 'small functions, with fans and `try_call`s', ''.join(mixed), path,
+                 opt_jobs(len(mixed), path + '.ll'))
+    measure_text(program, 'large bodies', bodies(60e6 * scale), path, {})
 
 
 def measure_shapes(program, path):
-    for name, count, make, options in SHAPES:
+    for count, name, make, options in SHAPES:
         took = []
         for number in (count // 2, count):
             with open(path, 'w') as file:
@@ -119,6 +165,8 @@ def measure_shapes(program, path):
 
 
 def main():
+    if len(sys.argv) < 2:
+        sys.exit(__doc__)
     program = os.path.abspath(sys.argv[1])
     scale = float(sys.argv[2]) if len(sys.argv) > 2 else 1
     with tempfile.TemporaryDirectory() as folder:

@@ -1,4 +1,5 @@
 """One run of a program over a file, with what it took."""
+import json
 import os
 import statistics
 import subprocess
@@ -8,13 +9,14 @@ from typing import NamedTuple
 
 
 class Run(NamedTuple):
-    """Seconds by the clock, seconds of the processor (user and system), and the peak memory in bytes."""
+    """Seconds by the clock, seconds of the processor (user and system), and the peak memory in bytes, which is never
+    below that of the process that begins the run."""
     clock: float
     processor: float
     memory: int
 
 
-def run(words, path):
+def measured(words, path):
     """Runs these words over the file; a run that fails ends the measurement."""
     with open(path, 'rb') as text, open(os.devnull, 'wb') as out:
         begin = time.monotonic()
@@ -26,6 +28,19 @@ def run(words, path):
     return Run(clock, usage.ru_utime + usage.ru_stime, usage.ru_maxrss * 1024)
 
 
+def run(words, path):
+    """The same, begun by a process of its own, since this one may hold large texts."""
+    done = subprocess.run([sys.executable, __file__, path, *words], stdout=subprocess.PIPE, check=False)
+    if done.returncode != 0:
+        sys.exit(done.returncode)
+    return Run(*json.loads(done.stdout))
+
+
 def median(runs):
     """The medians of the times of some runs, and their most memory."""
-    return Run(statistics.median(it.clock for it in runs), statistics.median(it.processor for it in runs), max(it.memory for it in runs))
+    return Run(statistics.median(it.clock for it in runs), statistics.median(it.processor for it in runs),
+               max(it.memory for it in runs))
+
+
+if __name__ == '__main__':
+    print(json.dumps(measured(sys.argv[2:], sys.argv[1])))

@@ -14,7 +14,7 @@ use crate::stretches::extended;
 use crate::texts::read_raw_alone;
 use clif_insts::Reader;
 use clif_lex::{TextErr, Tokens};
-use range_workers::{Ranges, read_shares};
+use range_workers::{Ranges, read_by_workers};
 use std::alloc::Global;
 use std::thread::Threads;
 
@@ -105,7 +105,7 @@ pub fn read_in_shares<R: Threads + Sync>(
     let first = next_function(text, tokens, 0, end);
     let front = read_front(alloc, text, tokens, first)?;
     let ranges = TokenRanges { text, tokens };
-    let rest = read_shares(rt, alloc, &ranges, first, end, workers, size)?;
+    let rest = read_by_workers(rt, alloc, &ranges, first, end, workers, size)?;
     extended(front, rest)
 }
 

@@ -14,7 +14,7 @@ use crate::texts::read_raw_alone;
 use clif_insts::Reader;
 use clif_lex::{TextErr, TokenKind, Tokens, next_line_with, tokens, tokens_between};
 use ir_core::List;
-use range_workers::{Ranges, joined, read_shares};
+use range_workers::{Ranges, joined, read_by_workers};
 use std::alloc::Global;
 use std::thread::Threads;
 
@@ -109,7 +109,7 @@ pub fn read_in_stretches<R: Threads + Sync>(
     let end = front_end(text, size);
     let front = read_front(alloc, text, end)?;
     let ranges = TextRanges { text };
-    let rest = read_shares(rt, alloc, &ranges, end, text.len(), workers, size)?;
+    let rest = read_by_workers(rt, alloc, &ranges, end, text.len(), workers, size)?;
     extended(front, rest)
 }
 

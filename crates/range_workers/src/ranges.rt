@@ -8,6 +8,9 @@ use crate::room::make_room;
 use std::alloc::Global;
 use std::thread::{Threads, join};
 
+/// More workers than a machine has processors are of no use.
+const MOST_WORKERS: usize = 64;
+
 /// What is read range by range, as places of a text or of the list of its tokens, into items.
 pub trait Ranges<T>: Sync {
     /// Two places, one behind the other or the same.
@@ -68,7 +71,7 @@ fn read_range<T: Drop, P: Ranges<T>>(
 /// The items of a range, read by so many workers at once. None where anything else stands there, or memory runs
 /// out.
 #[cycle(shares)]
-pub fn read_shares<R: Threads + Sync, T: Drop + Send, P: Ranges<T>>(
+fn read_shares<R: Threads + Sync, T: Drop + Send, P: Ranges<T>>(
     rt: &R,
     alloc: Global,
     ranges: &P,
@@ -97,4 +100,29 @@ pub fn read_shares<R: Threads + Sync, T: Drop + Send, P: Ranges<T>>(
     { read_shares(rt, alloc, ranges, middle, end, others, size) };
     let (front, rest) = join(rt, low, high);
     joined(front?, rest?)
+}
+
+/// The items of a range, read by so many workers at once, but by at most 64. None where anything else stands there, or
+/// memory runs out.
+pub fn read_by_workers<R: Threads + Sync, T: Drop + Send, P: Ranges<T>>(
+    rt: &R,
+    alloc: Global,
+    ranges: &P,
+    from: usize,
+    end: usize,
+    workers: usize,
+    size: usize,
+) -> Option<Vec<T>>
+    requires { P.range ranges.now from «end» }
+    ensures { IfSome result (λ found. Follow (P.stand ranges.now) from «end» found.items) }
+{
+    read_shares(
+        rt,
+        alloc,
+        ranges,
+        from,
+        end,
+        workers.min(MOST_WORKERS),
+        size,
+    )
 }

@@ -36,7 +36,7 @@ pub trait Ranges<T>: Sync {
 }
 
 /// The items of one range and those of the next. None where memory runs out.
-pub fn joined<T: Drop>(mut found: Vec<T>, mut more: Vec<T>) -> Option<Vec<T>>
+pub fn join_items<T: Drop>(mut found: Vec<T>, mut more: Vec<T>) -> Option<Vec<T>>
     ensures { IfSome result (λ all. all.items ≡ found.items ++ more.items) }
 {
     match found.append(&mut more) {
@@ -62,7 +62,7 @@ fn read_range<T: Drop, P: Ranges<T>>(
         let next = ranges.stretch_end(at, end, size);
         make_room(alloc);
         let more = ranges.read_stretch(alloc, at, next)?;
-        found = joined(found, more)?;
+        found = join_items(found, more)?;
         at = next;
     }
     Some(found)
@@ -99,7 +99,7 @@ fn read_shares<R: Threads + Sync, T: Drop + Send, P: Ranges<T>>(
         ensures { IfSome result (λ found. Follow (P.stand ranges.entry.now) middle «end» found.items) }
     { read_shares(rt, alloc, ranges, middle, end, others, size) };
     let (front, rest) = join(rt, low, high);
-    joined(front?, rest?)
+    join_items(front?, rest?)
 }
 
 /// The items of a range, read by so many workers at once, but by at most 64. None where anything else stands there, or

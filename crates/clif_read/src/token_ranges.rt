@@ -19,7 +19,7 @@ use std::alloc::Global;
 use std::thread::Threads;
 
 /// How many tokens a stretch takes at least.
-const PIECE: usize = 16_384;
+const STRETCH: usize = 16_384;
 
 /// The next place of a range of tokens at which the word `function` stands, or the range's end.
 fn next_function(text: &[u8], tokens: &Tokens, from: usize, end: usize) -> usize
@@ -148,8 +148,8 @@ pub fn read_raw<R: Threads + Sync>(
     ensures formed { IfOk result (λ m. IsFormed (length text.now) m) }
     ensures within { IfErr result (λ e. StandsWithin (length text.now) e) }
 {
-    if workers <= 1 || tokens.len() / 2 < PIECE {
+    if workers <= 1 || tokens.len() / 2 < STRETCH {
         return read_raw_alone(alloc, text, tokens);
     }
-    read_raw_by(rt, alloc, text, tokens, workers, PIECE)
+    read_raw_by(rt, alloc, text, tokens, workers, STRETCH)
 }

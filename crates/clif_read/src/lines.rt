@@ -23,7 +23,7 @@ const FIRST_ROOM: usize = 32;
 
 /// An instruction behind the `=` of its results.
 #[tactic(auto, unfolding(crate::specs::Lines::made_at))]
-fn made(alloc: Global, reader: &mut Reader<'_>) -> Result<RawInst, Stop>
+fn read_result_inst(alloc: Global, reader: &mut Reader<'_>) -> Result<RawInst, Stop>
     ensures is { Gives same reader.new result (spec.made_at reader.old) }
     ensures shorter { IfOk result (λ _. length reader.new < length reader.old) }
 {
@@ -93,7 +93,7 @@ fn results(
     ensures shorter { IfOk result (λ _. length reader.new < length reader.old) }
 {
     let results = more_names(alloc, reader, first)?;
-    let inst = made(alloc, reader)?;
+    let inst = read_result_inst(alloc, reader)?;
     let returns = is_return(&inst);
     lines.reserve(1)?;
     lines.push_reserved(RawLine::Inst {
@@ -127,7 +127,7 @@ fn named(
 
 /// An instruction without results.
 #[tactic(auto, unfolding(crate::specs::Lines::plain_at))]
-fn plain(
+fn add_plain_line(
     alloc: Global,
     reader: &mut Reader<'_>,
     lines: &mut Vec<RawLine>,
@@ -153,7 +153,7 @@ fn plain(
 
 /// Results behind tags, and their instruction.
 #[tactic(auto, unfolding(crate::specs::Lines::tagged_results_at, clif_insts::specs::Arguments::values_at))]
-fn tagged_results(
+fn add_tagged_results(
     alloc: Global,
     reader: &mut Reader<'_>,
     lines: &mut Vec<RawLine>,
@@ -166,7 +166,7 @@ fn tagged_results(
 {
     let first = reader.take(Class::Value)?;
     let results = more_names(alloc, reader, first)?;
-    let inst = made(alloc, reader)?;
+    let inst = read_result_inst(alloc, reader)?;
     let returns = is_return(&inst);
     lines.reserve(1)?;
     lines.push_reserved(RawLine::Inst {
@@ -180,7 +180,7 @@ fn tagged_results(
 
 /// What begins with tags.
 #[tactic(auto, unfolding(crate::specs::Lines::tagged_at))]
-fn tagged(
+fn add_tagged_line(
     alloc: Global,
     reader: &mut Reader<'_>,
     lines: &mut Vec<RawLine>,
@@ -192,15 +192,15 @@ fn tagged(
 {
     let tags = List::from_vec(debug_tags(alloc, reader)?);
     if reader.next_is(Class::Value) {
-        tagged_results(alloc, reader, lines, location, tags)
+        add_tagged_results(alloc, reader, lines, location, tags)
     } else {
-        plain(alloc, reader, lines, Opening::AfterTags, location, tags)
+        add_plain_line(alloc, reader, lines, Opening::AfterTags, location, tags)
     }
 }
 
 /// A line behind its source location.
 #[tactic(auto, unfolding(crate::specs::Lines::located_at))]
-fn located(
+fn add_located_line(
     alloc: Global,
     reader: &mut Reader<'_>,
     lines: &mut Vec<RawLine>,
@@ -213,10 +213,10 @@ fn located(
     if reader.next_is(Class::Value) {
         named(alloc, reader, lines, Some(spot))
     } else if reader.next_is(Class::Less) {
-        tagged(alloc, reader, lines, Some(spot))
+        add_tagged_line(alloc, reader, lines, Some(spot))
     } else {
         let tags = List::from_vec(Vec::new(alloc));
-        plain(alloc, reader, lines, Opening::AfterTags, Some(spot), tags)
+        add_plain_line(alloc, reader, lines, Opening::AfterTags, Some(spot), tags)
     }
 }
 
@@ -232,19 +232,19 @@ fn other_line(
     ensures shorter { IfOk result (λ _. length reader.new < length reader.old) }
 {
     if reader.next_is(Class::Less) {
-        tagged(alloc, reader, lines, None)
+        add_tagged_line(alloc, reader, lines, None)
     } else if reader.next_is(Class::Srcloc) {
         let location = reader.take(Class::Srcloc)?;
-        located(alloc, reader, lines, location.spot)
+        add_located_line(alloc, reader, lines, location.spot)
     } else {
         let tags = List::from_vec(Vec::new(alloc));
-        plain(alloc, reader, lines, Opening::LineStart, None, tags)
+        add_plain_line(alloc, reader, lines, Opening::LineStart, None, tags)
     }
 }
 
 /// Values, and perhaps the instruction of which they are the results.
 #[tactic(auto, unfolding(crate::specs::Lines::opt_made_at))]
-fn opt_made(
+fn add_values_or_inst(
     alloc: Global,
     reader: &mut Reader<'_>,
     lines: &mut Vec<RawLine>,
@@ -254,7 +254,7 @@ fn opt_made(
     ensures shorter { IfOk result (λ _. length reader.new ≤ length reader.old) }
 {
     if reader.next_is(Class::Equals) {
-        let inst = made(alloc, reader)?;
+        let inst = read_result_inst(alloc, reader)?;
         let returns = is_return(&inst);
         lines.reserve(1)?;
         lines.push_reserved(RawLine::Inst {
@@ -284,7 +284,7 @@ fn values_or_results(
 {
     let front = one_item(alloc, first)?;
     let values = more_values(reader, front)?;
-    opt_made(alloc, reader, lines, List::from_vec(values))
+    add_values_or_inst(alloc, reader, lines, List::from_vec(values))
 }
 
 /// What begins with a value behind a `return`.

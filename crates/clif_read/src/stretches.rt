@@ -1,6 +1,6 @@
 //! Modules read in stretches, by several workers at once.
 
-ghost use Rattle.std.specs.Prelude.{◌≡◌, ◌≤◌, length, true, IfOk, IfErr, IfSome};
+ghost use Rattle.std.specs.Prelude.{◌≡◌, ◌<◌, ◌≤◌, length, true, IfOk, IfErr, IfSome};
 ghost use Rattle.clif_lex.specs.Faults.{StandsWithin};
 ghost use Rattle.clif_lex.specs.Lexing as lexing;
 ghost use Rattle.clif_lex.specs.Stretches.{IsCut, preamble_after};
@@ -8,15 +8,31 @@ ghost use Rattle.clif_read.specs.Formed.{IsFormed};
 ghost use Rattle.clif_read.specs.Stretches.{AreFunctions, IsFaultOf, IsFront, IsModuleText, IsRange, with_functions};
 
 use crate::modules::{all_functions, whole_module};
-use crate::ranges::{PIECE, stretch_end};
 use crate::raw::{RawFunction, RawModule};
 use crate::texts::read_raw_alone;
 use clif_insts::Reader;
 use clif_lex::{TextErr, TokenKind, Tokens, next_line_with, tokens, tokens_between};
 use ir_core::List;
-use range_workers::{Ranges, joined, read_shares};
+use range_workers::{Ranges, join_items, read_by_workers};
 use std::alloc::Global;
 use std::thread::Threads;
+
+/// How many bytes a stretch takes at least. The tokens of so few bytes stay in a processor's own memory.
+pub const STRETCH: usize = 65_536;
+
+/// Where a stretch of a range ends: behind so many bytes the next line that begins with `function`, or the range's end.
+pub fn stretch_end(text: &[u8], from: usize, end: usize, size: usize) -> usize
+    requires { IsRange text.now from end }
+    ensures stretch { IsRange text.now from result }
+    ensures rest { IsRange text.now result end }
+    ensures forward { from < end → from < result }
+{
+    if end - from <= size {
+        return end;
+    }
+    let line = next_line_with(text, from + size, b"function");
+    if line < end { line } else { end }
+}
 
 /// A text that is read range by range.
 #[derive(Drop)]
@@ -89,7 +105,7 @@ pub fn read_front(alloc: Global, text: &[u8], end: usize) -> Option<RawModule>
 pub(crate) fn extended(front: RawModule, more: Vec<RawFunction>) -> Option<RawModule>
     ensures { IfSome result (λ found. found ≡ with_functions front more.items) }
 {
-    let functions = joined(front.functions.into_vec(), more)?;
+    let functions = join_items(front.functions.into_vec(), more)?;
     Some(RawModule {
         headers: front.headers,
         functions: List::from_vec(functions),
@@ -109,7 +125,7 @@ pub fn read_in_stretches<R: Threads + Sync>(
     let end = front_end(text, size);
     let front = read_front(alloc, text, end)?;
     let ranges = TextRanges { text };
-    let rest = read_shares(rt, alloc, &ranges, end, text.len(), workers, size)?;
+    let rest = read_by_workers(rt, alloc, &ranges, end, text.len(), workers, size)?;
     extended(front, rest)
 }
 
@@ -162,8 +178,8 @@ pub fn read_text<R: Threads + Sync>(
     ensures formed { IfOk result (λ found. IsFormed (length text.now) found) }
     ensures within { IfErr result (λ e. StandsWithin (length text.now) e) }
 {
-    if text.len() / 2 < PIECE {
+    if text.len() / 2 < STRETCH {
         return read_text_alone(alloc, text);
     }
-    read_text_by(rt, alloc, text, workers, PIECE)
+    read_text_by(rt, alloc, text, workers, STRETCH)
 }

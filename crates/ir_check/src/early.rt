@@ -223,8 +223,9 @@ fn find_first(func: &Func) -> Block
     }
 }
 
-/// The first fault but availability in a function.
-fn find_fault_in_func(
+/// The first fault but availability in a function, which stands at this place of the module. Takes time linear in the
+/// function, but for the logarithms of `check`.
+pub fn find_fault_in_func(
     module: &Module,
     sigs: &ModuleSigs<'_>,
     func: &Func,

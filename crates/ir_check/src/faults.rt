@@ -4,8 +4,8 @@ use ir_core::Item;
 
 /// A rule that a part of a function does not keep. `func` is the function's place in the module.
 #[derive(Clone, Copy, Debug, PartialEq, Eq)]
-pub(crate) struct Fault {
-    pub(crate) kind: CheckKind,
-    pub(crate) func: usize,
-    pub(crate) item: Item,
+pub struct Fault {
+    pub kind: CheckKind,
+    pub func: usize,
+    pub item: Item,
 }

@@ -47,8 +47,13 @@ fn find_use_in_blocks(avail: &Avail<'_>, func: &Func, number: usize) -> Option<F
     None
 }
 
-/// The first instruction of a function that uses a value that is not available. Only `AllocError` refuses.
-fn find_use_in_func(alloc: Global, func: &Func, number: usize) -> Result<Option<Fault>, AllocError>
+/// The first instruction of a function that uses a value that is not available. `number` is the function's place. Only
+/// `AllocError` refuses.
+pub fn find_use_in_func(
+    alloc: Global,
+    func: &Func,
+    number: usize,
+) -> Result<Option<Fault>, AllocError>
     requires { IsWhole func.now.function }
     ensures { IfOk result (FindsIn func.now.function (checks_of_function last_rules number func.now.function)) }
 {

@@ -20,4 +20,7 @@ mod uses;
 
 pub use checked::Checked;
 pub use checking::{CheckErr, Rejected, check};
+pub use early::find_fault_in_func;
+pub use faults::Fault;
 pub use kinds::CheckKind;
+pub use late::find_use_in_func;

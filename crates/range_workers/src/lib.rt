@@ -4,5 +4,5 @@
 mod ranges;
 mod room;
 
-pub use ranges::{Ranges, joined, read_shares};
+pub use ranges::{Ranges, join_items, read_by_workers};
 pub use room::make_room;

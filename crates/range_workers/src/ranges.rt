@@ -8,6 +8,9 @@ use crate::room::make_room;
 use std::alloc::Global;
 use std::thread::{Threads, join};
 
+/// More workers than a machine has processors are of no use.
+const MOST_WORKERS: usize = 64;
+
 /// What is read range by range, as places of a text or of the list of its tokens, into items.
 pub trait Ranges<T>: Sync {
     /// Two places, one behind the other or the same.
@@ -33,7 +36,7 @@ pub trait Ranges<T>: Sync {
 }
 
 /// The items of one range and those of the next. None where memory runs out.
-pub fn joined<T: Drop>(mut found: Vec<T>, mut more: Vec<T>) -> Option<Vec<T>>
+pub fn join_items<T: Drop>(mut found: Vec<T>, mut more: Vec<T>) -> Option<Vec<T>>
     ensures { IfSome result (λ all. all.items ≡ found.items ++ more.items) }
 {
     match found.append(&mut more) {
@@ -59,7 +62,7 @@ fn read_range<T: Drop, P: Ranges<T>>(
         let next = ranges.stretch_end(at, end, size);
         make_room(alloc);
         let more = ranges.read_stretch(alloc, at, next)?;
-        found = joined(found, more)?;
+        found = join_items(found, more)?;
         at = next;
     }
     Some(found)
@@ -68,7 +71,7 @@ fn read_range<T: Drop, P: Ranges<T>>(
 /// The items of a range, read by so many workers at once. None where anything else stands there, or memory runs
 /// out.
 #[cycle(shares)]
-pub fn read_shares<R: Threads + Sync, T: Drop + Send, P: Ranges<T>>(
+fn read_shares<R: Threads + Sync, T: Drop + Send, P: Ranges<T>>(
     rt: &R,
     alloc: Global,
     ranges: &P,
@@ -96,5 +99,30 @@ pub fn read_shares<R: Threads + Sync, T: Drop + Send, P: Ranges<T>>(
         ensures { IfSome result (λ found. Follow (P.stand ranges.entry.now) middle «end» found.items) }
     { read_shares(rt, alloc, ranges, middle, end, others, size) };
     let (front, rest) = join(rt, low, high);
-    joined(front?, rest?)
+    join_items(front?, rest?)
+}
+
+/// The items of a range, read by so many workers at once, but by at most 64. None where anything else stands there, or
+/// memory runs out.
+pub fn read_by_workers<R: Threads + Sync, T: Drop + Send, P: Ranges<T>>(
+    rt: &R,
+    alloc: Global,
+    ranges: &P,
+    from: usize,
+    end: usize,
+    workers: usize,
+    size: usize,
+) -> Option<Vec<T>>
+    requires { P.range ranges.now from «end» }
+    ensures { IfSome result (λ found. Follow (P.stand ranges.now) from «end» found.items) }
+{
+    read_shares(
+        rt,
+        alloc,
+        ranges,
+        from,
+        end,
+        workers.min(MOST_WORKERS),
+        size,
+    )
 }

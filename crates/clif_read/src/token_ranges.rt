@@ -14,12 +14,12 @@ use crate::stretches::extended;
 use crate::texts::read_raw_alone;
 use clif_insts::Reader;
 use clif_lex::{TextErr, Tokens};
-use range_workers::{Ranges, read_shares};
+use range_workers::{Ranges, read_by_workers};
 use std::alloc::Global;
 use std::thread::Threads;
 
 /// How many tokens a stretch takes at least.
-const PIECE: usize = 16_384;
+const STRETCH: usize = 16_384;
 
 /// The next place of a range of tokens at which the word `function` stands, or the range's end.
 fn next_function(text: &[u8], tokens: &Tokens, from: usize, end: usize) -> usize
@@ -105,7 +105,7 @@ pub fn read_in_shares<R: Threads + Sync>(
     let first = next_function(text, tokens, 0, end);
     let front = read_front(alloc, text, tokens, first)?;
     let ranges = TokenRanges { text, tokens };
-    let rest = read_shares(rt, alloc, &ranges, first, end, workers, size)?;
+    let rest = read_by_workers(rt, alloc, &ranges, first, end, workers, size)?;
     extended(front, rest)
 }
 
@@ -148,8 +148,8 @@ pub fn read_raw<R: Threads + Sync>(
     ensures formed { IfOk result (λ m. IsFormed (length text.now) m) }
     ensures within { IfErr result (λ e. StandsWithin (length text.now) e) }
 {
-    if workers <= 1 || tokens.len() / 2 < PIECE {
+    if workers <= 1 || tokens.len() / 2 < STRETCH {
         return read_raw_alone(alloc, text, tokens);
     }
-    read_raw_by(rt, alloc, text, tokens, workers, PIECE)
+    read_raw_by(rt, alloc, text, tokens, workers, STRETCH)
 }

@@ -1,6 +1,6 @@
 use Rattle.std.proofs.lemmas.Option.{IfSome_then}
 use Rattle.clif_read.proofs.StretchLaws.{stretch_read, range_follows}
-use Rattle.clif_read.proofs.stretches.TextRangesRanges.read_stretch.Goals as goal
+use Rattle.clif_read.proofs.stretches.TextRangesRangesRawFunction.read_stretch.Goals as goal
 
 pub returns : goal.returns
 returns c =

@@ -1,5 +1,5 @@
 use Rattle.clif_read.proofs.Within.{raw_formed, raw_within}
-use Rattle.clif_read.proofs.shares.read_raw.Goals as goal
+use Rattle.clif_read.proofs.token_ranges.read_raw.Goals as goal
 
 pub returns-clause-formed : goal.returns-clause-formed
 returns-clause-formed g c = raw_formed c.args.text.now c.args.tokens.now c.read_raw_by.result c.requires.whole c.read_raw_by.ensures.found

@@ -2,7 +2,7 @@ use Rattle.std.proofs.Common.{subst}
 use Rattle.std.proofs.lemmas.Option.{IfSome_then}
 use Rattle.clif_read.specs.Stretches.{Functions}
 use Rattle.clif_read.proofs.StretchLaws.{share_follows}
-use Rattle.clif_read.proofs.shares.TokenRangesRanges.read_stretch.Goals as goal
+use Rattle.clif_read.proofs.token_ranges.TokenRangesRangesRawFunction.read_stretch.Goals as goal
 
 pub returns : goal.returns
 returns c =

@@ -3,7 +3,7 @@ use Rattle.std.proofs.lemmas.Option.{IfSome_then}
 use Rattle.clif_words.specs.Lexemes.{lexemes}
 use Rattle.clif_read.specs.Texts.{IsModule}
 use Rattle.clif_read.proofs.StretchLaws.{whole_share, no_share, none_listed, whole_list}
-use Rattle.clif_read.proofs.shares.read_in_shares.Goals as goal
+use Rattle.clif_read.proofs.token_ranges.read_in_shares.Goals as goal
 
 pub next_function-first-requires : goal.next_function-first-requires
 next_function-first-requires g c = whole_share c.args.text.now c.args.tokens.now c.len-end.result c.requires.whole c.len-end.ensures

@@ -15,7 +15,7 @@ pub words_of_blocks : (bs : List RawBlock) → map (λ b. b.block.spot) bs ≡ w
 words_of_blocks [] = refl
 words_of_blocks (b ∷ bs) = ap (λ xs. b.block.spot ∷ xs) (words_of_blocks bs)
 
-have_blocks : (vs : List (Tree function)) → Each (λ (f : RawFunction). f.blocks ≢ []) (map function_value vs)
+pub have_blocks : (vs : List (Tree function)) → Each (λ (f : RawFunction). f.blocks ≢ []) (map function_value vs)
 have_blocks [] = tt
 have_blocks (v ∷ vs) = ((λ e. cc), have_blocks vs)
 

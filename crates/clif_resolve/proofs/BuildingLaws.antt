@@ -1,19 +1,20 @@
 -- The functions of a module, one after the other.
-use Rattle.std.proofs.Common.{◌≡◌, ◌≢◌, ℕ, zero, suc, ◌<◌, inl, inr, Bool, true, false, List, [], ◌∷◌, ◌++◌, take, slice_get, None, Some, refl, sym, ap, subst, ◌∙◌, arith}
+use Rattle.std.proofs.Common.{◌≡◌, ℕ, zero, suc, ◌<◌, Bool, true, false, List, [], ◌∷◌, ◌++◌, take, slice_get, None, Some, refl, sym, ap, subst, ◌∙◌, arith}
+use Rattle.ir_core.specs.Lists.{Each}
 use Rattle.ir_core.specs.Lookup.{find_function, same_name}
 use Rattle.ir_core.specs.Module.{Function}
 use Rattle.ir_core.proofs.Equal.{name_equal}
 use Rattle.clif_lex.specs.declared.faults.TextKind.TheVariants.{Duplicate}
 use Rattle.clif_read.specs.declared.raw.RawFunction.{RawFunction}
-use Rattle.clif_read.specs.declared.raw.RawModule.{RawModule}
 use Rattle.clif_read.specs.Marks.{name_spot}
-use Rattle.clif_names.specs.Faults.{NoFault, SameName}
+use Rattle.clif_names.specs.Faults.{SameName}
 use Rattle.clif_names.specs.FunctionNames.{NoFunctionFault}
 use Rattle.clif_names.specs.Limits.{name_limits}
 use Rattle.clif_lines.proofs.Parting.{each_at}
-use Rattle.clif_meaning.specs.Meaning.{FunctionMeans, FunctionsMean, HasBlocks, name_of}
+use Rattle.clif_meaning.specs.Meaning.{FunctionMeans, FunctionsMean, name_of}
 use Rattle.clif_meaning.proofs.LimitLaws.{AllKept, name_kept}
 use Rattle.clif_meaning.proofs.ModuleLaws.{same_raw}
+use Rattle.clif_resolve.proofs.FaultlessLaws.{NoListFault}
 
 -- no earlier function has the name
 none_before : (rs : List RawFunction) (fs : List Function) (r : RawFunction) → AllKept (name_limits r.name)
@@ -39,19 +40,13 @@ get_taken [] (suc i) j x h = absurd cc
 get_taken (y ∷ ys) (suc i) zero x h = (h, omega arith)
 get_taken (y ∷ ys) (suc i) (suc j) x h = let q = get_taken ys i j x h in (q.0, omega (arith, q.1))
 
-module _ (raw : RawModule) (free : NoFault raw) (i : ℕ) (r : RawFunction) (at : slice_get raw.functions i ≡ Some r) where
-  pub free_at : NoFunctionFault r
-  free_at kind spot h = free kind spot (inr (i, r, at, h))
-
-  pub begins_at : HasBlocks raw → r.blocks ≢ []
-  begins_at begin = each_at (λ (f : RawFunction). f.blocks ≢ []) raw.functions i r begin at
-
-  pub new_name : (fs : List Function) (f : Function) → FunctionsMean (take i raw.functions) fs → FunctionMeans r f → find_function f.name fs ≡ None
-  new_name fs f h m =
+module _ (rs : List RawFunction) (i : ℕ) (r : RawFunction) (at : slice_get rs i ≡ Some r) where
+  pub new_name : NoListFault rs → Each NoFunctionFault (take i rs) → NoFunctionFault r → (fs : List Function) (f : Function) → FunctionsMean (take i rs) fs → FunctionMeans r f → find_function f.name fs ≡ None
+  new_name alone frees free fs f h m =
       subst (λ n. find_function n fs ≡ None) (sym (ap (λ (g : Function). g.name) m.function))
-      (none_before (take i raw.functions) fs r (name_kept r free_at)
-      (λ j s on. name_kept s (λ kind spot g. free kind spot (inr (j, s, (get_taken raw.functions i j s on).0, g))))
-      (λ j s on same. free Duplicate (name_spot r.name) (inl (i, j, r, s, at, refl, (get_taken raw.functions i j s on).1, (get_taken raw.functions i j s on).0, same))) h)
+      (none_before (take i rs) fs r (name_kept r free)
+      (λ j s on. name_kept s (each_at NoFunctionFault (take i rs) j s frees on))
+      (λ j s on same. alone Duplicate (name_spot r.name) (i, j, r, s, at, refl, (get_taken rs i j s on).1, (get_taken rs i j s on).0, same)) h)
 
 -- one function more
 pub means_more : (rs : List RawFunction) (fs : List Function) (r : RawFunction) (f : Function) → FunctionsMean rs fs → FunctionMeans r f → FunctionsMean (rs ++ r ∷ []) (fs ++ f ∷ [])

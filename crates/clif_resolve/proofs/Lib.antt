@@ -6,5 +6,6 @@ pub mod WordLaws
 pub mod ReadyLaws
 pub mod NameLaws
 pub mod DeclaredLaws
+pub mod FaultlessLaws
 pub mod BuildingLaws
 pub mod BlockWords

@@ -1,5 +1,5 @@
 //! Building a function that has no fault.
-ghost use Rattle.std.specs.Prelude.{◌≡◌, ◌≢◌, [], ◌-◌, ◌<◌, ◌^◌, length, map, IfOk, OnOk};
+ghost use Rattle.std.specs.Prelude.{◌≡◌, ◌≢◌, [], ◌-◌, ◌<◌, ◌^◌, length, map, IfOk, IfSome, MatchOption, OnOk};
 ghost use Rattle.std.specs.List.{enumerate_from};
 ghost use Rattle.ir_core.specs.Sound.{IsWhole};
 ghost use Rattle.clif_names.specs.Chains.{IsNumbering};
@@ -19,15 +19,20 @@ use clif_read::{RawBlock, RawFunction};
 use ir_core::{Callee, Func, List, Room, Sig, SlotDecl, Ty};
 use std::alloc::{AllocError, Global};
 
-/// The function that is meant. Takes time linear in its text. Only `AllocError` refuses.
-pub(crate) fn function(alloc: Global, raw: &RawFunction) -> Result<Func, AllocError>
-    requires free { NoFunctionFault raw.now }
-    requires begins { raw.now.blocks ≢ [] }
-    ensures meant { IfOk result (λ func. FunctionMeans raw.now func.function) }
-    ensures whole { IfOk result (λ func. IsWhole func.function) }
+/// The function that is meant, `None` exactly where it has a fault of names or numbers. Takes time linear in its text.
+/// Only `AllocError` refuses.
+pub fn meant_function(alloc: Global, raw: &RawFunction) -> Result<Option<Func>, AllocError>
+    requires { raw.now.blocks ≢ [] }
+    ensures free { IfOk result
+        (λ built. MatchOption built (¬ NoFunctionFault raw.now) (λ _. NoFunctionFault raw.now)) }
+    ensures meant { IfOk result (λ built. IfSome built (λ func. FunctionMeans raw.now func.function)) }
+    ensures whole { IfOk result (λ built. IfSome built (λ func. IsWhole func.function)) }
 {
     let names = FunctionNames::of(alloc, raw)?;
-    function_by_names(alloc, raw, &names)
+    if !names.least(raw).is_none() {
+        return Ok(None);
+    }
+    Ok(Some(function_by_names(alloc, raw, &names)?))
 }
 
 /// The function that is meant, by the names of its text.

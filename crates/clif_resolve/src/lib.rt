@@ -11,5 +11,6 @@ mod resolving;
 mod types;
 
 pub use building::build;
+pub use functions::meant_function;
 pub use places::Places;
-pub use resolving::resolve;
+pub use resolving::{meaning, resolve};

@@ -109,8 +109,9 @@ fn function_spots(alloc: Global, raw: &RawFunction) -> Result<FunctionSpots, All
 }
 
 impl Places {
-    /// Where the items of a raw module stand. Takes time linear in the text. Only `AllocError` refuses.
-    pub(crate) fn of(alloc: Global, raw: &RawModule) -> Result<Places, AllocError>
+    /// Where the items of the module that a raw module means stand. Takes time linear in the text. Only `AllocError`
+    /// refuses.
+    pub fn of(alloc: Global, raw: &RawModule) -> Result<Places, AllocError>
         ensures { IfOk result (λ places. places ≡ spec.spots raw.now) }
     {
         let mut functions = Vec::with_capacity(alloc, raw.functions.as_slice().len())?;

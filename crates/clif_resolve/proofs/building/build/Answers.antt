@@ -1,30 +1,66 @@
-use Rattle.std.proofs.Common.{◌≡◌, suc, ◌+◌, List, [], ◌∷◌, ◌++◌, take, slice_get, sym, ap, subst, ◌∙◌, arith}
+use Rattle.std.proofs.Common.{◌≡◌, ◌≢◌, ◌+◌, ◌≤◌, suc, List, [], ◌∷◌, ◌++◌, length, take, slice_get, Some, sym, ap, subst, ◌∙◌, arith}
+use Rattle.std.proofs.lemmas.List.{take_all}
+use Rattle.ir_core.specs.Lists.{Each}
+use Rattle.ir_core.proofs.Members.{each_join}
 use Rattle.clif_read.specs.declared.raw.RawFunction.{RawFunction}
-use Rattle.clif_lines.proofs.Parting.{got, parted_next}
-use Rattle.clif_meaning.specs.Meaning.{FunctionsMean}
-use Rattle.clif_resolve.proofs.BuildingLaws.{begins_at, free_at, means_more, new_name}
+use Rattle.clif_names.specs.Faults.{ListFault}
+use Rattle.clif_names.specs.FunctionNames.{NoFunctionFault}
+use Rattle.clif_names.specs.LeastSpots.{AreLeast}
+use Rattle.clif_lines.proofs.Parting.{each_at, got, parted_next}
+use Rattle.clif_resolve.proofs.BuildingLaws.{means_more, new_name}
+use Rattle.clif_resolve.proofs.FaultlessLaws.{faulty_by_function, faulty_by_list, list_free, module_free}
 use Rattle.clif_resolve.proofs.building.build.Goals as goal
 
-pub function-requires-clause-free : goal.function-requires-clause-free
-function-requires-clause-free c =
-    free_at c.args.raw.now c.requires.free c.loop-func.func-index c.func-item.result
-    (ap (λ (fs : List RawFunction). slice_get fs c.loop-func.func-index) (sym c.as_slice-functions.ensures) ∙ got c.as_slice-functions.result.now c.loop-func.func-index c.func-item.result c.loop-func-test.true c.func-item.is)
+pub returns-then-not-is_none-clause-free : goal.returns-then-not-is_none-clause-free
+returns-then-not-is_none-clause-free c =
+    faulty_by_list c.args.raw.now c.in_ok-among_functions.field-0
+    (subst (λ (fs : List RawFunction). AreLeast (ListFault fs) c.in_ok-among_functions.field-0) c.as_slice-functions.ensures c.in_ok-among_functions.ensures)
+    (sym c.is_none.ensures ∙ c.if-not-is_none.true)
 
-pub function-requires-clause-begins : goal.function-requires-clause-begins
-function-requires-clause-begins c =
-    begins_at c.args.raw.now c.requires.free c.loop-func.func-index c.func-item.result
-    (ap (λ (fs : List RawFunction). slice_get fs c.loop-func.func-index) (sym c.as_slice-functions.ensures) ∙ got c.as_slice-functions.result.now c.loop-func.func-index c.func-item.result c.loop-func-test.true c.func-item.is)
-    c.requires.blocks
+pub meant_function-requires : goal.meant_function-requires
+meant_function-requires c =
+    let fs = c.as_slice-functions.result.now in
+    let i = c.loop-func.func-index in
+    each_at (λ (f : RawFunction). f.blocks ≢ []) fs i c.func-item.result
+    (subst (Each (λ (f : RawFunction). f.blocks ≢ [])) (sym c.as_slice-functions.ensures) c.requires)
+    (got fs i c.func-item.result c.loop-func-test.true c.func-item.is)
 
 pub push-requires-clause-new : goal.push-requires-clause-new
 push-requires-clause-new c =
-    new_name c.args.raw.now c.requires.free c.loop-func.func-index c.func-item.result
-    (ap (λ (fs : List RawFunction). slice_get fs c.loop-func.func-index) (sym c.as_slice-functions.ensures) ∙ got c.as_slice-functions.result.now c.loop-func.func-index c.func-item.result c.loop-func-test.true c.func-item.is)
-    _ _ (subst (λ (fs : List RawFunction). FunctionsMean (take c.loop-func.func-index fs) c.loop-func.module) c.as_slice-functions.ensures c.loop-func.invariant) c.in_ok-function.ensures.meant
+    let fs = c.as_slice-functions.result.now in
+    let i = c.loop-func.func-index in
+    new_name fs i c.func-item.result (got fs i c.func-item.result c.loop-func-test.true c.func-item.is)
+    (list_free fs c.in_ok-among_functions.field-0 c.in_ok-among_functions.ensures (sym c.is_none.ensures ∙ c.if-not-is_none.false))
+    c.loop-func.invariant.free (rw c.in-Some.is at c.in_ok-built.ensures.free) _ _ c.loop-func.invariant.means (rw c.in-Some.is at c.in_ok-built.ensures.meant)
+
+pub returns-in-None-clause-free : goal.returns-in-None-clause-free
+returns-in-None-clause-free c =
+    let fs = c.as_slice-functions.result.now in
+    let i = c.loop-func.func-index in
+    faulty_by_function c.args.raw.now i c.func-item.result
+    (subst (λ (gs : List RawFunction). slice_get gs i ≡ Some c.func-item.result) c.as_slice-functions.ensures (got fs i c.func-item.result c.loop-func-test.true c.func-item.is))
+    (rw c.in-None.is at c.in_ok-built.ensures.free)
 
 pub loop-func-preserved : goal.loop-func-preserved
 loop-func-preserved c =
-    let next : take (c.loop-func.func-index + 1) c.as_slice-functions.result.now ≡ take c.loop-func.func-index c.as_slice-functions.result.now ++ c.func-item.result ∷ [] =
-    ap (λ n. take n c.as_slice-functions.result.now) (let e : c.loop-func.func-index + 1 ≡ suc c.loop-func.func-index = omega arith in e)
-    ∙ parted_next c.as_slice-functions.result.now c.loop-func.func-index c.func-item.result (got c.as_slice-functions.result.now c.loop-func.func-index c.func-item.result c.loop-func-test.true c.func-item.is) in
-    rw (c.in_ok-push.ensures.ok, next) (means_more _ _ _ _ c.loop-func.invariant c.in_ok-function.ensures.meant)
+    let fs = c.as_slice-functions.result.now in
+    let i = c.loop-func.func-index in
+    let next : take (i + 1) fs ≡ take i fs ++ c.func-item.result ∷ [] =
+    ap (λ n. take n fs) (let e : i + 1 ≡ suc i = omega arith in e)
+    ∙ parted_next fs i c.func-item.result (got fs i c.func-item.result c.loop-func-test.true c.func-item.is) in
+    record {
+      free = rw next (each_join NoFunctionFault (take i fs) (c.func-item.result ∷ []) c.loop-func.invariant.free ((rw c.in-Some.is at c.in_ok-built.ensures.free), tt));
+      means = rw (c.in_ok-push-in-Some.ensures.ok, next) (means_more _ _ _ _ c.loop-func.invariant.means (rw c.in-Some.is at c.in_ok-built.ensures.meant));
+    }
+
+pub returns-clause-free : goal.returns-clause-free
+returns-clause-free c =
+    let fs = c.as_slice-functions.result.now in
+    let i = c.loop-func.func-index in
+    let all : length fs ≤ i = omega arith in
+    let frees = rw (take_all i fs all) at c.loop-func.invariant.free in
+    module_free c.args.raw.now
+    (list_free c.args.raw.now.functions c.in_ok-among_functions.field-0
+    (subst (λ (gs : List RawFunction). AreLeast (ListFault gs) c.in_ok-among_functions.field-0) c.as_slice-functions.ensures c.in_ok-among_functions.ensures)
+    (sym c.is_none.ensures ∙ c.if-not-is_none.false))
+    (subst (Each NoFunctionFault) c.as_slice-functions.ensures frees)

@@ -1,0 +1,15 @@
+use Rattle.std.proofs.Common.{sym, ◌∙◌}
+use Rattle.clif_resolve.proofs.FaultlessLaws.{function_faulty, function_free}
+use Rattle.clif_resolve.proofs.functions.meant_function.Goals as goal
+
+pub returns-then-not-is_none-clause-free : goal.returns-then-not-is_none-clause-free
+returns-then-not-is_none-clause-free c =
+    function_faulty c.args.raw.now c.least.result c.least.ensures (sym c.is_none.ensures ∙ c.if-not-is_none.true)
+
+pub function_by_names-requires-clause-free : goal.function_by_names-requires-clause-free
+function_by_names-requires-clause-free c =
+    function_free c.args.raw.now c.least.result c.least.ensures (sym c.is_none.ensures ∙ c.if-not-is_none.false)
+
+pub returns-clause-free : goal.returns-clause-free
+returns-clause-free c =
+    function_free c.args.raw.now c.least.result c.least.ensures (sym c.is_none.ensures ∙ c.if-not-is_none.false)

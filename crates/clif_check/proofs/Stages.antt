@@ -19,7 +19,7 @@ use Rattle.clif_meaning.specs.Meaning.{Means}
 use Rattle.clif_meaning.proofs.OneMeaning.{one_meaning}
 use Rattle.ir_core.specs.Module.{Module}
 use Rattle.ir_semantics.specs.Accepted.{Accepted, Rule}
-use Rattle.clif_meaning.specs.Spots.{Spots, spot_of}
+use Rattle.clif_meaning.specs.Spots.{Spots, spots, spot_of}
 use Rattle.ir_core.specs.declared.places.Item.{Item}
 use Rattle.ir_check.specs.declared.checking.CheckErr.{CheckErr}
 use Rattle.ir_check.specs.declared.checking.CheckErr.TheVariants as checked
@@ -27,7 +27,7 @@ use Rattle.ir_check.specs.Faults as rules
 use Rattle.ir_check.specs.Kinds.{rule_of}
 use Rattle.ir_check.specs.Refusal.{IsRefusal}
 use Rattle.ir_check.proofs.Firsts.{accepted_has_none}
-use Rattle.clif_check.specs.Faults.{IsAccepted, IsAcceptedRaw, IsFault, IsRawFault, FirstOfRaw, HasSpot}
+use Rattle.clif_check.specs.Faults.{IsAccepted, IsAcceptedRaw, IsFault, IsRawFault, FirstOfRaw, HasSpot, IsErrOf}
 use Rattle.clif_check.specs.Laws.{AcceptedHasNoFault, OneModule}
 
 -- ---- one raw module
@@ -94,3 +94,10 @@ fault_of_text text raw (Err errors.NoMemory) is h = tt
 pub refused_has_spot : (m : Module) (places : List Spots) (err : CheckErr) → ((func : ℕ) (item : Item) (rule : Rule) → rules.FirstFault m func item rule → IsSome (spot_of places func item)) → IsRefusal m err → HasSpot places err
 refused_has_spot m places (checked.Fault kind func item) standing refused = standing func item (rule_of kind) refused
 refused_has_spot m places checked.NoMemory standing refused = tt
+
+-- the first rule that a module does not keep is the first fault of the raw module that means it
+pub rule_is_fault : (raw : RawModule) (m : Module) (err : CheckErr) (e : TextErr) → NoFault raw → Means raw m → IsRefusal m err → IsErrOf (spots raw) err e → IsRawFault raw e
+rule_is_fault raw m (checked.Fault kind func item) (errors.Fault k spot) free means refused is =
+    inr (record { free = free; meant = m; means = means; func = func; item = item; rule = rule_of kind; first = refused; kind_is = is.0; spot_is = is.1 })
+rule_is_fault raw m checked.NoMemory (errors.Fault k spot) free means refused is = absurd is
+rule_is_fault raw m err errors.NoMemory free means refused is = tt

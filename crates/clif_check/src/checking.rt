@@ -1,25 +1,23 @@
 //! Texts are read, resolved and checked.
-ghost use Rattle.std.specs.Prelude.{◌≡◌, ℕ, IfErr, IfOk, IsSome};
+ghost use Rattle.std.specs.Prelude.{◌≡◌, IfErr, IfOk, IfSome};
 ghost use Rattle.clif_check.specs.Faults as spec;
 ghost use Rattle.clif_check.specs.Faults.{IsAccepted, IsAcceptedRaw, IsFault, IsRawFault};
-ghost use Rattle.clif_meaning.specs.Meaning.{HasBlocks};
-ghost use Rattle.clif_meaning.specs.Spots.{spot_of};
-ghost use Rattle.ir_check.specs.Faults.{FirstFault};
+ghost use Rattle.clif_names.specs.Faults.{NoFault};
+ghost use Rattle.clif_meaning.specs.Meaning.{HasBlocks, Means};
 ghost use Rattle.ir_check.specs.Kinds.{rule_of};
 ghost use Rattle.ir_check.specs.Refusal.{IsRefusal};
-ghost use Rattle.ir_semantics.specs.Accepted.{Accepted, Rule};
-ghost use Rattle.ir_core.specs.declared.places.Item.{Item};
 
+use crate::stretches::read_module;
+use check_workers::check_by_workers;
 use clif_lex::{TextErr, TextKind};
-use clif_read::{RawModule, read_text};
-use clif_resolve::{Places, resolve};
-use ir_check::{CheckErr, CheckKind, Checked, check};
-use ir_core::Module;
+use clif_read::{RawModule, STRETCH, read_text_alone};
+use clif_resolve::{Places, meaning};
+use ir_check::{CheckErr, CheckKind, Checked, Rejected, check};
 use std::alloc::Global;
 use std::thread::Threads;
 
 /// The accepted module that a text is, read by so many workers. All stages take time linear in the text, but for
-/// logarithms.
+/// logarithms. A long text is read stretch by stretch, and again by the calling thread alone where it has a fault.
 ///
 /// # Errors
 ///
@@ -34,9 +32,30 @@ pub fn check_text<R: Threads + Sync>(
     ensures accepted { IfOk result (λ m. IsAccepted text.now m) }
     ensures fault { IfErr result (λ e. IsFault text.now e) }
 {
-    match read_text(rt, alloc, text, workers) {
+    if text.len() / 2 >= STRETCH {
+        if let Some(checked) = check_in_stretches(rt, alloc, text, workers) {
+            return Ok(checked);
+        }
+    }
+    match read_text_alone(alloc, text) {
         Ok(raw) => check_raw(alloc, &raw),
         Err(err) => Err(err),
+    }
+}
+
+/// The accepted module that a text is, read stretch by stretch and checked by so many workers. `None` where it is none, or cannot be read so.
+fn check_in_stretches<R: Threads + Sync>(
+    rt: &R,
+    alloc: Global,
+    text: &[u8],
+    workers: usize,
+) -> Option<Checked>
+    ensures { IfSome result (λ m. IsAccepted text.now m) }
+{
+    let module = read_module(rt, alloc, text, workers, STRETCH)?;
+    match check_by_workers(rt, alloc, module, workers) {
+        Ok(checked) => Some(checked),
+        Err(_) => None,
     }
 }
 
@@ -51,23 +70,23 @@ pub fn check_raw(alloc: Global, raw: &RawModule) -> Result<Checked, TextErr>
     ensures accepted { IfOk result (λ m. IsAcceptedRaw raw.now m) }
     ensures fault { IfErr result (λ e. IsRawFault raw.now e) }
 {
-    match resolve(alloc, raw) {
-        Ok((module, places)) => check_module(alloc, module, &places),
-        Err(err) => Err(err),
+    let module = meaning(alloc, raw)?;
+    match check(alloc, module) {
+        Ok(checked) => Ok(checked),
+        Err(rejected) => Err(rule_fault(alloc, raw, rejected)),
     }
 }
 
-/// The module as an accepted one, or where the first part stands that does not keep a rule.
-fn check_module(alloc: Global, module: Module, places: &Places) -> Result<Checked, TextErr>
-    requires { (func : ℕ) (item : Item) (rule : Rule) → FirstFault «module» func item rule
-        → IsSome (spot_of places.now func item) }
-    ensures accepted { IfOk result (λ checked. (checked ≡ «module») × Accepted «module») }
-    ensures fault { IfErr result
-        (λ e. (err : CheckErr) × IsRefusal «module» err × spec.IsErrOf places.now err e) }
+/// Why a raw module is refused whose module is rejected. Where its items stand is found only now.
+fn rule_fault(alloc: Global, raw: &RawModule, rejected: Rejected) -> TextErr
+    requires free { NoFault raw.now }
+    requires means { Means raw.now rejected.«module» }
+    requires refused { IsRefusal rejected.«module» rejected.err }
+    ensures { IsRawFault raw.now result }
 {
-    match check(alloc, module) {
-        Ok(checked) => Ok(checked),
-        Err(rejected) => Err(text_err(rejected.err, places)),
+    match Places::of(alloc, raw) {
+        Ok(places) => text_err(rejected.err, &places),
+        Err(_) => TextErr::NoMemory,
     }
 }
 

@@ -3,5 +3,7 @@
 
 mod checking;
 pub mod laws;
+mod stretches;
 
 pub use checking::{check_raw, check_text};
+pub use stretches::read_module;

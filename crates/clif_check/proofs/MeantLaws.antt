@@ -1,0 +1,143 @@
+-- What the functions of a text mean, one stretch behind another.
+use Rattle.std.proofs.Common.{◌≡◌, ◌≢◌, ℕ, zero, suc, ◌<◌, ◌≤◌, Bool, true, false, List, [], ◌∷◌, ◌++◌, length, map, slice_get, Option, None, Some, sym, ap, ap₂, subst, ◌∙◌, arith, inl, inr}
+use Rattle.std.specs.Prelude.{if◌then◌else◌, IfSome}
+use Rattle.std.proofs.lemmas.List.{map-append}
+use Rattle.grammar.specs.Rules.{Lexeme}
+use Rattle.ir_core.specs.declared.names.FuncName.{FuncName}
+use Rattle.ir_core.specs.declared.names.FuncName.TheVariants as name
+use Rattle.ir_core.specs.Edits.{Body}
+use Rattle.ir_core.specs.Lists.{Each}
+use Rattle.ir_core.specs.Lookup.{find_function, same_name}
+use Rattle.ir_core.specs.Module.{Function, Module}
+use Rattle.ir_core.specs.Sound.{IsWhole}
+use Rattle.ir_core.specs.WellFormed.{DifferentNames}
+use Rattle.ir_core.proofs.Equal.{equal_name}
+use Rattle.ir_core.proofs.Members.{each_join}
+use Rattle.clif_lex.specs.declared.faults.TextKind.{TextKind}
+use Rattle.clif_lex.specs.declared.faults.TextKind.TheVariants.{Duplicate, TooLarge}
+use Rattle.clif_lex.specs.Stretches.{IsCut}
+use Rattle.clif_read.specs.declared.raw.RawFuncName.{RawFuncName}
+use Rattle.clif_read.specs.declared.raw.RawFuncName.TheVariants as func_name
+use Rattle.clif_read.specs.declared.raw.RawFunction.{RawFunction}
+use Rattle.clif_read.specs.declared.raw.RawModule.{RawModule}
+use Rattle.clif_read.specs.Stretches.{IsModuleText, Functions, AreFunctions, IsFront, with_functions}
+use Rattle.clif_read.proofs.StretchLaws.{no_functions, range_follows, whole_text}
+use Rattle.range_workers.specs.Follow.{Follow}
+use Rattle.clif_resolve.proofs.BlockWords.{have_blocks}
+use Rattle.clif_names.specs.Faults.{NoFault, ListFault, SameName}
+use Rattle.clif_names.specs.FunctionNames.{NoFunctionFault}
+use Rattle.clif_names.specs.Sizes.{most_functions}
+use Rattle.clif_meaning.specs.Instructions.{natural}
+use Rattle.clif_meaning.specs.Meaning.{name_of, FunctionMeans, FunctionsMean, Means, HasBlocks}
+use Rattle.clif_meaning.specs.Reads.{Reads}
+use Rattle.clif_meaning.proofs.Lists.{each_got}
+use Rattle.clif_check.specs.Stretches.{AreMeant, MeanFunctions}
+
+-- ---- each function of the grammar has a block
+
+pub functions_have_blocks : (ts : List Lexeme) (rs : List RawFunction) → Functions ts rs → Each (λ (f : RawFunction). f.blocks ≢ []) rs
+functions_have_blocks ts rs read = rw read.meant (have_blocks read.trees)
+
+pub front_has_blocks : (text : List ℕ) (to : ℕ) (raw : RawModule) → IsFront text to raw → HasBlocks raw
+front_has_blocks text to raw front = let (v, d, e, one) = front.read in rw e (have_blocks v.1)
+
+-- ---- some functions, and others behind them
+
+means_join : (rs ss : List RawFunction) (fs gs : List Function) → FunctionsMean rs fs → FunctionsMean ss gs → FunctionsMean (rs ++ ss) (fs ++ gs)
+means_join [] ss [] gs f g = g
+means_join [] ss (x ∷ fs) gs f g = absurd f
+means_join (r ∷ rs) ss [] gs f g = absurd f
+means_join (r ∷ rs) ss (x ∷ fs) gs f g = (f.0, means_join rs ss fs gs f.1 g)
+
+pub none_meant : AreMeant [] []
+none_meant = record { free = tt; mean = tt; whole = tt }
+
+pub one_meant : (r : RawFunction) (b : Body) → NoFunctionFault r → FunctionMeans r b.function → IsWhole b.function → AreMeant (r ∷ []) (b ∷ [])
+one_meant r b free means whole = record { free = (free, tt); mean = (means, tt); whole = (whole, tt) }
+
+pub meant_join : (rs ss : List RawFunction) (fs gs : List Body) → AreMeant rs fs → AreMeant ss gs → AreMeant (rs ++ ss) (fs ++ gs)
+meant_join rs ss fs gs f g = record {
+  free = each_join NoFunctionFault rs ss f.free g.free;
+  mean = subst (FunctionsMean (rs ++ ss)) (sym (map-append (λ (b : Body). b.function) fs gs))
+      (means_join rs ss (map (λ (b : Body). b.function) fs) (map (λ (b : Body). b.function) gs) f.mean g.mean);
+  whole = each_join (λ (b : Body). IsWhole b.function) fs gs f.whole g.whole;
+}
+
+-- ---- stretches
+
+pub meant_follow : (text : List ℕ) (a b : ℕ) (rs : List RawFunction) (fs : List Body) → IsCut text a → AreFunctions text a b rs → AreMeant rs fs → Follow (MeanFunctions text) a b fs
+meant_follow text a b rs fs cut stand meant start before (ss, stood, were) =
+    (ss ++ rs, range_follows text a b rs cut stand start ss stood, meant_join ss rs before fs were meant)
+
+-- the raw module of a text, what its functions mean, and that these are all that were found
+pub text_meant : (text : List ℕ) (at : ℕ) (front : RawModule) (first rest all : List Body) → IsCut text at → IsFront text at front → AreMeant front.functions first
+    → Follow (MeanFunctions text) at (length text) rest → all ≡ first ++ rest → (raw : RawModule) × IsModuleText text raw × AreMeant raw.functions all
+text_meant text at front first rest all cut is meant follow joined =
+    let (more, stand, were) = follow at [] ([], no_functions text at cut, none_meant) in (
+      with_functions front more,
+      whole_text text at front more cut is stand,
+      subst (AreMeant (front.functions ++ more)) (sym joined) (meant_join front.functions more first rest meant were),
+    )
+
+-- ---- names
+
+-- two names that are one in the text are one in the module
+one_name : (a b : RawFuncName) → SameName a b → name_of a ≡ name_of b
+one_name (func_name.Text a s) (func_name.Text b t) h = ap name.Text h
+one_name (func_name.User a i) (func_name.User b j) h = ap₂ name.User h.0 (ap natural h.1)
+one_name (func_name.Text a s) (func_name.User b j) h = absurd h
+one_name (func_name.User a i) (func_name.Text b t) h = absurd h
+
+-- where no function has the name, no raw one means it
+none_means : (rs : List RawFunction) (fs : List Function) (n : FuncName) (i : ℕ) (r : RawFunction) → FunctionsMean rs fs → find_function n fs ≡ None → slice_get rs i ≡ Some r → name_of r.name ≡ n → ⊥
+none_means [] fs n i r h none at called = absurd cc
+none_means (s ∷ rs) [] n i r h none at called = absurd h
+none_means (s ∷ rs) (f ∷ fs) n zero r h none at called =
+    let same : s ≡ r = cc in
+    let has : f.name ≡ n = ap (λ (g : Function). g.name) h.0.function ∙ ap (λ (x : RawFunction). name_of x.name) same ∙ called in
+    let here : Some f ≡ None = sym (ap (λ (b : Bool). if b then Some f else find_function n fs) (equal_name f.name n has)) ∙ none in
+    absurd cc
+none_means (s ∷ rs) (f ∷ fs) n (suc i) r h none at called = later (same_name f.name n) none (λ rest. none_means rs fs n i r h.1 rest at called)
+  where
+    later : (b : Bool) → (if b then Some f else find_function n fs) ≡ None → (find_function n fs ≡ None → ⊥) → ⊥
+    later true e behind = absurd cc
+    later false e behind = behind e
+
+names_apart : (rs : List RawFunction) (fs : List Function) (i j : ℕ) (r s : RawFunction) → FunctionsMean rs fs → DifferentNames fs → slice_get rs i ≡ Some r → j < i → slice_get rs j ≡ Some s → SameName s.name r.name → ⊥
+names_apart [] fs i j r s h apart at lt before same = absurd cc
+names_apart (x ∷ rs) [] i j r s h apart at lt before same = absurd h
+names_apart (x ∷ rs) (f ∷ fs) zero j r s h apart at lt before same = absurd (omega (arith, lt))
+names_apart (x ∷ rs) (f ∷ fs) (suc i) zero r s h apart at lt before same =
+    let is : x ≡ s = cc in
+    none_means rs fs f.name i r h.1 apart.0 at
+    (sym (one_name s.name r.name same) ∙ sym (ap (λ (y : RawFunction). name_of y.name) is) ∙ sym (ap (λ (g : Function). g.name) h.0.function))
+names_apart (x ∷ rs) (f ∷ fs) (suc i) (suc j) r s h apart at lt before same = names_apart rs fs i j r s h.1 apart.1 at (omega (arith, lt)) before same
+
+means_within : (rs : List RawFunction) (fs : List Function) (i : ℕ) (r : RawFunction) → FunctionsMean rs fs → slice_get rs i ≡ Some r → i < length fs
+means_within [] fs i r h at = absurd cc
+means_within (s ∷ rs) [] i r h at = absurd h
+means_within (s ∷ rs) (f ∷ fs) zero r h at = omega arith
+means_within (s ∷ rs) (f ∷ fs) (suc i) r h at = let less = means_within rs fs i r h.1 at in omega (arith, less)
+
+-- ---- a text whose functions are meant, and are a module
+
+module _ (raw : RawModule) (fs : List Body) (meant : AreMeant raw.functions fs) (m : Module) (is : m ≡ map (λ b. b.function) fs) (apart : DifferentNames m) (few : length m ≤ most_functions) where
+  means : Means raw m
+  means = subst (FunctionsMean raw.functions) (sym is) meant.mean
+
+  no_list_fault : (kind : TextKind) (spot : ℕ) → ListFault raw.functions kind spot → ⊥
+  no_list_fault Duplicate spot (i, j, r, s, at, e, lt, before, same) = names_apart raw.functions m i j r s means apart at lt before same
+  no_list_fault TooLarge spot (i, r, at, e, many) = let less = means_within raw.functions m i r means at in absurd (omega (arith, less, many, few))
+  no_list_fault kind spot h = absurd h
+
+  free : NoFault raw
+  free kind spot (inl h) = no_list_fault kind spot h
+  free kind spot (inr (i, r, at, h)) = each_got NoFunctionFault raw.functions meant.free i r at kind spot h
+
+  reads_by : (text : List ℕ) → IsModuleText text raw → Reads text m
+  reads_by text read = (raw, read, free, means)
+
+pub module_read : (text : List ℕ) (raw : RawModule) (fs : List Body) (found : Option Module) → IsModuleText text raw → AreMeant raw.functions fs
+    → IfSome found (λ m. m ≡ map (λ (b : Body). b.function) fs) → IfSome found DifferentNames → IfSome found (λ m. length m ≤ most_functions) → IfSome found (Reads text)
+module_read text raw fs None read meant is apart few = tt
+module_read text raw fs (Some m) read meant is apart few = reads_by raw fs meant m is apart few text read

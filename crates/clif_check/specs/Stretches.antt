@@ -1,0 +1,19 @@
+-- What the functions between two places of a text mean.
+use Rattle.std.specs.Prelude.{ℕ, List, map}
+use Rattle.ir_core.specs.Edits.{Body}
+use Rattle.ir_core.specs.Lists.{Each}
+use Rattle.ir_core.specs.Sound.{IsWhole}
+use Rattle.clif_read.specs.declared.raw.RawFunction.{RawFunction}
+use Rattle.clif_read.specs.Stretches.{AreFunctions}
+use Rattle.clif_names.specs.FunctionNames.{NoFunctionFault}
+use Rattle.clif_meaning.specs.Meaning.{FunctionsMean}
+
+-- raw functions without a fault, and what each means
+pub record AreMeant (rs : List RawFunction) (functions : List Body) : Type 0 where
+  pub free : Each NoFunctionFault rs
+  pub mean : FunctionsMean rs (map (λ b. b.function) functions)
+  pub whole : Each (λ b. IsWhole b.function) functions
+
+-- between two places of the text stand functions without a fault, which mean these, and nothing else
+abbrev pub MeanFunctions : List ℕ → ℕ → ℕ → List Body → Type 0
+MeanFunctions text from to functions = (rs : List RawFunction) × AreFunctions text from to rs × AreMeant rs functions

@@ -1,0 +1,103 @@
+//! Modules read stretch by stretch: of the raw functions only those of a stretch are there at a time.
+ghost use Rattle.std.specs.Prelude.{◌≡◌, ◌≢◌, ◌≤◌, [], length, map, IfSome};
+ghost use Rattle.ir_core.specs.Lists.{Each};
+ghost use Rattle.ir_core.specs.Sound.{IsWhole};
+ghost use Rattle.ir_core.specs.WellFormed.{DifferentNames};
+ghost use Rattle.clif_read.specs.Stretches.{IsRange};
+ghost use Rattle.clif_names.specs.Sizes.{most_functions};
+ghost use Rattle.clif_meaning.specs.Reads.{Reads};
+ghost use Rattle.clif_check.specs.Stretches.{AreMeant, MeanFunctions};
+
+use clif_insts::Reader;
+use clif_lex::tokens_between;
+use clif_names::MOST_FUNCTIONS;
+use clif_read::{RawFunction, all_functions, front_end, read_front, stretch_end};
+use clif_resolve::meant_function;
+use ir_core::{Func, Module};
+use range_workers::{Ranges, join_items, read_by_workers};
+use std::alloc::Global;
+use std::thread::Threads;
+
+/// What these functions mean. `None` where one has a fault of names or numbers, or memory runs out.
+fn meant_functions(alloc: Global, raws: &[RawFunction]) -> Option<Vec<Func>>
+    requires { Each (λ r. r.blocks ≢ []) raws.now }
+    ensures { IfSome result (λ functions. AreMeant raws.now functions.items) }
+{
+    let mut functions = Vec::new(alloc);
+    for raw in raws {
+        let Ok(Some(func)) = meant_function(alloc, raw) else {
+            return None;
+        };
+        if functions.push(func).is_err() {
+            return None;
+        }
+    }
+    Some(functions)
+}
+
+/// A text whose functions are read range by range, and what they mean.
+#[derive(Drop)]
+struct TextRanges<'t> {
+    text: &'t [u8],
+}
+
+impl<'t> Ranges<Func> for TextRanges<'t> {
+    ghost range = { λ ranges from to. IsRange ranges.text.now from to };
+
+    ghost stand = { λ ranges from to functions. MeanFunctions ranges.text.now from to functions };
+
+    fn stretch_end(&self, from: usize, end: usize, size: usize) -> usize {
+        stretch_end(self.text, from, end, size)
+    }
+
+    fn read_stretch(&self, alloc: Global, from: usize, end: usize) -> Option<Vec<Func>> {
+        let Ok(tokens) = tokens_between(alloc, self.text, from, end, false) else {
+            return None;
+        };
+        let mut reader = Reader::new(self.text, &tokens, 0);
+        let raws = all_functions(alloc, &mut reader)?;
+        meant_functions(alloc, raws.as_slice())
+    }
+
+    ghost ordered = { λ ranges from to range. range.ordered };
+}
+
+/// The module that has these functions. `None` where there are too many or two have one name, or memory runs out.
+fn module_of(alloc: Global, functions: Vec<Func>) -> Option<Module>
+    requires { Each (λ func. IsWhole func.function) functions.items }
+    ensures functions { IfSome result (λ m. m ≡ map (λ func. func.function) functions.items) }
+    ensures names { IfSome result (λ m. DifferentNames m) }
+    ensures few { IfSome result (λ m. length m ≤ most_functions) }
+{
+    if functions.len() > MOST_FUNCTIONS {
+        return None;
+    }
+    let mut left = functions;
+    left.reverse();
+    let mut module = Module::new(alloc);
+    'functions: while let Some(func) = left.pop() {
+        if module.find(func.name()).is_some() || module.push(func).is_err() {
+            return None;
+        }
+    }
+    Some(module)
+}
+
+/// The module that a text means, read by so many workers at once, by stretches of this size. `None` where the text has
+/// a fault of its tokens, its syntax, its names or its numbers, where it cannot be read so, or memory runs out.
+pub fn read_module<R: Threads + Sync>(
+    rt: &R,
+    alloc: Global,
+    text: &[u8],
+    workers: usize,
+    size: usize,
+) -> Option<Module>
+    ensures { IfSome result (Reads text.now) }
+{
+    let end = front_end(text, size);
+    let front = read_front(alloc, text, end)?;
+    let first = meant_functions(alloc, front.functions.as_slice())?;
+    let ranges = TextRanges { text };
+    let rest = read_by_workers(rt, alloc, &ranges, end, text.len(), workers, size)?;
+    module_of(alloc, join_items(first, rest)?)
+}

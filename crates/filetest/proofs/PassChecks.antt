@@ -1,5 +1,6 @@
 -- Checks of what the pass makes of a module.
 use Rattle.std.proofs.Common.{◌≡◌, ℕ, Bool, true, false, List, [], ◌∷◌, ◌++◌, map, refl, sym, ap, ap₂, subst, ◌∙◌, append-nil}
+use mathlib.Core.List.{map-map}
 use Rattle.ir_core.specs.Lists.{Each}
 use Rattle.ir_core.specs.Module.{Function, Module}
 use Rattle.ir_core.specs.WellFormed.{WellFormed}
@@ -11,7 +12,6 @@ use Rattle.inline_pass.specs.Inlined.{inlined}
 use Rattle.inline_pass.specs.Policy.{Policy}
 use Rattle.test_directives.specs.Commands.{Command}
 use Rattle.test_directives.specs.Tests.{FunctionTests}
-use Rattle.filetest.specs.Report.{Check}
 use Rattle.filetest.specs.Checks.{each, line_check, output_check, inlined_check, finished_text}
 use Rattle.filetest.specs.Outputs.{line_checks, output_checks}
 use Rattle.filetest.specs.Telling.{Told, Tells}
@@ -37,26 +37,16 @@ one_text f g wf wg e =
     let h : text_of (f ∷ []) ≡ text_of (g ∷ []) = numbering_keeps_text (f ∷ []) (g ∷ []) ((wf, tt), (wg, tt), ap (λ x. x ∷ []) e) in
     sym (append-nil (function_text_of g)) ∙ (sym h ∙ append-nil (function_text_of f))
 
-head_same : (f g : Function) (fs gs : Module) → f ∷ fs ≡ g ∷ gs → f ≡ g
-head_same f g fs gs e = cc
-
-tail_same : (f g : Function) (fs gs : Module) → f ∷ fs ≡ g ∷ gs → fs ≡ gs
-tail_same f g fs gs e = cc
-
 texts_same : (m r : Module) → Each WellFormed m → Each WellFormed r → canonical_module m ≡ canonical_module r → map function_text_of r ≡ map function_text_of m
 texts_same [] [] a b e = refl
 texts_same [] (g ∷ r) a b e = cc
 texts_same (f ∷ m) [] a b e = cc
 texts_same (f ∷ m) (g ∷ r) a b e =
-    ap₂ (λ (x : List ℕ) (xs : List (List ℕ)). x ∷ xs) (one_text f g a.0 b.0 (head_same (canonical f) (canonical g) (canonical_module m) (canonical_module r) e))
-    (texts_same m r a.1 b.1 (tail_same (canonical f) (canonical g) (canonical_module m) (canonical_module r) e))
-
-both_maps : (p : Policy) (whole m : Module) → map function_text_of (map (finished p whole) m) ≡ map (finished_text p whole) m
-both_maps p whole [] = refl
-both_maps p whole (f ∷ m) = ap (λ xs. finished_text p whole f ∷ xs) (both_maps p whole m)
+    let both : canonical f ∷ canonical_module m ≡ canonical g ∷ canonical_module r = e in
+    ap₂ (λ (x : List ℕ) (xs : List (List ℕ)). x ∷ xs) (one_text f g a.0 b.0 (cc)) (texts_same m r a.1 b.1 (cc))
 
 finished_texts : (p : Policy) (m r : Module) → SameUpToNumbering (passed p m) r → map function_text_of r ≡ map (finished_text p m) m
-finished_texts p m r h = texts_same (passed p m) r h.0 h.1 h.2 ∙ both_maps p m m
+finished_texts p m r h = texts_same (passed p m) r h.0 h.1 h.2 ∙ map-map function_text_of (finished p m) m
 
 module _ (p : Policy) (m r : Module) (ts : List FunctionTests) (h : SameUpToNumbering (passed p m) r) where
   pub passed_lines : line_checks (map function_text_of r) ts ≡ each (line_check (finished_text p m)) m ts

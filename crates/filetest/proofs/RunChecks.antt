@@ -1,9 +1,8 @@
 -- Checks of runs.
-use Rattle.std.proofs.Common.{◌≡◌, ℕ, ℤ, zero, suc, ◌<◌, ◌≤◌, List, [], ◌∷◌, ◌++◌, length, drop, map, replicate, get_or, slice_get, Option, Some, None, Result, Ok, Err, IfOk, refl, sym, ap, subst, ◌∙◌, arith, inl, inr, ap₂, All, ◌+◌, ◌≢◌, Bool, true, false}
+use Rattle.std.proofs.Common.{◌≡◌, ℕ, ℤ, ◌<◌, List, [], ◌∷◌, length, drop, map, replicate, get_or, slice_get, Option, Some, None, sym, ap, subst, ◌∙◌, ap₂, All, ◌+◌, true}
 use Rattle.ir_core.specs.declared.names.FuncName.{FuncName}
 use Rattle.ir_core.specs.declared.signatures.Ty.{Ty}
 use Rattle.ir_semantics.specs.Machine.{World}
-use Rattle.std.proofs.lemmas.List.{drop_more, drop_all}
 use Rattle.std.proofs.lemmas.List.Elements.{All-get_or}
 use Rattle.clk_num.specs.Operations.{DataValue}
 use Rattle.ir_core.specs.Lookup.{and_then, find_function, param_types}
@@ -11,7 +10,9 @@ use Rattle.ir_core.specs.Module.{Function, Module}
 use Rattle.ir_core.specs.WellFormed.{DifferentNames}
 use Rattle.ir_semantics.specs.Runs.{Outcome, outcome}
 use Rattle.ir_semantics.specs.Values.{values_for}
-use Rattle.inline_outcomes.proofs.Functions.{function_hit, function_skip, cases_named}
+use Rattle.body_import.proofs.Walks.{next_is}
+use Rattle.inline_acceptance.proofs.KeptFunctions.{get_in}
+use Rattle.inline_pass.proofs.Finishing.{found_by_name}
 use Rattle.interp.specs.Entries.{entry_values}
 use Rattle.interp_run.specs.Answers.{IsRefusal}
 use Rattle.interp_run.specs.declared.run.RunErr.{RunErr}
@@ -30,14 +31,7 @@ use Rattle.filetest.specs.Telling.{Told, Tells, TellsWith}
 use Rattle.filetest.proofs.Telling.{tells_front, tells_same, tells_step}
 
 pub finds_own : (m : Module) → DifferentNames m → (i : ℕ) (f : Function) → slice_get m i ≡ Some f → find_function f.name m ≡ Some f
-finds_own [] d i f e = cc
-finds_own (h ∷ hs) d zero f e = let same : h ≡ f = cc in function_hit f.name h hs (ap (λ (z : Function). z.name) same) ∙ ap Some same
-finds_own (h ∷ hs) d (suc i) f e =
-    let later = finds_own hs d.1 i f e in
-    elim (cases_named h.name f.name) [
-      | inl q ↦ let bad : None ≡ Some f = sym d.0 ∙ (ap (λ x. find_function x hs) q ∙ later) in cc
-      | inr q ↦ function_skip f.name h hs q ∙ later
-    ]
+finds_own m d i f e = found_by_name m d f (get_in m i f e)
 
 module _ (m : Module) (test : RunTest) where
   -- no function has the place
@@ -69,10 +63,6 @@ module _ (m : Module) (test : RunTest) where
     pub no_such : find_function f.name m ≡ None → None ≡ (run_check m test).failure
     no_such none = let bad : None ≡ Some f = sym none ∙ finds_own m names i f at in cc
 
-pub ok_map : {A E : Type 0} (P Q : A → Type 0) (r : Result A E) → ((x : A) → P x → Q x) → IfOk r P → IfOk r Q
-ok_map P Q (Ok x) f h = f x h
-ok_map P Q (Err e) f h = h
-
 module _ (M m : Module) (test : RunTest) (i : ℕ) (f : Function) (n : FuncName) where
   -- as the code finds it
   pub ran_as : (xs : List ℤ) (w : World) (k : ℕ) (types : List Ty) (args : List DataValue) (o : Outcome) (p : Option Pair)
@@ -102,9 +92,6 @@ module _ (M m : Module) (test : RunTest) (i : ℕ) (f : Function) (n : FuncName)
 
 -- ---- one after the other
 
-rest_of : {A : Type 0} (xs : List A) (i : ℕ) (x : A) → i < length xs → x ≡ get_or xs i x → drop i xs ≡ x ∷ drop (i + 1) xs
-rest_of xs i x l e = drop_more xs i x l ∙ ap (λ y. y ∷ drop (i + 1) xs) (sym e)
-
 abbrev made : ℕ → List ℕ → Option Pair → Check
 made line name failure = record { name = name; line = line; failure = failure }
 
@@ -119,7 +106,7 @@ module _ (a b d : Told) (command : Command) (m : Module) (all : List Check) wher
       → TellsWith a d command (map (run_check m) (map run_of (drop (i + 1) rs))) all
   run_more rs i r name failure l e n f h p =
       tells_step a b d command (run_check m (run_of r)) (made r.line name failure) _ all
-      (tells_same a b command _ _ all (ap (λ xs. map (run_check m) (map run_of xs)) (rest_of rs i r l e)) p)
+      (tells_same a b command _ _ all (ap (λ xs. map (run_check m) (map run_of xs)) (next_is rs i r l e)) p)
       h (ap₂ (made r.line) n f)
 
   pub runs_more : (M : Module) (ts : List CodeTests) (i : ℕ) (t : CodeTests) (rs : List CodeRun)
@@ -129,6 +116,6 @@ module _ (a b d : Told) (command : Command) (m : Module) (all : List Check) wher
       → TellsWith a d command (run_checks m (map function_of (drop (i + 1) ts))) all
   runs_more M ts i t rs em l e er h p =
       tells_front a b d command _ (map (run_check m) (map run_of t.runs.items)) _ all
-      (ap (λ xs. run_checks m (map function_of xs)) (rest_of ts i t l e)) p
+      (ap (λ xs. run_checks m (map function_of xs)) (next_is ts i t l e)) p
       (subst (λ z. Tells b d command (map (run_check z) (map run_of t.runs.items))) em
       (subst (λ z. Tells b d command (map (run_check M) (map run_of z))) er h))

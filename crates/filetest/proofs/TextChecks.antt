@@ -1,48 +1,27 @@
 -- Checks of texts, one function after another.
-use Rattle.std.proofs.Common.{◌≡◌, ℕ, zero, suc, ◌+◌, ◌<◌, ◌≤◌, ◌==◌, Bool, true, false, if◌then◌else◌, List, [], ◌∷◌, ◌++◌, length, drop, map, get_or, slice_get, Option, Some, None, IfSome, refl, sym, ap, subst, ◌∙◌, arith, append-nil, ◌⊎◌, inl, inr, min}
+use Rattle.std.proofs.Common.{◌≡◌, ℕ, ◌+◌, ◌<◌, ◌≤◌, List, [], ◌∷◌, length, drop, map, get_or, slice_get, Some, IfSome, refl, sym, ap, subst, ◌∙◌, arith, ◌⊎◌, inl, inr, min}
 use Rattle.std.proofs.lemmas.Bool.Decides.{leb_tells}
-use Rattle.std.proofs.lemmas.List.{drop_more, drop_all, drop-map, length-map}
+use Rattle.std.proofs.lemmas.List.{drop_more, drop_all, drop-map}
+use Rattle.body_import.proofs.Walks.{next_is}
+use Rattle.inline_acceptance.proofs.KeptModules.{get_some}
 use Rattle.ir_core.specs.Module.{Function, Module}
 use Rattle.ir_text.specs.Text.{function_text_of}
+use Rattle.test_directives.proofs.TokenSteps.{drop_next}
 use Rattle.test_directives.specs.Commands.{Command}
 use Rattle.test_directives.specs.Tests.{FunctionTests}
 use Rattle.test_directives.specs.Views.{function_of}
 use Rattle.test_directives.specs.declared.tests.FunctionTests.{FunctionTests as CodeTests}
-use Rattle.filetest.specs.LineTests.{Pair}
 use Rattle.filetest.specs.Report.{Check}
 use Rattle.filetest.specs.Outputs.{line_check_of, line_checks, output_check_of, output_checks}
 use Rattle.filetest.specs.Telling.{Told, Tells, TellsWith}
-use Rattle.filetest.proofs.Telling.{tells_front, tells_step}
-
-pub some_map : {A : Type 0} (P Q : A → Type 0) (o : Option A) → ((x : A) → P x → Q x) → IfSome o P → IfSome o Q
-some_map P Q None f h = h
-some_map P Q (Some x) f h = f x h
-
-pub tells_nothing : (a : Told) (command : Command) → Tells a a command []
-tells_nothing a command = record { text = sym (append-nil a.text); passed = omega arith; failed = omega arith; skipped = refl }
-
-there : {A : Type 0} (xs : List A) (i : ℕ) → i < length xs → slice_get xs i ≡ None → ⊥
-there [] i l e = omega arith
-there (x ∷ xs) zero l e = cc
-there (x ∷ xs) (suc i) l e = there xs i (omega arith) e
-
--- a list from a place of it on
-rest_at : {A : Type 0} (xs : List A) (i : ℕ) (x : A) → slice_get xs i ≡ Some x → drop i xs ≡ x ∷ drop (i + 1) xs
-rest_at [] i x e = cc
-rest_at (y ∷ ys) zero x e = let same : y ≡ x = cc in ap (λ z. z ∷ ys) same
-rest_at (y ∷ ys) (suc i) x e = let n : suc i + 1 ≡ suc (i + 1) = omega arith in rest_at ys i x e ∙ ap (λ k. x ∷ drop k (y ∷ ys)) (sym n)
+use Rattle.filetest.proofs.Telling.{tells_front}
 
 texts_at : (m : Module) (i : ℕ) (f : Function) → slice_get m i ≡ Some f → drop i (map function_text_of m) ≡ function_text_of f ∷ drop (i + 1) (map function_text_of m)
-texts_at m i f e = drop-map function_text_of i m ∙ (ap (map function_text_of) (rest_at m i f e) ∙ ap (λ xs. function_text_of f ∷ xs) (sym (drop-map function_text_of (i + 1) m)))
-
-tests_at : (ts : List CodeTests) (i : ℕ) (t : CodeTests) → i < length ts → t ≡ get_or ts i t → drop i (map function_of ts) ≡ function_of t ∷ drop (i + 1) (map function_of ts)
-tests_at ts i t l e =
-    drop-map function_of i ts ∙ (ap (map function_of) (drop_more ts i t l ∙ ap (λ x. x ∷ drop (i + 1) ts) (sym e))
-    ∙ ap (λ xs. function_of t ∷ xs) (sym (drop-map function_of (i + 1) ts)))
+texts_at m i f e = drop-map function_text_of i m ∙ (ap (map function_text_of) (drop_next m i f e) ∙ ap (λ xs. function_text_of f ∷ xs) (sym (drop-map function_text_of (i + 1) m)))
 
 pub mapped_at : {A B : Type 0} (f : A → B) (xs : List A) (i : ℕ) (x : A) → i < length xs → x ≡ get_or xs i x → drop i (map f xs) ≡ f x ∷ drop (i + 1) (map f xs)
 mapped_at f xs i x l e =
-    drop-map f i xs ∙ (ap (map f) (drop_more xs i x l ∙ ap (λ y. y ∷ drop (i + 1) xs) (sym e)) ∙ ap (λ ys. f x ∷ ys) (sym (drop-map f (i + 1) xs)))
+    drop-map f i xs ∙ (ap (map f) (next_is xs i x l e) ∙ ap (λ ys. f x ∷ ys) (sym (drop-map f (i + 1) xs)))
 
 module _ (a b d : Told) (command : Command) (m : Module) (ts : List CodeTests) (i : ℕ) (t : CodeTests) (all : List Check)
     (l : i < length ts) (e : t ≡ get_or ts i t) where
@@ -50,30 +29,24 @@ module _ (a b d : Told) (command : Command) (m : Module) (ts : List CodeTests) (
       → i < length m
       → TellsWith a b command (line_checks (drop i (map function_text_of m)) (drop i (map function_of ts))) all
       → TellsWith a d command (line_checks (drop (i + 1) (map function_text_of m)) (drop (i + 1) (map function_of ts))) all
-  lines_more h n p = go (slice_get m i) refl h
-    where
-      go : (o : Option Function) → slice_get m i ≡ o → IfSome o (λ f. Tells b d command (line_check_of (function_text_of f) (function_of t)))
-          → TellsWith a d command (line_checks (drop (i + 1) (map function_text_of m)) (drop (i + 1) (map function_of ts))) all
-      go None q k = absurd (there m i n q)
-      go (Some f) q k = tells_front a b d command _ (line_check_of (function_text_of f) (function_of t)) _ all
-          (ap (λ xs. line_checks xs (drop i (map function_of ts))) (texts_at m i f q) ∙ ap (line_checks (function_text_of f ∷ drop (i + 1) (map function_text_of m))) (tests_at ts i t l e))
-          p k
+  lines_more h n p =
+      let (f, q) = get_some m i n in
+      tells_front a b d command _ (line_check_of (function_text_of f) (function_of t)) _ all
+      (ap (λ xs. line_checks xs (drop i (map function_of ts))) (texts_at m i f q) ∙ ap (line_checks (function_text_of f ∷ drop (i + 1) (map function_text_of m))) (mapped_at function_of ts i t l e))
+      p (subst (λ o. IfSome o (λ g. Tells b d command (line_check_of (function_text_of g) (function_of t)))) q h)
 
   pub outputs_more : (ns : List ℕ) (other : ℕ) → i < length ns
       → IfSome (slice_get m i) (λ f. Tells b d command (output_check_of (get_or ns i other) (function_text_of f) (function_of t) ∷ []))
       → i < length m
       → TellsWith a b command (output_checks (drop i ns) (drop i (map function_text_of m)) (drop i (map function_of ts))) all
       → TellsWith a d command (output_checks (drop (i + 1) ns) (drop (i + 1) (map function_text_of m)) (drop (i + 1) (map function_of ts))) all
-  outputs_more ns other ln h lm p = go (slice_get m i) refl h
-    where
-      go : (o : Option Function) → slice_get m i ≡ o → IfSome o (λ f. Tells b d command (output_check_of (get_or ns i other) (function_text_of f) (function_of t) ∷ []))
-          → TellsWith a d command (output_checks (drop (i + 1) ns) (drop (i + 1) (map function_text_of m)) (drop (i + 1) (map function_of ts))) all
-      go None q k = absurd (there m i lm q)
-      go (Some f) q k = tells_front a b d command _ (output_check_of (get_or ns i other) (function_text_of f) (function_of t) ∷ []) _ all
-          (ap (λ xs. output_checks xs (drop i (map function_text_of m)) (drop i (map function_of ts))) (drop_more ns i other ln)
-          ∙ (ap (λ xs. output_checks (get_or ns i other ∷ drop (i + 1) ns) xs (drop i (map function_of ts))) (texts_at m i f q)
-          ∙ ap (output_checks (get_or ns i other ∷ drop (i + 1) ns) (function_text_of f ∷ drop (i + 1) (map function_text_of m))) (tests_at ts i t l e)))
-          p k
+  outputs_more ns other ln h lm p =
+      let (f, q) = get_some m i lm in
+      tells_front a b d command _ (output_check_of (get_or ns i other) (function_text_of f) (function_of t) ∷ []) _ all
+      (ap (λ xs. output_checks xs (drop i (map function_text_of m)) (drop i (map function_of ts))) (drop_more ns i other ln)
+      ∙ (ap (λ xs. output_checks (get_or ns i other ∷ drop (i + 1) ns) xs (drop i (map function_of ts))) (texts_at m i f q)
+      ∙ ap (output_checks (get_or ns i other ∷ drop (i + 1) ns) (function_text_of f ∷ drop (i + 1) (map function_text_of m))) (mapped_at function_of ts i t l e)))
+      p (subst (λ o. IfSome o (λ g. Tells b d command (output_check_of (get_or ns i other) (function_text_of g) (function_of t) ∷ []))) q h)
 
 -- none is left where one of the lists ends
 pub lines_end : (texts : List (List ℕ)) (ts : List FunctionTests) → (texts ≡ []) ⊎ (ts ≡ []) → line_checks texts ts ≡ []

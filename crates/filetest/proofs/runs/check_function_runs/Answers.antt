@@ -8,7 +8,7 @@ use Rattle.filetest.proofs.RunChecks.{holds_at, run_more}
 use Rattle.filetest.proofs.runs.check_function_runs.Goals as goal
 
 pub run_failure-requires : goal.run_failure-requires
-run_failure-requires c = holds_at (IsPlacedIn c.args.linked.now) c.args.runs.now c.loop-i.i c.index-runs-i.result c.loop-i-test.true c.index-runs-i.is c.requires.placed
+run_failure-requires c = record { placed = holds_at (IsPlacedIn c.args.linked.now) c.args.runs.now c.loop-i.i c.index-runs-i.result c.loop-i-test.true c.index-runs-i.is c.requires.placed }
 
 pub loop-i-preserved : goal.loop-i-preserved
 loop-i-preserved c = run_more c.args.out.now c.loop-i.out c.check.new.self (command_of c.args.command.now) c.args.linked.now _ c.args.runs.now c.loop-i.i c.index-runs-i.result c.as_slice.result.now _

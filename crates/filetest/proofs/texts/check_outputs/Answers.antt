@@ -1,4 +1,4 @@
-use Rattle.std.proofs.Common.{◌≡◌, ◌<◌, ◌≤◌, length, map, arith, min}
+use Rattle.std.proofs.Common.{◌≤◌, length, map, arith, min}
 use Rattle.std.proofs.lemmas.List.{length-map}
 use Rattle.ir_text.specs.Text.{function_text_of}
 use Rattle.test_directives.specs.Views.{command_of, function_of}

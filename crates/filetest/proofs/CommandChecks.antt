@@ -1,6 +1,5 @@
 -- Commands, one after another.
-use Rattle.std.proofs.Common.{◌≡◌, ℕ, suc, ◌+◌, ◌<◌, Bool, true, false, if◌then◌else◌, List, [], ◌∷◌, ◌++◌, length, drop, map, flat_map, get_or, Option, refl, sym, ap, subst, ◌∙◌, arith, append_assoc, append-nil, ◌||◌, Result, Ok, Err, IfOk, OnOk, All}
-use Rattle.std.proofs.lemmas.List.{drop_more, drop_all}
+use Rattle.std.proofs.Common.{◌≡◌, ℕ, ◌+◌, ◌<◌, Bool, true, false, if◌then◌else◌, List, [], ◌∷◌, ◌++◌, length, drop, map, flat_map, get_or, Option, sym, ap, subst, ◌∙◌, arith, append_assoc, append-nil, ◌||◌, Result, Ok, Err, IfOk, OnOk, All}
 use Rattle.std.proofs.lemmas.List.Elements.{All-drop, All-head}
 use Rattle.std.specs.List.{filter, list_any}
 use Rattle.ir_core.specs.Module.{Module}
@@ -11,7 +10,7 @@ use Rattle.filetest.specs.Report as report
 use Rattle.filetest.specs.Report.{Check, check_text, last_line}
 use Rattle.filetest.specs.declared.report.Report.{Report}
 use Rattle.filetest.specs.Telling.{Told, Tells}
-use Rattle.filetest.specs.Checks.{checks_of, command_text, is_skipped, passed, failed, skipped, report_text}
+use Rattle.filetest.specs.Checks.{checks_of, command_text, is_skipped, passed, failed, skipped}
 use Rattle.inline_finish.specs.Building.{IsLimited}
 use Rattle.inline_finish.specs.declared.bodies.Policy.{Policy}
 use Rattle.filetest.specs.Limits.{AreWithin, IsLimitedCommand}

@@ -1,9 +1,10 @@
 -- Whether a text stands in a line, by the first place where it does.
-use Rattle.std.proofs.Common.{◌≡◌, ℕ, zero, suc, ◌+◌, ◌-◌, ◌<◌, ◌≤◌, Bool, true, false, ◌||◌, nat_eq, List, [], ◌∷◌, ◌++◌, length, take, drop, get_or, Option, Some, None, is_some, slice_index, refl, sym, ap, ◌∙◌, arith, ◌⊎◌, inl, inr, ⊎_elim, take-append-drop, length-append}
+use Rattle.std.proofs.Common.{◌≡◌, ℕ, zero, suc, ◌+◌, ◌<◌, ◌≤◌, Bool, true, false, nat_eq, List, [], ◌∷◌, ◌++◌, length, take, drop, get_or, Option, Some, None, is_some, refl, sym, ap, ◌∙◌, arith, inl, inr, take-append-drop, length-append}
 use Rattle.std.specs.List.{starts_with}
 use Rattle.std.proofs.lemmas.List.{get_or_append_left, ext_get_or, length-take-le, get_or-take}
 use Rattle.std.proofs.lemmas.Bool.Decides.{Decides-eqb}
 use Rattle.std.proofs.lemmas.Slice.Eq.{starts_is}
+use Rattle.call_graph.proofs.Walks.{or_cases, or_left, or_right}
 use Rattle.memchr.specs.Find.{FindsNeedle, OccursAt}
 use Rattle.filetest.specs.LineTests.{contains}
 
@@ -37,21 +38,9 @@ nearer c cs text k h = record {
   reads = λ j l. let e : suc k + j ≡ suc (k + j) = omega arith in sym (ap (λ i. get_or (c ∷ cs) i 0) e) ∙ h.reads j l;
 }
 
-one_of : (a b : Bool) → a || b ≡ true → (a ≡ true) ⊎ (b ≡ true)
-one_of true b h = inl refl
-one_of false b h = inr h
-
-left_of : (a b : Bool) → a ≡ true → a || b ≡ true
-left_of true b h = refl
-left_of false b h = cc
-
-right_of : (a b : Bool) → b ≡ true → a || b ≡ true
-right_of true b h = refl
-right_of false b h = h
-
 has_place : (line text : List ℕ) → contains text line ≡ true → (k : ℕ) × (k < length line + 1) × OccursAt line text k
 has_place [] text h = (0, omega arith, begins [] text h)
-has_place (c ∷ cs) text h = elim (one_of (starts_with nat_eq (c ∷ cs) text) (contains text cs) h) [
+has_place (c ∷ cs) text h = elim (or_cases (starts_with nat_eq (c ∷ cs) text) (contains text cs) h) [
   | inl front ↦ (0, omega arith, begins (c ∷ cs) text front)
   | inr later ↦ let p = has_place cs text later in (suc p.0, omega (arith, p.1), further c cs text p.0 p.2)
 ]
@@ -59,8 +48,8 @@ has_place (c ∷ cs) text h = elim (one_of (starts_with nat_eq (c ∷ cs) text) 
 place_has : (line text : List ℕ) (k : ℕ) → OccursAt line text k → contains text line ≡ true
 place_has [] text zero h = begins_back [] text h
 place_has [] text (suc k) h = absurd (omega (arith, h.fits))
-place_has (c ∷ cs) text zero h = left_of (starts_with nat_eq (c ∷ cs) text) (contains text cs) (begins_back (c ∷ cs) text h)
-place_has (c ∷ cs) text (suc k) h = right_of (starts_with nat_eq (c ∷ cs) text) (contains text cs) (place_has cs text k (nearer c cs text k h))
+place_has (c ∷ cs) text zero h = or_left (starts_with nat_eq (c ∷ cs) text) (contains text cs) (begins_back (c ∷ cs) text h)
+place_has (c ∷ cs) text (suc k) h = or_right (starts_with nat_eq (c ∷ cs) text) (contains text cs) (place_has cs text k (nearer c cs text k h))
 
 pub found_is_contained : (line text : List ℕ) (r : Option ℕ) → FindsNeedle line text 0 r → is_some r ≡ contains text line
 found_is_contained line text None h = go (contains text line) refl

@@ -1,5 +1,5 @@
 -- The first difference of two lists of lines.
-use Rattle.std.proofs.Common.{◌≡◌, ℕ, ◌+◌, ◌<◌, ◌≤◌, Bool, true, false, if◌then◌else◌, List, [], ◌∷◌, length, drop, get_or, Option, Some, None, refl, sym, ap, ◌∙◌, arith}
+use Rattle.std.proofs.Common.{◌≡◌, ℕ, ◌+◌, ◌<◌, ◌≤◌, Bool, true, false, if◌then◌else◌, List, [], ◌∷◌, length, drop, get_or, Some, refl, sym, ap, ◌∙◌, arith}
 use Rattle.std.specs.Str.{bytes_eq}
 use Rattle.std.proofs.lemmas.List.{drop_more, drop_all}
 use Rattle.std.proofs.Common.{not}
@@ -8,7 +8,7 @@ use denote.Ref.{Bor}
 use Rattle.filetest.specs.declared.report.Pair.{Pair as CodePair}
 use Rattle.filetest.specs.Views.{pair_of, lines_of}
 use Rattle.filetest.proofs.LineChecking.{read_line}
-use Rattle.filetest.specs.LineTests.{Line, Pair, pair, end, difference}
+use Rattle.filetest.specs.LineTests.{Line, pair, end, difference}
 
 both_more : (expected got : List Line) (i : ℕ) → i < length expected → i < length got
     → difference (drop i expected) (drop i got)
@@ -26,17 +26,9 @@ pub other_line : (expected got : List Line) (i : ℕ) → i < length expected �
     → Some (pair (get_or expected i []) (get_or got i [])) ≡ difference (drop i expected) (drop i got)
 other_line expected got i l m e = sym (both_more expected got i l m ∙ ap (λ b. if b then difference (drop (i + 1) expected) (drop (i + 1) got) else Some (pair (get_or expected i []) (get_or got i []))) e)
 
-pub got_ends : (expected got : List Line) (i : ℕ) → i < length expected → length got ≤ i
-    → Some (pair (get_or expected i []) end) ≡ difference (drop i expected) (drop i got)
-got_ends expected got i l m = sym (ap (λ xs. difference xs (drop i got)) (drop_more expected i [] l) ∙ ap (difference (get_or expected i [] ∷ drop (i + 1) expected)) (drop_all i got m))
-
 pub expected_ends : (expected got : List Line) (i : ℕ) → length expected ≤ i → i < length got
     → Some (pair end (get_or got i [])) ≡ difference (drop i expected) (drop i got)
 expected_ends expected got i l m = sym (ap (λ xs. difference xs (drop i got)) (drop_all i expected l) ∙ ap (difference []) (drop_more got i [] m))
-
-pub both_end : (expected got : List Line) (i : ℕ) → length expected ≤ i → length got ≤ i
-    → None ≡ difference (drop i expected) (drop i got)
-both_end expected got i l m = sym (ap (λ xs. difference xs (drop i got)) (drop_all i expected l) ∙ ap (difference []) (drop_all i got m))
 
 -- ---- as the code reads lists
 

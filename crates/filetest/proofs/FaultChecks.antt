@@ -1,5 +1,5 @@
 -- Checks of first faults, one function after another.
-use Rattle.std.proofs.Common.{◌≡◌, ℕ, ◌+◌, ◌<◌, ◌≤◌, List, [], ◌∷◌, length, drop, map, get_or, Option, refl, sym, ap, ap₂, ◌∙◌, ◌⊎◌, inl, inr, min}
+use Rattle.std.proofs.Common.{◌≡◌, ℕ, ◌+◌, ◌<◌, ◌≤◌, List, [], ◌∷◌, length, drop, map, get_or, Option, refl, ap, ap₂, ◌∙◌, ◌⊎◌, inl, inr, min}
 use Rattle.std.proofs.lemmas.List.{drop_more, drop_all}
 use Rattle.test_directives.specs.Commands.{Command}
 use Rattle.test_directives.specs.Tests.{FunctionTests}

@@ -1,25 +1,16 @@
 -- The first faults of the functions.
-use Rattle.std.proofs.Common.{◌≡◌, ◌≢◌, ◌⊎◌, inl, inr, reverse, ℕ, zero, suc, ◌+◌, ◌-◌, ◌<◌, ◌≤◌, List, [], ◌∷◌, ◌++◌, length, take, drop, map, get_or, slice_get, Option, Some, None, option_map, refl, sym, ap, ap₂, subst, ◌∙◌, arith, length-append, append_assoc, min, ◌==◌, count_by}
-use Rattle.std.proofs.lemmas.List.{take_min, length-map, length_push, take_all, drop_at, take_at, take-append-drop, get_or-reverse, length-reverse}
+use Rattle.std.proofs.Common.{◌≡◌, ◌≢◌, inl, inr, reverse, ℕ, ◌+◌, ◌-◌, ◌<◌, List, [], ◌∷◌, ◌++◌, length, take, drop, map, get_or, slice_get, Option, Some, None, option_map, refl, sym, ap, ap₂, subst, ◌∙◌, arith, append_assoc}
+use Rattle.std.proofs.lemmas.List.{length-map, length_push, drop_at, take_at, take-append-drop, get_or-reverse, length-reverse}
 use Rattle.std.proofs.lemmas.Option.{slice_get_within, slice_get-get_or, get_or_from_slice_get}
-use Rattle.clif_lex.specs.Bytes.{line_feed}
 use Rattle.clif_lex.specs.Places.{line_at}
 use Rattle.ir_core.specs.Lists.{Each}
+use Rattle.ir_core.proofs.Order.{get_push_cases}
+use Rattle.inline_acceptance.proofs.KeptLists.{map_get}
 use Rattle.clif_read.specs.declared.raw.RawFunction.{RawFunction}
 use Rattle.clif_read.specs.declared.raw.RawModule.{RawModule}
 use Rattle.clif_meaning.specs.Meaning.{HasBlocks}
 use Rattle.clif_meaning.specs.Reads.{alone}
 use Rattle.filetest.specs.FaultLines.{IsFaultSpot, IsFaultLine, AreFaultSpots, AreFaultLines}
-
--- the last of the functions that are left is alone
-pub last_alone : (raw : RawModule) (old new : List RawFunction) (f : RawFunction) → old ≡ new ++ f ∷ [] → old ≡ take (length old) raw.functions → length old ≤ length raw.functions
-    → record { headers = raw.headers; functions = f ∷ [] } ≡ alone raw (length new)
-last_alone raw old new f e h l =
-    let fs = raw.functions in
-    let whole : fs ≡ new ++ f ∷ drop (length old) fs =
-    sym (take-append-drop (length old) fs) ∙ (ap (λ xs. xs ++ drop (length old) fs) (sym h ∙ e) ∙ append_assoc new (f ∷ []) (drop (length old) fs)) in
-    let behind : drop (length new) fs ≡ f ∷ drop (length old) fs = ap (drop (length new)) whole ∙ drop_at new (f ∷ drop (length old) fs) (length new) refl in
-    ap (λ xs. record { headers = raw.headers; functions = take 1 xs }) (sym behind)
 
 -- ---- one function after the other, from the last on
 
@@ -31,15 +22,16 @@ each_middle : (xs ys : List RawFunction) (f : RawFunction) → Each (λ (g : Raw
 each_middle [] ys f h = h.0
 each_middle (x ∷ xs) ys f h = each_middle xs ys f h.1
 
-pushed : {A : Type 0} (xs : List A) (y : A) (i : ℕ) (z : A) → slice_get (xs ++ y ∷ []) i ≡ Some z → (slice_get xs i ≡ Some z) ⊎ ((i ≡ length xs) × (z ≡ y))
-pushed [] y zero z e = inr (refl, cc)
-pushed [] y (suc i) z e = cc
-pushed (x ∷ xs) y zero z e = inl e
-pushed (x ∷ xs) y (suc i) z e = elim (pushed xs y i z e) [ inl q ↦ inl q | inr q ↦ inr (ap suc q.0, q.1) ]
-
 module _ (raw : RawModule) (old new : List RawFunction) (f : RawFunction) (e : old ≡ new ++ f ∷ []) (h : old ≡ take (length old) raw.functions) where
   pub fewer_left : new ≡ take (length new) raw.functions
   fewer_left = sym (ap (take (length new)) (whole_is raw.functions old new f e h) ∙ take_at new (f ∷ drop (length old) raw.functions) (length new) refl)
+
+  -- the last of the functions that are left is alone
+  last_alone : record { headers = raw.headers; functions = f ∷ [] } ≡ alone raw (length new)
+  last_alone =
+      let behind : drop (length new) raw.functions ≡ f ∷ drop (length old) raw.functions =
+      ap (drop (length new)) (whole_is raw.functions old new f e h) ∙ drop_at new (f ∷ drop (length old) raw.functions) (length new) refl in
+      ap (λ xs. record { headers = raw.headers; functions = take 1 xs }) (sym behind)
 
   pub last_has_blocks : HasBlocks raw → f.blocks ≢ []
   last_has_blocks b = each_middle new (drop (length old) raw.functions) f (subst (Each (λ (g : RawFunction). g.blocks ≢ [])) (whole_is raw.functions old new f e h) b)
@@ -51,13 +43,12 @@ module _ (raw : RawModule) (old new : List RawFunction) (f : RawFunction) (e : o
       → IsFaultSpot (record { headers = raw.headers; functions = f ∷ [] }) s
       → ((i : ℕ) (spot : Option ℕ) → slice_get spots i ≡ Some spot → IsFaultSpot (alone raw (length raw.functions - (i + 1))) spot)
       → (i : ℕ) (spot : Option ℕ) → slice_get (spots ++ s ∷ []) i ≡ Some spot → IsFaultSpot (alone raw (length raw.functions - (i + 1))) spot
-  spots_more spots s count is each i spot at = elim (pushed spots s i spot at) [
+  spots_more spots s count is each i spot at = elim (get_push_cases spots i s spot at) [
     | inl q ↦ each i spot q
     | inr q ↦
         let place : length raw.functions - (i + 1) ≡ length new = omega (arith, q.0, count, one_fewer) in
-        let within : length old ≤ length raw.functions = omega (arith, count) in
         subst (λ k. IsFaultSpot (alone raw k) spot) (sym place)
-        (subst (IsFaultSpot (alone raw (length new))) (sym q.1) (subst (λ r. IsFaultSpot r s) (last_alone raw old new f e h within) is))
+        (subst (IsFaultSpot (alone raw (length new))) q.1 (subst (λ r. IsFaultSpot r s) last_alone is))
   ]
 
 reversed_at : {A : Type 0} (xs : List A) (k : ℕ) (x : A) → slice_get (reverse xs) k ≡ Some x → slice_get xs (length xs - (k + 1)) ≡ Some x
@@ -87,18 +78,10 @@ spots_in_order raw spots count each = record {
 
 -- ---- lines
 
-pub line_of_spot : (text : List ℕ) (spot : ℕ) → line_at text (min spot (length text)) ≡ line_at text spot
-line_of_spot text spot = ap (λ xs. 1 + count_by (λ c. c == line_feed) xs) (take_min spot text)
-
-mapped : {A B : Type 0} (f : A → B) (xs : List A) (i : ℕ) (y : B) → slice_get (map f xs) i ≡ Some y → (x : A) × (slice_get xs i ≡ Some x) × (y ≡ f x)
-mapped f [] i y e = cc
-mapped f (x ∷ xs) zero y e = (x, refl, cc)
-mapped f (x ∷ xs) (suc i) y e = mapped f xs i y e
-
 pub lines_from_spots : (text : List ℕ) (raw : RawModule) (spots lines : List (Option ℕ)) → AreFaultSpots raw spots → lines ≡ map (option_map (line_at text)) spots → AreFaultLines text raw lines
 lines_from_spots text raw spots lines h e = record {
   count = ap length e ∙ (length-map spots (option_map (line_at text)) ∙ h.count);
-  each = λ i line at. let (spot, there, is) = mapped (option_map (line_at text)) spots i line (ap (λ xs. slice_get xs i) (sym e) ∙ at) in told i line spot is (h.each i spot there);
+  each = λ i line at. let (spot, there, is) = map_get (option_map (line_at text)) spots i line (ap (λ xs. slice_get xs i) (sym e) ∙ at) in told i line spot is (h.each i spot there);
 }
   where
     told : (i : ℕ) (line spot : Option ℕ) → line ≡ option_map (line_at text) spot → IsFaultSpot (alone raw i) spot → IsFaultLine text (alone raw i) line

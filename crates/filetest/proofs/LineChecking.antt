@@ -1,9 +1,9 @@
 -- Tests of lines, one after another.
-use Rattle.std.proofs.Common.{◌≡◌, ℕ, zero, suc, ◌+◌, ◌-◌, ◌<◌, ◌≤◌, Bool, true, false, not, if◌then◌else◌, List, [], ◌∷◌, ◌++◌, length, take, drop, map, get_or, slice_range, Option, Some, None, refl, sym, ap, subst, ◌∙◌, arith, length-drop}
+use Rattle.std.proofs.Common.{◌≡◌, ℕ, zero, suc, ◌+◌, ◌-◌, ◌<◌, ◌≤◌, Bool, true, false, if◌then◌else◌, List, [], ◌∷◌, ◌++◌, length, take, drop, map, get_or, slice_range, Option, Some, None, refl, sym, ap, subst, ◌∙◌, arith, length-drop}
 use borrow.Author.Count.{below_more}
 use denote.Ref.{Bor}
 use Rattle.test_directives.specs.declared.directives.LineTest.{LineTest as DirectiveTest}
-use Rattle.std.proofs.lemmas.List.{drop_more, drop_all, take_more, get_or-drop, get_or-map, length-map, drop-map, map_push}
+use Rattle.std.proofs.lemmas.List.{drop_more, take_more, get_or-drop, get_or-map, length-map, drop-map, map_push}
 use Rattle.test_directives.specs.declared.directives.LineCheck.{LineCheck}
 use Rattle.test_directives.specs.declared.directives.LineCheck.TheVariants as line_check
 use Rattle.test_directives.specs.Views.{line_test_by, line_test_of}
@@ -36,15 +36,6 @@ pub check_takes : (text : Line) (left : List Line) (r : Option ℕ) → IsPlaceW
 check_takes text left None h = none_has text left h
 check_takes text left (Some i) h = (h.0, first_has text left i h.0 h.1 h.2)
 
-pub next_none : (text : Line) → IsTaken (Nextln text) [] None
-next_none text = refl
-
-pub next_takes : (text l : Line) (ls : List Line) → contains text l ≡ true → IsTaken (Nextln text) (l ∷ ls) (Some 0)
-next_takes text l ls h = (omega arith, ap (λ b. if b then Some ([], ls) else None) h)
-
-pub next_fails : (text l : Line) (ls : List Line) → contains text l ≡ false → IsTaken (Nextln text) (l ∷ ls) None
-next_fails text l ls h = ap (λ b. if b then Some ([], ls) else None) h
-
 -- ---- `not:`
 
 found_at : (text : Line) (lines : List Line) (i : ℕ) → i < length lines → contains text (get_or lines i []) ≡ true
@@ -73,9 +64,6 @@ pub any_later : (nots range : List Line) (i : ℕ) → i < length nots → IsPla
 any_later nots range i l h =
     sym (ap (λ xs. found_any xs range) (drop_more nots i [] l)
     ∙ ap (λ o. or_else o (found_any (drop (i + 1) nots) range)) (found_nowhere (get_or nots i []) range h))
-
-pub any_ends : (nots range : List Line) (i : ℕ) → length nots ≤ i → None ≡ found_any (drop i nots) range
-any_ends nots range i l = sym (ap (λ xs. found_any xs range) (drop_all i nots l))
 
 -- ---- a `check:` or `nextln:`
 
@@ -109,18 +97,6 @@ pub fails_before : (nots left : List Line) (t : LineTest) (at : ℕ) (p : Pair) 
 fails_before nots left t at p h e f ts =
     failure_by nots left t ts h ∙ (ap (after_taken nots left t ts) e ∙ ap (λ o. or_else o (failure [] (drop (suc at) left) ts)) (sym f))
 
-pub fails_by_not : (nots left : List Line) (t : LineTest) (p : Pair) → is_not t ≡ false → taken t left ≡ None
-    → Some p ≡ found_any nots left
-    → (ts : List LineTest) → failure nots left (t ∷ ts) ≡ Some p
-fails_by_not nots left t p h e f ts =
-    failure_by nots left t ts h ∙ (ap (after_taken nots left t ts) e ∙ ap (λ o. or_else o (Some (pair (text_of t) (line_looked_at t left)))) (sym f))
-
-pub fails_itself : (nots left : List Line) (t : LineTest) → is_not t ≡ false → taken t left ≡ None
-    → None ≡ found_any nots left
-    → (ts : List LineTest) → failure nots left (t ∷ ts) ≡ Some (pair (text_of t) (line_looked_at t left))
-fails_itself nots left t h e f ts =
-    failure_by nots left t ts h ∙ (ap (after_taken nots left t ts) e ∙ ap (λ o. or_else o (Some (pair (text_of t) (line_looked_at t left)))) (sym f))
-
 -- a `not:` waits
 pub waits : (nots left : List Line) (t : LineTest) (ts : List LineTest) → is_not t ≡ true → failure nots left (t ∷ ts) ≡ failure (nots ++ text_of t ∷ []) left ts
 waits nots left (Not text) ts h = refl
@@ -148,11 +124,6 @@ pub none_more : (text : Line) (lines : List (Bor Line)) (i : ℕ) (d : Bor Line)
     → b ≡ contains text (get_or lines i d).now → b ≡ false → NoneHas text (lines_of lines) i → NoneHas text (lines_of lines) (i + 1)
 none_more text lines i d b l e f n =
     below_more (λ k. contains text (get_or (lines_of lines) k []) ≡ false) i n (ap (contains text) (sym (read_line lines i d l)) ∙ (sym e ∙ f))
-
-pub line_has : (text : Line) (lines : List (Bor Line)) (i : ℕ) (d : Bor Line) (b : Bool) → i < length lines
-    → b ≡ contains text (get_or lines i d).now → b ≡ true → NoneHas text (lines_of lines) i → IsPlaceWith text (lines_of lines) (Some i)
-line_has text lines i d b l e f n =
-    (omega (arith, length-map lines (λ (x : Bor Line). x.now)), ap (contains text) (sym (read_line lines i d l)) ∙ (sym e ∙ f), n)
 
 pub text_is : (tests : List DirectiveTest) (i : ℕ) (t : DirectiveTest) → i < length tests → t ≡ get_or tests i t → t.text ≡ get_or (texts_of tests) i []
 text_is tests i t l e = ap (λ (x : DirectiveTest). x.text) e ∙ sym (get_or-map (λ (x : DirectiveTest). x.text) tests i t [] l)
@@ -252,7 +223,3 @@ after_not_as tests left left' judged judged' i t total j k s l e h so =
     ap (λ n. failure (texts_of (slice_range tests n (i + 1))) (lines_of left') (map line_test_of (drop (i + 1) tests))) j
     ∙ (ap (λ ls. failure (texts_of (slice_range tests judged (i + 1))) (lines_of ls) (map line_test_of (drop (i + 1) tests))) k
     ∙ after_not tests (lines_of left) judged i t total s l e h so)
-
-pub is_not_true : (b n : Bool) → n ≡ not b → n ≡ false → b ≡ true
-is_not_true true n e f = refl
-is_not_true false n e f = cc

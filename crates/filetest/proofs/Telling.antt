@@ -1,11 +1,9 @@
 -- What a report in the making is told.
-use Rattle.std.proofs.Common.{◌≡◌, ℕ, suc, ◌+◌, ◌<◌, ◌≤◌, List, [], ◌∷◌, ◌++◌, length, map, codes, flat_map, None, Some, refl, sym, ap, ◌∙◌, arith, append_assoc, append-nil, length-append, subst}
-use Rattle.std.specs.List.{filter}
+use Rattle.std.proofs.Common.{◌≡◌, ℕ, suc, ◌+◌, ◌<◌, ◌≤◌, List, [], ◌∷◌, ◌++◌, length, flat_map, sym, ap, ◌∙◌, arith, append_assoc, append-nil, length-append, subst}
 use Rattle.std.proofs.lemmas.Grind.{flat_map-append}
 use Rattle.std.proofs.lemmas.List.Elements.{filter-append}
 use Rattle.test_directives.specs.Commands.{Command}
-use Rattle.filetest.specs.LineTests.{Pair}
-use Rattle.filetest.specs.Report.{Check, check_text, check_line, failure_text, has_failed, passed, failed}
+use Rattle.filetest.specs.Report.{Check, check_text, has_failed, passed, failed}
 use Rattle.filetest.specs.Telling.{Told, Puts, Tells, TellsWith}
 
 -- one piece behind another
@@ -22,36 +20,7 @@ puts_both a b d x y p q = record {
 pub room : (a b : Told) (x : List ℕ) → Puts a b x → 0 < length x → suc (b.passed + b.failed + b.skipped) ≤ length b.text
 room a b x p h = omega (arith, ap length p.text, length-append a.text x, p.counted, p.passed, p.failed, p.skipped)
 
-pub tells_pass : (a b w : Told) (command : Command) (name : List ℕ) (line : ℕ)
-    → Puts a b (codes "pass " ++ check_line command (record { name = name; line = line; failure = None }))
-    → w.text ≡ b.text → w.passed ≡ b.passed + 1 → w.failed ≡ b.failed → w.skipped ≡ b.skipped
-    → Tells a w command (record { name = name; line = line; failure = None } ∷ [])
-tells_pass a b w command name line p t n f s = record {
-  text = t ∙ (p.text ∙ ap (λ xs. a.text ++ xs) (sym (append-nil (check_text command (record { name = name; line = line; failure = None })))));
-  passed = n ∙ ap (λ k. k + 1) p.passed;
-  failed = let z : a.failed + 0 ≡ a.failed = omega arith in f ∙ (p.failed ∙ sym z);
-  skipped = s ∙ p.skipped;
-}
-
-pub tells_fail : (a b w : Told) (command : Command) (name : List ℕ) (line : ℕ) (pair : Pair)
-    → Puts a b (codes "fail " ++ (check_line command (record { name = name; line = line; failure = None }) ++ failure_text pair))
-    → w.text ≡ b.text → w.passed ≡ b.passed → w.failed ≡ b.failed + 1 → w.skipped ≡ b.skipped
-    → Tells a w command (record { name = name; line = line; failure = Some pair } ∷ [])
-tells_fail a b w command name line pair p t n f s = record {
-  text = t ∙ (p.text ∙ ap (λ xs. a.text ++ xs) (sym (append-nil (codes "fail " ++ (check_line command (record { name = name; line = line; failure = None }) ++ failure_text pair))) ∙ ap (λ ys. ys ++ []) (text_is command name line pair)));
-  passed = let z : a.passed + 0 ≡ a.passed = omega arith in n ∙ (p.passed ∙ sym z);
-  failed = f ∙ ap (λ k. k + 1) p.failed;
-  skipped = s ∙ p.skipped;
-}
-  where
-    text_is : (command : Command) (name : List ℕ) (line : ℕ) (pair : Pair) → codes "fail " ++ (check_line command (record { name = name; line = line; failure = None }) ++ failure_text pair) ≡ check_text command (record { name = name; line = line; failure = Some pair })
-    text_is command name line pair = sym (append_assoc (codes "fail ") (check_line command (record { name = name; line = line; failure = None })) (failure_text pair))
-
 -- ---- checks one after another
-
--- nothing is told yet
-pub tells_none : (a : Told) (command : Command) (cs : List Check) → TellsWith a a command cs cs
-tells_none a command cs = record { text = refl; passed = refl; failed = refl; skipped = refl }
 
 pub passed_both : (xs ys : List Check) → passed (xs ++ ys) ≡ passed xs + passed ys
 passed_both xs ys = ap length (filter-append _ xs ys) ∙ length-append _ _

@@ -1,5 +1,5 @@
 -- The report of a text, and why it has none.
-use Rattle.std.proofs.Common.{◌≡◌, ℕ, Bool, true, false, List, [], map, length, Result, Ok, Err, Option, Some, None, refl, sym, ap, subst, ◌∙◌, inl, inr, All, slice_get}
+use Rattle.std.proofs.Common.{◌≡◌, ℕ, Bool, true, false, List, map, length, Ok, Err, Option, refl, sym, ap, subst, ◌∙◌, inl, inr, All}
 use Rattle.std.specs.List.{list_any}
 use Rattle.std.proofs.lemmas.List.Elements.{All-from_recursion, All-same, All-weaker}
 use Rattle.clif_lex.specs.declared.faults.LexErr.{LexErr}
@@ -11,15 +11,12 @@ use Rattle.clif_lex.specs.Faults.{text_err_of}
 use Rattle.clif_lex.specs.Lexing.{tokens_of, Gives}
 use Rattle.clif_meaning.specs.Meaning.{HasBlocks}
 use Rattle.clif_meaning.proofs.ModuleLaws.{meant_is_module}
-use Rattle.clif_names.specs.FunctionNames.{NoFunctionFault}
-use Rattle.clif_read.specs.declared.raw.RawFunction.{RawFunction}
 use Rattle.clif_read.specs.declared.raw.RawModule.{RawModule}
 use Rattle.clif_read.specs.Stretches.{IsFirstFault}
 use Rattle.clif_read.specs.Texts.{IsModule, Stopped}
 use Rattle.clif_words.specs.Lexemes.{lexemes}
-use Rattle.clif_check.specs.Faults.{IsAcceptedRaw}
 use Rattle.ir_core.specs.Module.{Module}
-use Rattle.test_directives.specs.Tests.{all_tests, bad_line, commands, headers}
+use Rattle.test_directives.specs.Tests.{all_tests, commands, headers}
 use Rattle.test_directives.specs.Views.{command_of, function_of, IsBad, IsFile, IsPlaced}
 use Rattle.test_directives.specs.declared.commands.Command.{Command as CodeCommand}
 use Rattle.test_directives.specs.declared.tests.DirectiveErr.{DirectiveErr}
@@ -34,7 +31,7 @@ use Rattle.filetest.specs.Limits.{IsLimitedCommand}
 use Rattle.filetest.specs.Placing.{IsPlacedIn, ArePlaced}
 use Rattle.filetest.specs.Refusing.{of_directive_err, of_text_err, IsCheckRefusal}
 use Rattle.filetest.specs.Reporting.{IsReportOf}
-use Rattle.filetest.specs.Tested.{asked, is_verifier, needs_module, HasFaultLines, IsRaw, IsRefusal, IsReport, IsTestedModule}
+use Rattle.filetest.specs.Tested.{asked, is_verifier, needs_module, HasFaultLines, IsRefusal, IsReport, IsTestedModule}
 use Rattle.filetest.proofs.Limits.{commands_limited}
 use Rattle.filetest.proofs.Placing.{place_same}
 

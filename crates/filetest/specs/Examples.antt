@@ -1,5 +1,5 @@
 -- Worked tests of lines, and lines of a report.
-use Rattle.std.specs.Prelude.{◌≡◌, ℕ, List, [], ◌∷◌, Some, None, codes}
+use Rattle.std.specs.Prelude.{◌≡◌, List, [], ◌∷◌, Some, None, codes}
 use Rattle.test_directives.specs.Commands.{Cat}
 use Rattle.test_directives.specs.Directives.{Check, Nextln, Not}
 use Rattle.filetest.specs.LineTests.{Line, pair, end, failure, difference, lines_of}

@@ -1,5 +1,5 @@
 -- Commands within their limits.
-use Rattle.std.specs.Prelude.{ℕ, ◌≤◌, ⊤}
+use Rattle.std.specs.Prelude.{◌≤◌, ⊤}
 use Rattle.test_directives.specs.Commands as command
 use Rattle.test_directives.specs.Commands.{Command, InlineWords, most_size}
 

@@ -1,5 +1,5 @@
 -- What a report in the making is told.
-use Rattle.std.specs.Prelude.{◌≡◌, ℕ, ◌+◌, ◌≤◌, List, [], ◌++◌, length, flat_map}
+use Rattle.std.specs.Prelude.{◌≡◌, ℕ, ◌+◌, ◌≤◌, List, ◌++◌, length, flat_map}
 use Rattle.test_directives.specs.Commands.{Command}
 use Rattle.filetest.specs.Report.{Check, check_text, passed, failed}
 

@@ -1,8 +1,9 @@
 //! Checks of the first fault of each function.
-ghost use Rattle.std.specs.Prelude.{◌≡◌, ◌≤◌, [], ◌∷◌, length, map, option_map, reverse, IfOk, OnOk};
+ghost use Rattle.std.specs.Prelude.{◌≡◌, ◌≤◌, [], ◌∷◌, length, map, option_map, reverse, IfErr, IfOk, OnOk};
 ghost use Rattle.clif_lex.specs.Places.{line_at};
 ghost use Rattle.clif_meaning.specs.Meaning.{HasBlocks};
 ghost use Rattle.test_directives.specs.Views.{command_of, function_of};
+ghost use Rattle.filetest.specs.declared.testing.TestErr.TheVariants.{NoMemory};
 ghost use Rattle.filetest.specs.Checks as checks;
 ghost use Rattle.filetest.specs.FaultLines.{AreFaultLines, AreFaultSpots, IsFaultSpot};
 ghost use Rattle.filetest.specs.Ends.{unless};
@@ -22,7 +23,8 @@ use test_directives::{Command, FunctionTests};
 /// The spot of the first fault of a raw module, `None` where it is accepted.
 fn fault_spot(alloc: Global, raw: &RawModule) -> Result<Option<usize>, TestErr>
     requires { HasBlocks raw.now }
-    ensures { IfOk result (IsFaultSpot raw.now) }
+    ensures spot { IfOk result (IsFaultSpot raw.now) }
+    ensures memory { IfErr result (λ e. e ≡ NoMemory) }
 {
     match check_raw(alloc, raw) {
         Ok(_) => Ok(None),
@@ -55,7 +57,8 @@ fn reversed(spots: Vec<Option<usize>>) -> Vec<Option<usize>>
 /// The spots of the first faults of the functions, each taken as a module by itself. No function is copied.
 fn fault_spots(alloc: Global, raw: RawModule) -> Result<Vec<Option<usize>>, TestErr>
     requires { HasBlocks raw }
-    ensures { IfOk result (λ spots. AreFaultSpots raw spots.items) }
+    ensures spots { IfOk result (λ spots. AreFaultSpots raw spots.items) }
+    ensures memory { IfErr result (λ e. e ≡ NoMemory) }
 {
     let RawModule {
         mut headers,
@@ -128,7 +131,8 @@ pub(crate) fn fault_lines(
 ) -> Result<Vec<Option<u32>>, TestErr>
     requires short { length text.now ≤ 4294967294 }
     requires blocks { HasBlocks raw }
-    ensures { IfOk result (λ lines. AreFaultLines text.now raw lines.items) }
+    ensures lines { IfOk result (λ lines. AreFaultLines text.now raw lines.items) }
+    ensures memory { IfErr result (λ e. e ≡ NoMemory) }
 {
     let spots = fault_spots(alloc, raw)?;
     Ok(lines_of_spots(alloc, text, spots.as_slice())?)

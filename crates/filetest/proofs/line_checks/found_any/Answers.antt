@@ -1,4 +1,4 @@
-use Rattle.std.proofs.Common.{◌∙◌, ap}
+use Rattle.std.proofs.Common.{◌∙◌}
 use Rattle.filetest.proofs.LineChecking.{finds_text, lacks_text}
 use Rattle.filetest.proofs.line_checks.found_any.Goals as goal
 

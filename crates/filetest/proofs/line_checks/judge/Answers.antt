@@ -1,10 +1,9 @@
-use Rattle.std.proofs.Common.{◌≡◌, ◌∙◌, ap, sym, subst, take, refl, Some, None}
+use Rattle.std.proofs.Common.{◌≡◌, ◌∙◌, ap, sym, take, Some, None}
 use Rattle.std.proofs.lemmas.List.{take-map}
 use Rattle.filetest.specs.LineTests.{found_any}
 use Rattle.filetest.specs.Views.{lines_of, texts_of, pair_of}
-use Rattle.filetest.specs.Taking.{IsTaken}
 use Rattle.test_directives.specs.Views.{line_test_of}
-use Rattle.filetest.proofs.LineChecking.{takes, fails_before, fails_by_not, fails_itself}
+use Rattle.filetest.proofs.LineChecking.{takes, fails_before}
 use Rattle.filetest.proofs.line_checks.judge.Goals as goal
 
 pub returns-in-Some-2 : goal.returns-in-Some-2

@@ -1,8 +1,7 @@
-use Rattle.std.proofs.Common.{◌≡◌, ◌<◌, ◌+◌, ◌∙◌, ℕ, List, ap, sym, length, arith, length-drop}
+use Rattle.std.proofs.Common.{◌+◌, ◌∙◌, ℕ, List, ap, sym, length, arith, length-drop}
 use Rattle.std.proofs.lemmas.List.{length-map, take_rest}
 use denote.Ref.{Bor}
-use Rattle.filetest.specs.Views.{lines_of}
-use Rattle.filetest.proofs.LineChecking.{after_take_as, after_not_as, is_not_true}
+use Rattle.filetest.proofs.LineChecking.{after_take_as, after_not_as}
 use Rattle.filetest.proofs.line_checks.lines_failure.Goals as goal
 use Rattle.filetest.proofs.line_checks.lines_failure.Goals.{then-not-is_not+in_ok-pair+in-Takes, else-not-is_not}
 

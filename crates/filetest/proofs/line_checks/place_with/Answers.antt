@@ -1,5 +1,4 @@
-use Rattle.std.proofs.Common.{arith}
-use Rattle.filetest.proofs.LineChecking.{none_more, line_has}
+use Rattle.filetest.proofs.LineChecking.{none_more}
 use Rattle.filetest.proofs.line_checks.place_with.Goals as goal
 
 pub loop-i-preserved : goal.loop-i-preserved

@@ -1,4 +1,4 @@
-use Rattle.std.proofs.Common.{◌≡◌, ap, sym, subst}
+use Rattle.std.proofs.Common.{subst}
 use Rattle.filetest.specs.Taking.{IsPlaceWith}
 use Rattle.filetest.specs.Views.{lines_of}
 use Rattle.filetest.proofs.LineChecking.{other_takes}

@@ -24,7 +24,7 @@ returns-in-Run c = on_ok_weaker _ (carried_as c.args.checked.now (map function_o
     (ap command_of c.in-Run.is) refl refl) c.check_runs-in-Run.ensures
 
 pub check_inlined-requires : goal.check_inlined-requires
-check_inlined-requires c = policy_limited _ (command_of c.args.command.now) _ (ap command_of c.in-Inline.is) refl refl c.requires.limited
+check_inlined-requires c = record { limited = policy_limited _ (command_of c.args.command.now) _ (ap command_of c.in-Inline.is) refl refl c.requires.limited }
 
 pub returns-in-Inline : goal.returns-in-Inline
 returns-in-Inline c = on_ok_weaker _ (carried_as c.args.checked.now (map function_of c.args.tests.now) c.args.faults.now c.args.out.now c.check_inlined.new.out (command_of c.args.command.now) _ _

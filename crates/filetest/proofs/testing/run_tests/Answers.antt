@@ -1,5 +1,5 @@
 use Rattle.std.proofs.Common.{◌∙◌, sym, subst}
-use Rattle.std.proofs.lemmas.Result.{err_from_is_err_and, IfOk-weaker}
+use Rattle.std.proofs.lemmas.Result.{err_from_is_err_and}
 use Rattle.clif_resolve.proofs.BlockWords.{text_has_blocks}
 use Rattle.filetest.specs.Tested.{HasFaultLines, IsRefusal}
 use Rattle.filetest.proofs.Whole.{all_limited, all_placed, whole_report, refused_module, refused_tokens, refused_text, refused_directive, refused_memory}
@@ -23,17 +23,17 @@ report_of-requires-clause-placed c = all_placed c.args.text.now c.in_ok-tokens.t
     c.in_ok-checked.ensures.tested c.as_slice-functions.ensures.value
 
 pub returns-in_err-tokens-clause-refused : goal.returns-in_err-tokens-clause-refused
-returns-in_err-tokens-clause-refused c = let p = err_from_is_err_and c.from_residual.result c.from_residual.ensures.1 in rw p.1 (refused_tokens c.args.text.now c.in_err-tokens.field-0 p.0 c.in_err-tokens.ensures.tokens p.2)
+returns-in_err-tokens-clause-refused c = let p = err_from_is_err_and c.from_residual.result c.from_residual.ensures.1 in rw p.1 (refused_tokens c.args.text.now c.in_err-tokens.field-0.0 p.0 c.in_err-tokens.ensures.tokens p.2)
 
 pub returns-in_err-raw-clause-refused : goal.returns-in_err-raw-clause-refused
-returns-in_err-raw-clause-refused c = let p = err_from_is_err_and c.from_residual-in_err-raw.result c.from_residual-in_err-raw.ensures.1 in rw p.1 (refused_text c.args.text.now c.in_ok-tokens.tokens c.in_err-raw.field-0 p.0 c.in_ok-tokens.ensures.tokens c.in_err-raw.ensures.stop p.2)
+returns-in_err-raw-clause-refused c = let p = err_from_is_err_and c.from_residual-in_err-raw.result c.from_residual-in_err-raw.ensures.1 in rw p.1 (refused_text c.args.text.now c.in_ok-tokens.tokens c.in_err-raw.field-0.0 p.0 c.in_ok-tokens.ensures.tokens c.in_err-raw.ensures.stop p.2)
 
 pub returns-in_err-file-clause-refused : goal.returns-in_err-file-clause-refused
-returns-in_err-file-clause-refused c = let p = err_from_is_err_and c.from_residual-in_err-file.result c.from_residual-in_err-file.ensures.1 in rw p.1 (refused_directive c.args.text.now c.in_ok-tokens.tokens c.in_ok-raw.raw c.in_err-file.field-0 p.0 c.in_ok-tokens.ensures.tokens c.in_ok-raw.ensures.found c.in_err-file.ensures.bad p.2)
+returns-in_err-file-clause-refused c = let p = err_from_is_err_and c.from_residual-in_err-file.result c.from_residual-in_err-file.ensures.1 in rw p.1 (refused_directive c.args.text.now c.in_ok-tokens.tokens c.in_ok-raw.raw c.in_err-file.field-0.0 p.0 c.in_ok-tokens.ensures.tokens c.in_ok-raw.ensures.found c.in_err-file.ensures.bad p.2)
 
 pub returns-in_err-checked-clause-refused : goal.returns-in_err-checked-clause-refused
 returns-in_err-checked-clause-refused c = let p = err_from_is_err_and c.from_residual-in_err-checked.result c.from_residual-in_err-checked.ensures.1 in
-    rw p.1 (subst (IsRefusal c.args.text.now) (sym p.2) (refused_module c.args.text.now c.in_ok-tokens.tokens c.in_ok-raw.raw c.in_ok-file.file c.in_ok-file.ensures.file _ c.is_module_needed.result c.in_err-checked.field-0
+    rw p.1 (subst (IsRefusal c.args.text.now) (sym p.2) (refused_module c.args.text.now c.in_ok-tokens.tokens c.in_ok-raw.raw c.in_ok-file.file c.in_ok-file.ensures.file _ c.is_module_needed.result c.in_err-checked.field-0.0
     c.in_ok-tokens.ensures.tokens c.in_ok-raw.ensures.found c.as_slice-commands.ensures.value c.is_module_needed.ensures c.in_err-checked.ensures.refused))
 
 pub returns-in_err-faults-clause-refused : goal.returns-in_err-faults-clause-refused

@@ -1,4 +1,4 @@
-use Rattle.std.proofs.Common.{◌≡◌, ◌<◌, ◌≤◌, length, map, arith, min}
+use Rattle.std.proofs.Common.{◌≤◌, length, map, arith, min}
 use Rattle.std.proofs.lemmas.List.{length-map}
 use Rattle.test_directives.specs.Views.{command_of, function_of}
 use Rattle.filetest.proofs.Telling.{tells_all}

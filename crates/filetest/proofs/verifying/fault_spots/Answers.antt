@@ -1,4 +1,4 @@
-use Rattle.std.proofs.Common.{◌≡◌, ◌∙◌, ◌∷◌, [], length, sym, subst, ap, arith}
+use Rattle.std.proofs.Common.{◌∙◌, ◌∷◌, [], length, sym, subst, ap, arith}
 use Rattle.std.proofs.lemmas.List.{length_push}
 use Rattle.clif_meaning.specs.Meaning.{HasBlocks}
 use Rattle.filetest.specs.FaultLines.{AreFaultSpots, IsFaultSpot}
@@ -22,14 +22,14 @@ functions-preserved c =
       left = fewer_left c.args.raw old new c.in-Some.func e h;
       count = omega (arith, one_fewer c.args.raw old new c.in-Some.func e h, c.functions.invariant.count, ap length c.in_ok-push.ensures.items, length_push c.functions.spots.items c.in_ok-spot.spot);
       each = rw c.in_ok-push.ensures.items (spots_more c.args.raw old new c.in-Some.func e h c.functions.spots.items c.in_ok-spot.spot c.functions.invariant.count
-          (subst (λ r. IsFaultSpot r c.in_ok-spot.spot) same c.in_ok-spot.ensures) c.functions.invariant.each);
+          (subst (λ r. IsFaultSpot r c.in_ok-spot.spot) same c.in_ok-spot.ensures.spot) c.functions.invariant.each);
     }
 
 pub functions-smaller : goal.functions-smaller
 functions-smaller c = omega (arith, one_fewer c.args.raw c.functions.left.items c.pop.new.self.items c.in-Some.func c.in-Some.ensures.items c.functions.invariant.left)
 
-pub returns : goal.returns
-returns c =
+pub returns-clause-spots : goal.returns-clause-spots
+returns-clause-spots c =
     let spots = c.functions.spots.items in
     subst (AreFaultSpots c.args.raw) (sym c.reversed.ensures)
     (spots_in_order c.args.raw spots (omega (arith, c.in_default.ensures.cases.0, c.functions.left.ok.0, c.functions.invariant.count)) c.functions.invariant.each)

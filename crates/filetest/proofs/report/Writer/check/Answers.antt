@@ -1,9 +1,6 @@
-use Rattle.std.proofs.Common.{◌≡◌, ◌∙◌, ◌++◌, ◌<◌, length, codes, refl, sym, ap, arith, None, Some, length-append}
-use Rattle.test_directives.specs.Views.{command_of}
-use Rattle.filetest.specs.Report.{check_line, failure_text}
+use Rattle.std.proofs.Common.{length, ap, arith}
 use Rattle.filetest.specs.Telling.{Told}
-use Rattle.filetest.specs.Views.{pair_of}
-use Rattle.filetest.proofs.Telling.{puts_both, room, tells_pass, tells_fail}
+use Rattle.filetest.proofs.Telling.{puts_both, room}
 use Rattle.filetest.proofs.report.Writer.check.Goals as goal
 
 pub invariant_of-self : goal.invariant_of-self

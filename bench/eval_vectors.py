@@ -2,8 +2,8 @@
 """Writes the vectors of the test of `eval`: operands, and the results that Python's own integers give.
 
 Run at the top of the repository:
-    python3 bench/eval_vectors.py narrow > crates/clk_num/src/operations/narrow_vectors.rt
-    python3 bench/eval_vectors.py wide > crates/clk_num/src/operations/wide_vectors.rt
+    python3 bench/eval_vectors.py narrow > crates/leaf_tests/src/narrow_vectors.rt
+    python3 bench/eval_vectors.py wide > crates/leaf_tests/src/wide_vectors.rt
 
 The narrow ones are those of i8, i16 and i32, the wide ones those of i64 and i128.
 

@@ -8,6 +8,3 @@ mod state;
 
 pub use row::Row;
 pub use state::{BoardEvent, BoardState, Mark, Phase, step};
-
-#[cfg(test)]
-mod tests;

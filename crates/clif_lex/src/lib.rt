@@ -9,8 +9,6 @@ mod lines;
 mod numbers;
 mod places;
 mod spans;
-#[cfg(test)]
-mod tests;
 
 pub use faults::{LexErr, Place, TextErr, TextKind};
 pub use lexing::{tokens, tokens_between};

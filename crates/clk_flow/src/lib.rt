@@ -11,6 +11,3 @@ pub use adapters::{StdSink, StdSource};
 pub use memory::{MemSink, MemSource, NullSink, SureSource};
 pub use traits::{Failed, Gate, NoGate, Sink, Source};
 pub use whole::{ReadErr, put, read_whole};
-
-#[cfg(test)]
-mod tests;

@@ -17,13 +17,6 @@ use crate::division::{sdiv, srem, udiv, urem};
 use crate::op::{Op, TrapCode};
 use crate::shifts::{ishl, rotl, rotr, sshr, ushr};
 
-#[cfg(test)]
-mod narrow_vectors;
-#[cfg(test)]
-mod tests;
-#[cfg(test)]
-mod wide_vectors;
-
 /// The result of an operation: one value, two values, or a trap.
 #[derive(Clone, Copy, Debug, PartialEq, Eq)]
 pub enum Evaled {

@@ -108,38 +108,3 @@ impl<T: PartialEq> PartialEq for Table<T> {
 impl<T: Eq> Eq for Table<T> {
     ghost laws = { lists_equiv (Prim.search (comparing, rules, T.Eq.laws)) };
 }
-
-#[cfg(test)]
-mod tests {
-    use super::*;
-
-    fn entry(tag: Option<u32>, target: u8) -> Entry<u8>
-        ensures { (result.tag ≡ tag) × (result.target ≡ target) }
-    {
-        Entry { tag, target }
-    }
-
-    /// `[ tag1: 10, default: 20, tag2: 30 ]`, behind it `[ tag3: 40 ]`: `default` hides what stands behind it.
-    #[test]
-    fn first_match_is_taken(rt: HostRuntime) -> Result<(), AllocError> {
-        let alloc = rt.alloc();
-        let inner = Table::new(vec![in alloc;
-            entry(Some(1), 10),
-            entry(None, 20),
-            entry(Some(2), 30),
-        ]?);
-        let outer = Table::new(vec![in alloc; entry(Some(3), 40)]?);
-        assert_eq!(rt; inner.find(1), Some(0));
-        assert_eq!(rt; inner.find(2), Some(1));
-        assert_eq!(rt; outer.find(2), None);
-
-        let both = joined(alloc, &inner, &outer)?;
-        assert_eq!(rt; both.entries().len(), 4);
-        assert_eq!(rt; both.find(3), Some(1));
-        let back = joined(alloc, &outer, &inner)?;
-        assert_eq!(rt; back.find(3), Some(0));
-        assert!(rt; back.clone()? == back);
-        assert!(rt; both.into_entries() != back.into_entries());
-        Ok(())
-    }
-}

@@ -11,8 +11,6 @@ pub mod laws;
 mod lists;
 mod memory;
 mod running;
-#[cfg(test)]
-mod tests;
 mod text;
 mod values;
 

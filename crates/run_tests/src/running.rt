@@ -2,7 +2,6 @@
 ghost use Rattle.std.specs.Prelude.{◌≡◌, IfOk};
 ghost use Rattle.ir_core.specs.Sound.{IsWhole};
 
-use super::*;
 use byte_store::Memory;
 use clk_flow::MemSink;
 use clk_num::{Bits, TrapCode, Width};
@@ -11,6 +10,9 @@ use host_script::Script;
 use ir_check::{Checked, check};
 use ir_core::{
     Conv, Ext, Func, FuncName, Inst, InstData, List, Module, Param, Purpose, Sig, Ty, Values,
+};
+use program_run::{
+    End, Event, Outcome, RunErr, Shown, end_line, event_line, print_run, run_spelled, run_text,
 };
 use std::alloc::{AllocError, Global};
 

@@ -1,11 +1,7 @@
 //! The vectors that bench/eval_vectors.py writes, which has its own integers, against `eval`.
-use super::narrow_vectors::NARROW;
-use super::wide_vectors::WIDE;
-use super::{Evaled, eval};
-use crate::bits::Bits;
-use crate::op::{Cc, Op, TrapCode};
-use crate::rows::fits;
-use crate::width::Width;
+use crate::narrow_vectors::NARROW;
+use crate::wide_vectors::WIDE;
+use clk_num::{Bits, Cc, Evaled, Op, TrapCode, Width, eval, fits};
 use std::test::Fail;
 
 static UNARY: [Op; 21] = [

@@ -1,6 +1,6 @@
 //! What no clause says: that the definitions are what the text form of CLIF asks for, and that tokens are given.
 
-use crate::{TextErr, TextKind, TokenKind, next_line_with, place, tokens, tokens_between};
+use clif_lex::{TextErr, TextKind, TokenKind, next_line_with, place, tokens, tokens_between};
 use std::alloc::AllocError;
 
 const HEADER: TokenKind = TokenKind::Header;

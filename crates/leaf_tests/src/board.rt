@@ -4,7 +4,7 @@ ghost use Rattle.board_core.specs.Machine.{start, answers};
 ghost use Rattle.board_core.specs.declared.state.Mark.TheVariants.{Body, Refused};
 ghost use Rattle.board_core.specs.declared.state.BoardEvent.TheVariants.{Draw, BeginFill, EndFill, BeginRead, EndRead};
 
-use super::*;
+use board_core::{BoardEvent, BoardState, Mark, Phase, laws, step};
 use std::alloc::AllocError;
 
 fn worked_run()

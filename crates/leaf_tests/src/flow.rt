@@ -1,5 +1,8 @@
 //! What no clause says: that calls succeed where memory is left, and one fault in mid-stream.
-use super::*;
+use clk_flow::{
+    Failed, Gate, MemSink, MemSource, NoGate, NullSink, ReadErr, StdSink, StdSource, SureSource,
+    put, read_whole,
+};
 use std::alloc::AllocError;
 
 const DIGITS: &[u8] = b"0123456789";

@@ -15,7 +15,7 @@ use crate::filling::Filling;
 use crate::types::value_types;
 use clif_lines::{WordNumbers, func_name, signature};
 use clif_names::FunctionNames;
-use clif_read::{RawBlock, RawFunction};
+use clif_read::{RawBlock, RawFunction, RawLine};
 use ir_core::{Callee, Func, List, Room, Sig, SlotDecl, Ty};
 use std::alloc::{AllocError, Global};
 
@@ -169,7 +169,20 @@ fn declare_values(alloc: Global, func: &mut Func, types: &[Ty]) -> Result<(), Al
     Ok(())
 }
 
-/// Adds an empty block for each that is written.
+/// How many instructions stand in these blocks.
+fn instruction_count(blocks: &[RawBlock]) -> usize {
+    let mut count = 0usize;
+    for block in blocks {
+        for line in block.lines.as_slice() {
+            if let RawLine::Inst { .. } = line {
+                count = count.saturating_add(1);
+            }
+        }
+    }
+    count
+}
+
+/// Adds an empty block for each that is written, and makes room for their instructions.
 fn add_blocks(func: &mut Func, blocks: &[RawBlock]) -> Result<(), AllocError>
     requires none { func.old.function.blocks ≡ [] }
     requires few { length blocks.now < 2 ^ 32 - 1 }
@@ -182,7 +195,7 @@ fn add_blocks(func: &mut Func, blocks: &[RawBlock]) -> Result<(), AllocError>
         callees: 0,
         values: 0,
         blocks: blocks.len(),
-        insts: 0,
+        insts: instruction_count(blocks),
     })?;
     add_each_block(func, blocks)
 }

@@ -22,6 +22,20 @@ use debug_tags::Tags;
 use std::alloc::{AllocError, Global};
 use std::mem;
 
+/// Makes room for so many more items: in an empty list for these alone, in another for more, so that many calls of
+/// little room each stay cheap.
+fn reserve_more<T>(list: &mut Vec<T>, additional: usize) -> Result<(), AllocError>
+    ensures items { list.new.items ≡ list.old.items }
+    ensures ok { OnOk result (vec_len list.new + additional ≤ vec_capacity list.new) }
+    ensures grows { vec_capacity list.old ≤ vec_capacity list.new }
+{
+    if list.is_empty() {
+        list.reserve_exact(additional)
+    } else {
+        list.reserve(additional)
+    }
+}
+
 impl Func {
     /// Makes room for so many more of each kind. All lists are as before, and no room shrinks. Only `AllocError`
     /// refuses.
@@ -30,12 +44,12 @@ impl Func {
         ensures ok { OnOk result (HasRoom room self.new.room) }
         ensures grows { HasRoom self.old.room self.new.room }
     {
-        self.slots.reserve(room.slots)?;
-        self.sigs.reserve(room.sigs)?;
-        self.callees.reserve(room.callees)?;
-        self.types.reserve(room.values)?;
-        self.blocks.reserve(room.blocks)?;
-        self.insts.reserve(room.insts)?;
+        reserve_more(&mut self.slots, room.slots)?;
+        reserve_more(&mut self.sigs, room.sigs)?;
+        reserve_more(&mut self.callees, room.callees)?;
+        reserve_more(&mut self.types, room.values)?;
+        reserve_more(&mut self.blocks, room.blocks)?;
+        reserve_more(&mut self.insts, room.insts)?;
         Ok(())
     }
 

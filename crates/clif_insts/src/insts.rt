@@ -17,10 +17,12 @@ use crate::opening::Opening;
 use crate::raw::{RawInst, RawName, RawOperands};
 use crate::reader::Reader;
 use crate::stop::Stop;
-use clif_lex::Tokens;
+use clif_lex::{TextKind, Tokens};
 use clif_words::Class;
 use ir_core::List;
 use std::alloc::Global;
+use std::error::Error;
+use std::fmt;
 
 /// Why the tokens are no instruction, and at which token of the list. At the end it is the list's length.
 #[derive(Clone, Copy, Debug, PartialEq, Eq)]
@@ -34,6 +36,23 @@ pub enum SyntaxErr {
     /// Memory ran out.
     NoMemory,
 }
+
+impl fmt::Display for SyntaxErr {
+    fn fmt<W: fmt::Write>(&self, f: &mut fmt::Formatter<W>) -> fmt::Result {
+        match self {
+            SyntaxErr::Syntax(place) => write!(f, "{} at token {place}", TextKind::Syntax),
+            SyntaxErr::UnknownOpcode(place) => {
+                write!(f, "{} at token {place}", TextKind::UnknownOpcode)
+            }
+            SyntaxErr::Unsupported(place) => {
+                write!(f, "{} at token {place}", TextKind::Unsupported)
+            }
+            SyntaxErr::NoMemory => write!(f, "out of memory"),
+        }
+    }
+}
+
+impl Error for SyntaxErr {}
 
 /// The error of a stop at a token.
 fn error_at(stop: Stop, place: usize) -> SyntaxErr

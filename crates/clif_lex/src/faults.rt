@@ -4,6 +4,8 @@ ghost use Rattle.std.specs.Prelude.{◌≡◌};
 ghost use Rattle.clif_lex.specs.declared.faults.LexErr.TheVariants.{NoMemory};
 
 use std::alloc::{AllocError, AllocFailed};
+use std::error::Error;
+use std::fmt;
 
 /// Why a text has no tokens: the first fault, with the byte at which it stands.
 #[derive(Clone, Copy, Debug, PartialEq, Eq)]
@@ -15,6 +17,18 @@ pub enum LexErr {
     /// Memory ran out.
     NoMemory,
 }
+
+impl fmt::Display for LexErr {
+    fn fmt<W: fmt::Write>(&self, f: &mut fmt::Formatter<W>) -> fmt::Result {
+        match self {
+            LexErr::BadChar(spot) => write!(f, "{} at byte {spot}", TextKind::BadChar),
+            LexErr::BadNumber(spot) => write!(f, "{} at byte {spot}", TextKind::BadNumber),
+            LexErr::NoMemory => write!(f, "out of memory"),
+        }
+    }
+}
+
+impl Error for LexErr {}
 
 impl From<AllocError> for LexErr {
     ghost from_gives = { λ _ e. e ≡ NoMemory };
@@ -88,6 +102,32 @@ impl TextKind {
     }
 }
 
+impl fmt::Display for TextKind {
+    fn fmt<W: fmt::Write>(&self, f: &mut fmt::Formatter<W>) -> fmt::Result {
+        f.write_str(match self {
+            TextKind::BadChar => "no token begins here",
+            TextKind::BadNumber => "this is neither a number nor a source location",
+            TextKind::Syntax => "the text does not go on like this",
+            TextKind::UnknownOpcode => "there is no such opcode",
+            TextKind::Unsupported => "this part of CLIF is left out",
+            TextKind::Duplicate => "the name is defined before",
+            TextKind::Undefined => "the name is not defined",
+            TextKind::NumberRange => "the number is too large or too small",
+            TextKind::Untyped => "the type is not known from the lines before",
+            TextKind::TooLarge => "the function or the module is too large",
+            TextKind::NoTerminator => "the block does not end with its one terminator",
+            TextKind::EntryTarget => "the entry block is the target of a branch",
+            TextKind::CountMismatch => "there are more or fewer values than wanted",
+            TextKind::TypeMismatch => "a value has another type than wanted",
+            TextKind::Convention => "the calling convention does not allow this",
+            TextKind::SignatureMismatch => "the signature is not that of the callee",
+            TextKind::SlotRange => "the access leaves its stack slot",
+            TextKind::TagPlace => "debug tags cannot stand here",
+            TextKind::NotAvailable => "a path leads here that does not define the value",
+        })
+    }
+}
+
 /// Why a text is not read.
 #[derive(Clone, Copy, Debug, PartialEq, Eq)]
 pub enum TextErr {
@@ -96,6 +136,17 @@ pub enum TextErr {
     /// Memory ran out.
     NoMemory,
 }
+
+impl fmt::Display for TextErr {
+    fn fmt<W: fmt::Write>(&self, f: &mut fmt::Formatter<W>) -> fmt::Result {
+        match self {
+            TextErr::Fault { kind, spot } => write!(f, "{kind} at byte {spot}"),
+            TextErr::NoMemory => write!(f, "out of memory"),
+        }
+    }
+}
+
+impl Error for TextErr {}
 
 impl From<LexErr> for TextErr {
     ghost use Rattle.clif_lex.specs.Faults.{text_err_of};

@@ -5,9 +5,20 @@ ghost use Rattle.std.specs.Io.{ReadsAtMost, WritesAtMost};
 ghost use Rattle.std.specs.Io.KnownBytes.{ReadConsumes, WriteAppends};
 ghost use Rattle.clk_flow.specs.Faults.{HasCause};
 
+use std::error::Error;
+use std::fmt;
+
 /// A read or a write that did not happen. The count of faults of its source or sink says so too.
 #[derive(Clone, Copy, PartialEq, Eq, Debug)]
 pub struct Failed;
+
+impl fmt::Display for Failed {
+    fn fmt<W: fmt::Write>(&self, f: &mut fmt::Formatter<W>) -> fmt::Result {
+        write!(f, "a read or a write failed")
+    }
+}
+
+impl Error for Failed {}
 
 /// Bytes to be taken, from the front on.
 pub trait Source {

@@ -7,6 +7,8 @@ ghost use Rattle.clk_flow.specs.declared.whole.ReadErr.TheVariants as why;
 
 use crate::traits::{Failed, Sink, Source};
 use std::alloc::Global;
+use std::error::Error;
+use std::fmt;
 
 /// Why a source was not read whole.
 #[derive(Clone, Copy, PartialEq, Eq, Debug)]
@@ -18,6 +20,18 @@ pub enum ReadErr {
     /// There was no memory.
     NoMemory,
 }
+
+impl fmt::Display for ReadErr {
+    fn fmt<W: fmt::Write>(&self, f: &mut fmt::Formatter<W>) -> fmt::Result {
+        match self {
+            ReadErr::Failed => write!(f, "a read failed"),
+            ReadErr::TooLong => write!(f, "there are more bytes than the limit"),
+            ReadErr::NoMemory => write!(f, "out of memory"),
+        }
+    }
+}
+
+impl Error for ReadErr {}
 
 /// The most bytes that are asked for at once.
 const CHUNK: usize = 65_536;

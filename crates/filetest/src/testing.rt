@@ -43,7 +43,7 @@ impl fmt::Display for TestErr {
     fn fmt<W: fmt::Write>(&self, f: &mut fmt::Formatter<W>) -> fmt::Result {
         match self {
             TestErr::BadDirective(line) => write!(f, "line {line} has a bad directive"),
-            TestErr::Text { spot, .. } => write!(f, "the text has a fault at byte {spot}"),
+            TestErr::Text { kind, spot } => write!(f, "{kind} at byte {spot}"),
             TestErr::NoMemory => write!(f, "out of memory"),
         }
     }

@@ -18,6 +18,8 @@ use clif_insts::Stop;
 use host_script::{Reply, Script};
 use ir_core::List;
 use std::alloc::{AllocError, AllocFailed, Global};
+use std::error::Error;
+use std::fmt;
 
 /// Why a text is not read.
 #[derive(Clone, Copy, Debug, PartialEq, Eq)]
@@ -27,6 +29,20 @@ pub enum ScriptErr {
     /// Memory ran out.
     NoMemory,
 }
+
+impl fmt::Display for ScriptErr {
+    fn fmt<W: fmt::Write>(&self, f: &mut fmt::Formatter<W>) -> fmt::Result {
+        match self {
+            ScriptErr::BadScript(spot) => write!(
+                f,
+                "the script does not go on like this at byte {spot}"
+            ),
+            ScriptErr::NoMemory => write!(f, "out of memory"),
+        }
+    }
+}
+
+impl Error for ScriptErr {}
 
 impl From<AllocError> for ScriptErr {
     ghost from_gives = { λ _ e. e ≡ NoMemory };

@@ -62,7 +62,11 @@ fn number_of_colocated(colocated: bool) -> u32
 pub(crate) fn callee_key(alloc: Global, callee: &Callee, sig: u32) -> Result<Vec<u32>, AllocError>
     ensures { IfOk result (λ key. key.items ≡ key_of_callee sig callee.now) }
 {
-    let mut key = Vec::new(alloc);
+    let length = match &callee.name {
+        FuncName::Text(text) => text.as_slice().len(),
+        FuncName::User(_, _) => 2,
+    };
+    let mut key = Vec::with_capacity(alloc, length.saturating_add(3))?;
     key.push(sig)?;
     key.push(number_of_colocated(callee.colocated))?;
     push_name(&mut key, &callee.name)?;

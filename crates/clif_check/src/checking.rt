@@ -43,7 +43,8 @@ pub fn check_text<R: Threads + Sync>(
     }
 }
 
-/// The accepted module that a text is, read stretch by stretch and checked by so many workers. `None` where it is none, or cannot be read so.
+/// The accepted module that a text is, read stretch by stretch and checked by so many workers. `None` where it is none,
+/// or cannot be read so.
 fn check_in_stretches<R: Threads + Sync>(
     rt: &R,
     alloc: Global,

@@ -62,6 +62,9 @@ impl<'t> Ranges<Func> for TextRanges<'t> {
     ghost ordered = { λ ranges from to range. range.ordered };
 }
 
+/// After so many functions the memory of their places in a list is given back.
+const GIVEN_BACK: usize = 4_096;
+
 /// The module that has these functions. `None` where there are too many or two have one name, or memory runs out.
 fn module_of(alloc: Global, functions: Vec<Func>) -> Option<Module>
     requires { Each (λ func. IsWhole func.function) functions.items }
@@ -78,6 +81,9 @@ fn module_of(alloc: Global, functions: Vec<Func>) -> Option<Module>
     'functions: while let Some(func) = left.pop() {
         if module.find(func.name()).is_some() || module.push(func).is_err() {
             return None;
+        }
+        if left.len() % GIVEN_BACK == 0 {
+            left.shrink_to_fit();
         }
     }
     Some(module)

@@ -96,7 +96,7 @@ pub fn func_numbers(alloc: Global, func: &Func) -> Result<FuncNumbers, AllocErro
 fn definitions(alloc: Global, func: &Func) -> Result<Vec<u32>, AllocError>
     ensures { IfOk result (λ values. values.items ≡ definitions func.now.function.blocks) }
 {
-    let mut order = Vec::new(alloc);
+    let mut order = Vec::with_capacity(alloc, func.values())?;
     for block in func.blocks() {
         append_values(&mut order, func.params(block))?;
         append_results(&mut order, func.inst_slice(block))?;

@@ -1,4 +1,4 @@
--- Ends that are wanted.
+-- The lines of events.
 use Rattle.std.proofs.Common.{◌≡◌, List, [], ◌∷◌, refl, ap, map}
 use Rattle.interp.specs.declared.outcome.Event.{Event as CodeEvent}
 use Rattle.interp.specs.Outcome.{event_of}

@@ -166,7 +166,7 @@ pub fn inline_lines(
     ensures { IfOk result
         (λ list. map line_of list ≡ inlined_lines names.now outer.now after results.now (map line_of lines.now)) }
 {
-    let mut list = Vec::new(alloc);
+    let mut list = Vec::with_capacity(alloc, lines.len().saturating_add(1))?;
     for line in lines {
         push_inlined(alloc, names, outer, after, results, line, &mut list)?;
     }
@@ -183,7 +183,7 @@ pub fn copy_lines(
     requires { Each (Reached names.now) (map line_of lines.now) }
     ensures { IfOk result (λ list. map line_of list ≡ map (copied_line names.now outer.now) (map line_of lines.now)) }
 {
-    let mut list = Vec::new(alloc);
+    let mut list = Vec::with_capacity(alloc, lines.len())?;
     for line in lines {
         list.push(copy_line(alloc, names, outer, line)?)?;
     }

@@ -104,8 +104,7 @@ pub fn new_types(
 ) -> Result<List<Ty>, AllocError>
     ensures { IfOk result (λ list. list ≡ map (λ t. t.1) callee.now.function.types ++ repeated tail_calls results.now) }
 {
-    let mut list = Vec::new(alloc);
-    let _ = callee.values();
+    let mut list = Vec::with_capacity(alloc, callee.values())?;
     for value in 0..callee.values() {
         list.push(callee.ty(Value::new(value as u32)))?;
     }

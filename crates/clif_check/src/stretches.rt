@@ -65,6 +65,15 @@ impl<'t> Ranges<Func> for TextRanges<'t> {
 /// After so many functions the memory of their places in a list is given back.
 const GIVEN_BACK: usize = 4_096;
 
+/// Gives back the memory of places without a function, now and then.
+fn give_back(functions: &mut Vec<Func>)
+    ensures { functions.new.items ≡ functions.old.items }
+{
+    if functions.len() % GIVEN_BACK == 0 {
+        functions.shrink_to_fit();
+    }
+}
+
 /// The module that has these functions. `None` where there are too many or two have one name, or memory runs out.
 fn module_of(alloc: Global, functions: Vec<Func>) -> Option<Module>
     requires { Each (λ func. IsWhole func.function) functions.items }
@@ -78,13 +87,14 @@ fn module_of(alloc: Global, functions: Vec<Func>) -> Option<Module>
     let mut left = functions;
     left.reverse();
     let mut module = Module::new(alloc);
+    if module.reserve(left.len()).is_err() {
+        return None;
+    }
     'functions: while let Some(func) = left.pop() {
         if module.find(func.name()).is_some() || module.push(func).is_err() {
             return None;
         }
-        if left.len() % GIVEN_BACK == 0 {
-            left.shrink_to_fit();
-        }
+        give_back(&mut left);
     }
     Some(module)
 }

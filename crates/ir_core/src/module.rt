@@ -47,6 +47,13 @@ impl Module {
         }
     }
 
+    /// Makes room for so many more functions. Only `AllocError` refuses.
+    pub fn reserve(&mut self, additional: usize) -> Result<(), AllocError>
+        ensures { self.new ≡ self.old }
+    {
+        self.funcs.reserve(additional)
+    }
+
     /// Appends a whole function, whose name no function of the module has. Only `AllocError` refuses; then the function
     /// is dropped.
     pub fn push(&mut self, func: Func) -> Result<(), AllocError>

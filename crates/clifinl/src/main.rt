@@ -4,6 +4,8 @@
 mod command;
 mod commands;
 mod generating;
+#[cfg(test)]
+mod held_gate;
 mod inlining;
 mod pieces;
 mod reading;

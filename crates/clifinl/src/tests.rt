@@ -1,7 +1,7 @@
 //! What no clause says: that memory suffices for small texts, one outside row, what `clap` says of words, and each call
 //! of the outside failing in turn.
 use crate::{Status, command};
-use clk_flow::{MemSink, MemSource, NoGate};
+use clk_flow::{Gate, MemSink, MemSource, NoGate};
 use std::alloc::{AllocError, Global};
 use std::sync::Wait;
 use std::thread::Threads;
@@ -24,10 +24,10 @@ fn command_line(alloc: Global, words: &[&str]) -> Result<Vec<String>, AllocError
 
 /// What a run answers, writes and tells.
 #[derive(Drop)]
-struct Ran {
-    status: Status,
-    out: MemSink,
-    err: MemSink,
+pub(crate) struct Ran {
+    pub(crate) status: Status,
+    pub(crate) out: MemSink,
+    pub(crate) err: MemSink,
 }
 
 /// A run of a command over these bytes: call number `fails` of the source fails, and the sink has so much room.
@@ -38,6 +38,19 @@ fn run_command<R: Threads + Wait + Sync>(
     bytes: &[u8],
     fails: u64,
     room: usize,
+) -> Result<Ran, AllocError> {
+    run_at_gate(rt, alloc, words, bytes, fails, room, &NoGate)
+}
+
+/// The same with a gate, at which the workers of the pass announce what they start.
+pub(crate) fn run_at_gate<R: Threads + Wait + Sync, G: Gate>(
+    rt: &R,
+    alloc: Global,
+    words: &[&str],
+    bytes: &[u8],
+    fails: u64,
+    room: usize,
+    gate: &G,
 ) -> Result<Ran, AllocError> {
     let mut input = MemSource::new(Vec::from_slice(alloc, bytes)?, vec![in alloc; fails]?, 40);
     let mut out = MemSink::new(alloc, Vec::new(alloc), room)?;
@@ -50,7 +63,7 @@ fn run_command<R: Threads + Wait + Sync>(
         &mut input,
         &mut out,
         &mut err,
-        &NoGate,
+        gate,
     );
     Ok(Ran { status, out, err })
 }

@@ -37,8 +37,10 @@ functions-preserved c =
     let new = c.pop.new.self.items in
     let pushed : c.push.new.self ≡ c.functions.module ++ b.function ∷ [] = search rules in
     let none : find_function b.function.name c.functions.module ≡ None = search rules in
+    let same : c.give_back.new.functions.items ≡ new = c.give_back.ensures in
     record {
       apart = subst DifferentNames (sym pushed) (names_more c.functions.module b.function i.apart none);
-      whole = others_whole old new b c.in-Some.ensures.items i.whole;
-      all = ap (λ (m : Module). m ++ map (λ (x : Body). x.function) (reverse new)) pushed ∙ last_is_next c.functions.module old new b c.in-Some.ensures.items ∙ i.all;
+      whole = subst Whole (sym same) (others_whole old new b c.in-Some.ensures.items i.whole);
+      all = ap (λ (bs : List Body). c.push.new.self ++ map (λ (x : Body). x.function) (reverse bs)) same
+          ∙ (ap (λ (m : Module). m ++ map (λ (x : Body). x.function) (reverse new)) pushed ∙ last_is_next c.functions.module old new b c.in-Some.ensures.items ∙ i.all);
     }

@@ -28,9 +28,26 @@ IsBoardFor m p b =
 abbrev pub IsDone : View → Type 0
 IsDone v = (h : ℕ → ℕ) → total h v.bodies + total h v.refusals ≡ total h v.drawn
 
--- each ticket that the seat drew is that of a function, and was drawn once
+-- the tickets that the seat drew and has not filled are these, each drawn once: the last that it drew, in that order.
+-- There are n tickets in all
+pub record IsDoneBut (n : ℕ) (v : View) (ahead : List ℕ) : Type 0 where
+  pub filled : (h : ℕ → ℕ) → total h v.bodies + total h v.refusals + total h ahead ≡ total h v.drawn
+  pub last : (front : List ℕ) × (v.drawn ≡ front ++ ahead)
+  pub once : (t : ℕ) → 0 < count t ahead → (t < n) × (count t v.drawn ≡ 1)
+
+-- each ticket that the seat drew is one of the first n, and was drawn once
+abbrev pub IsOnceBelow : ℕ → View → Type 0
+IsOnceBelow n v = ((t : ℕ) → count t v.drawn ≤ 1) × ((t : ℕ) → 0 < count t v.drawn → t < n)
+
+-- each is that of a function
 abbrev pub IsOnce : Module → View → Type 0
-IsOnce m v = ((t : ℕ) → count t v.drawn ≤ 1) × ((t : ℕ) → 0 < count t v.drawn → t < length m)
+IsOnce m v = IsOnceBelow (length m) v
+
+-- the view grew by draws alone, each of a new ticket
+abbrev pub OnlyDrew : ℕ → View → View → Type 0
+OnlyDrew n v w =
+    (w.bodies ≡ v.bodies) × (w.refusals ≡ v.refusals) × (w.read ≡ v.read) × (w.made ≡ v.made)
+    × (IsOnceBelow n v → IsOnceBelow n w)
 
 abbrev pub IsSameSeat : Seat → Seat → Type 0
 IsSameSeat s r = (r.place.id ≡ s.place.id) × ((view_of r).made ≡ (view_of s).made)
@@ -54,6 +71,12 @@ Tells p m (Filled t n) v w old new =
     (w.bodies ≡ v.bodies ++ t ∷ []) × (w.refusals ≡ v.refusals) × (n ≡ inlined_at p m t) × (new ≡ old + (1 + n))
     × CalleesRead m w t
 Tells p m (Refused t) v w old new = (w.bodies ≡ v.bodies) × (w.refusals ≡ v.refusals ++ t ∷ []) × (old ≤ new)
+
+-- the ticket of the turn is the one that was drawn right before those ahead; at the end none is ahead
+abbrev pub TakesFirst : Turn → List ℕ → List ℕ → Type 0
+TakesFirst Ended drawn ahead = ahead ≡ []
+TakesFirst (Filled t n) drawn ahead = (front : List ℕ) × (drawn ≡ front ++ t ∷ ahead)
+TakesFirst (Refused t) drawn ahead = (front : List ℕ) × (drawn ≡ front ++ t ∷ ahead)
 
 -- a seat that is through: it was answered None, and each draw of it is filled
 abbrev pub IsThrough : Module → Board → Seat → Type 0

@@ -3,6 +3,7 @@
 #![tactic(auto)]
 
 mod callees;
+mod drawing;
 mod outcome;
 mod passing;
 mod plan;

@@ -8,9 +8,11 @@ ghost use Rattle.publish_table.specs.Jobs.{FinishedOf};
 ghost use Rattle.publish_table.specs.Seats.{IsSeatOf, StaysSeat, view_of};
 ghost use Rattle.worker_driver.specs.Plans.{IsPlanOf};
 ghost use Rattle.worker_driver.specs.Reading.{IsFor, ReadSoFar, CalleesRead, OnlyRead, IsReadUnder, IsReadIfApart};
-ghost use Rattle.worker_driver.specs.Turns.{IsBoardFor, IsDone, IsNoted, IsSameSeat, IsOnce, Tells, inlined_at};
+ghost use Rattle.worker_driver.specs.Turns.{IsBoardFor, IsDoneBut, IsNoted, IsSameSeat, IsOnce, Tells, TakesFirst};
+ghost use Rattle.worker_driver.specs.Turns.{inlined_at};
 
 use crate::callees::Callees;
+use crate::drawing::next_ticket;
 use crate::outcome::Turn;
 use crate::plan::Plan;
 use clk_flow::Gate;
@@ -19,6 +21,7 @@ use ir_check::Checked;
 use ir_core::Module;
 use publish_table::{Board, Cell, Seat};
 use std::alloc::Global;
+use std::collections::VecDeque;
 use std::sync::ledger::Ledger;
 use std::sync::{Arc, Wait};
 use step_counter::Steps;
@@ -161,9 +164,10 @@ fn build<R: Wait, L: Ledger>(
     finish(alloc, module, plan, policy, func, &callees, steps)
 }
 
-/// One turn of a worker: it draws a ticket, announces it at the gate, and publishes the finished body of its function,
-/// by the bodies of callees in other pieces as they are read under their tickets. `Ended` comes where no ticket was
-/// left. `Refused` comes where memory failed or such a body is refused; so is then the ticket.
+/// One turn of a worker. It takes the first ticket that it drew ahead; where there is none it draws one, and then as
+/// many ahead as there is room for. It announces the ticket at the gate, and publishes the finished body of its
+/// function, by the bodies of callees in other pieces as they are read under their tickets. `Ended` comes where no
+/// ticket was left. `Refused` comes where memory failed or such a body is refused; so is then the ticket.
 pub fn turn<R: Wait, G: Gate, L: Ledger>(
     rt: &R,
     alloc: Global,
@@ -172,19 +176,23 @@ pub fn turn<R: Wait, G: Gate, L: Ledger>(
     policy: Policy,
     board: &Board,
     seat: &mut Seat,
+    ahead: &mut VecDeque<usize>,
     worker: usize,
     gate: &G,
     steps: &mut Steps<L>,
 ) -> Turn
     requires board { IsBoardFor «module».now policy board.now × IsSeatOf board.now seat.old }
     requires plan { IsPlanOf «module».now plan.now × IsLimited policy }
-    requires done { IsDone (view_of seat.old) × IsNoted «module».now (view_of seat.old) }
+    requires done { IsDoneBut board.now.count (view_of seat.old) ahead.old.items
+        × IsNoted «module».now (view_of seat.old) }
     ensures seat { IsSeatOf board.now seat.new × IsSameSeat seat.old seat.new }
-    ensures done { IsDone (view_of seat.new) × IsNoted «module».now (view_of seat.new) }
+    ensures done { IsDoneBut board.now.count (view_of seat.new) ahead.new.items
+        × IsNoted «module».now (view_of seat.new) }
     ensures once { IsOnce «module».now (view_of seat.old) → IsOnce «module».now (view_of seat.new) }
     ensures tells { Tells policy «module».now result (view_of seat.old) (view_of seat.new) steps.old steps.new }
+    ensures order { TakesFirst result (view_of seat.new).drawn ahead.new.items }
 {
-    let Some(ticket) = board.draw(seat) else {
+    let Some(ticket) = next_ticket(board, seat, ahead) else {
         return Turn::Ended;
     };
     gate.started(worker, ticket);

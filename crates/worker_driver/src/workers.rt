@@ -10,6 +10,7 @@ ghost use Rattle.worker_driver.specs.Turns.{IsBoardFor, IsDone, IsNoted, IsSameS
 ghost use Rattle.worker_driver.specs.Turns.{IsThroughAs, Worked, CountsWell, IsOnce, cost_of, desk_of, seat_at};
 ghost use Rattle.worker_driver.specs.Turns.{cost_in};
 
+use crate::drawing::{many_ahead, none_ahead};
 use crate::outcome::{Desk, Turn};
 use crate::plan::Plan;
 use crate::taking::turn;
@@ -35,6 +36,7 @@ fn work<R: Wait, G: Gate, L: Ledger>(
     board: &Board,
     seat: &mut Seat,
     worker: usize,
+    many: usize,
     gate: &G,
     steps: &mut Steps<L>,
 ) -> u128
@@ -47,9 +49,10 @@ fn work<R: Wait, G: Gate, L: Ledger>(
         ≡ cost_of policy «module».now (view_of seat.old).bodies + result }
 {
     let mut count = 0u128;
+    let mut ahead = none_ahead(alloc, many);
     for _ in rt.forever() {
         match turn(
-            rt, alloc, module, plan, policy, board, seat, worker, gate, steps,
+            rt, alloc, module, plan, policy, board, seat, &mut ahead, worker, gate, steps,
         ) {
             Turn::Ended => return count,
             Turn::Filled(_, inlined) => {
@@ -71,6 +74,7 @@ fn work_counted<R: Wait, G: Gate, L: Ledger>(
     board: &Board,
     desk: &mut Desk,
     worker: usize,
+    many: usize,
     gate: &G,
     blank: Blank,
 )
@@ -89,6 +93,7 @@ fn work_counted<R: Wait, G: Gate, L: Ledger>(
         board,
         &mut desk.seat,
         worker,
+        many,
         gate,
         &mut steps,
     );
@@ -103,6 +108,7 @@ fn work_at<R: Wait, G: Gate>(
     board: &Board,
     desk: &mut Desk,
     worker: usize,
+    many: usize,
     gate: &G,
 )
     requires board { IsBoardFor «module».now policy board.now × IsReady board.now desk.old }
@@ -118,6 +124,7 @@ fn work_at<R: Wait, G: Gate>(
         board,
         desk,
         worker,
+        many,
         gate,
         Blank::new(1),
     );
@@ -141,6 +148,7 @@ fn run_desks<R: Threads + Wait + Sync, G: Gate>(
         (slice_index_or desks.old i d) (slice_index_or desks.new i d) }
 {
     let workers = desks.len();
+    let many = many_ahead(module.module().len(), workers);
     thread::for_each_mut(
         rt,
         desks,
@@ -149,7 +157,11 @@ fn run_desks<R: Threads + Wait + Sync, G: Gate>(
             requires board { IsBoardFor «module».now policy board.now × IsReady board.now desk.old }
             requires plan { IsPlanOf «module».now plan.now × IsLimited policy }
             ensures { Worked policy «module».entry.now board.entry.now desk.old desk.new }
-        { work_at(rt, alloc, module, plan, policy, board, desk, worker, gate) },
+        {
+            work_at(
+                rt, alloc, module, plan, policy, board, desk, worker, many, gate,
+            )
+        },
     );
 }
 

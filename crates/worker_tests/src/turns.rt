@@ -10,6 +10,7 @@ use inline_finish::Policy;
 use ir_check::Checked;
 use publish_table::{Board, Cell, Seat};
 use std::alloc::{AllocError, Global};
+use std::collections::VecDeque;
 use std::marker::Brand;
 use std::sync::Wait;
 use std::sync::ledger::{Blank, Ledger};
@@ -59,8 +60,9 @@ fn turn_of_last<R: Wait, L: Ledger>(
     let mut last = seats.pop()?;
     refuse(board, seats.pop()?)?;
     let mut steps: Steps<L> = Steps::open(blank);
+    let mut ahead = VecDeque::new(alloc);
     Some(turn(
-        rt, alloc, module, plan, policy, board, &mut last, 1, &NoGate, &mut steps,
+        rt, alloc, module, plan, policy, board, &mut last, &mut ahead, 1, &NoGate, &mut steps,
     ))
 }
 

@@ -6,12 +6,14 @@ use Rattle.ir_core.specs.Module.{Module}
 use Rattle.inline_finish.specs.declared.bodies.Policy.{Policy}
 use Rattle.publish_table.specs.declared.view.View.{View}
 use Rattle.publish_table.specs.Plays.{total, count, with_end, once_ended, with_drawn, with_read, with_refused, with_body, with_refusal, IsNew}
-use Rattle.publish_table.specs.Seats.{IsOpen}
+use Rattle.publish_table.specs.declared.board.Board.{Board}
+use Rattle.publish_table.specs.declared.board.Seat.{Seat}
+use Rattle.publish_table.specs.Seats.{IsOpen, view_of}
 use Rattle.publish_table.proofs.Lists.{total_append, count_here, count_else, count_snoc, counted}
 use Rattle.worker_driver.specs.Reading.{OnlyRead, ReadsStay, CalleesRead}
 use Rattle.std.proofs.lemmas.Bool.{cases_eq}
 use Rattle.worker_driver.proofs.Sums.{few, counted_in, total_ones}
-use Rattle.worker_driver.specs.Turns.{IsDone, IsDoneBut, IsNoted, IsOnce, IsOnceBelow, OnlyDrew, cost_of, inlined_at}
+use Rattle.worker_driver.specs.Turns.{IsDone, IsDoneBut, IsIdle, IsNoted, IsOnce, IsOnceBelow, OnlyDrew, cost_of, inlined_at}
 
 count_grows : (k t : ℕ) (l : List ℕ) → count k l ≤ count k (l ++ t ∷ [])
 count_grows k t l = let h = count_snoc k t l in omega arith
@@ -56,9 +58,6 @@ callees_stay m v w t stay h = λ f y e i a n. let r = h f y e i a n in (r.0, r.1
 only_drew_none : (n : ℕ) (v : View) → OnlyDrew n v v
 only_drew_none n v = (refl, refl, refl, refl, λ h. h)
 
-pub only_drew_same : (n : ℕ) (v w : View) → w ≡ v → OnlyDrew n v w
-only_drew_same n v w is = subst (OnlyDrew n v) (sym is) (only_drew_none n v)
-
 pub only_drew_both : (n : ℕ) (u v w : View) → OnlyDrew n u v → OnlyDrew n v w → OnlyDrew n u w
 only_drew_both n u v w a b = (b.0 ∙ a.0, b.1 ∙ a.1, b.2 ∙ a.2, b.3 ∙ a.3, λ h. b.4 (a.4 h))
 
@@ -96,8 +95,8 @@ none_left n v a is done = subst (IsDoneBut n v) (sym is) (record {
   once = λ t c. absurd (omega arith);
 })
 
-pub all_done : (n : ℕ) (v : View) (a : List ℕ) → a ≡ [] → IsDoneBut n v a → IsDone v
-all_done n v a is but = λ h. let d = but.filled h in let e = ap (total h) is in omega arith
+pub none_idle : (b : Board) (s : Seat) (a : List ℕ) → a ≡ [] → IsIdle b s → IsDoneBut b.count (view_of s) a
+none_idle b s a is idle = none_left b.count (view_of s) a is (subst IsDone (sym idle.1) (λ h. refl))
 
 pub left_end : (n : ℕ) (v w : View) (a : List ℕ) → w ≡ once_ended v → IsDoneBut n v a → IsDoneBut n w a
 left_end n v w a is but = subst (λ (z : View). IsDoneBut n z a) (sym is) (by_end (λ (z : View). IsDoneBut n z a) (v.ends == 0) v but
@@ -169,12 +168,6 @@ module _ (m : Module) (n : ℕ) (v w x : View) (t : ℕ) (rest : List ℕ) (drew
     once = by_rest;
   })
 
-  pub first_by_body : (y : View) → y ≡ with_body x t → (front : List ℕ) × (y.drawn ≡ front ++ t ∷ rest)
-  first_by_body y is = (left.last.0, ap (λ (z : View). z.drawn) is ∙ (read.0 ∙ left.last.1))
-
-  pub first_by_refusal : (y : View) → y ≡ with_refusal x t → (front : List ℕ) × (y.drawn ≡ front ++ t ∷ rest)
-  first_by_refusal y is = (left.last.0, ap (λ (z : View). z.drawn) is ∙ (read.0 ∙ left.last.1))
-
   reads_stay : ReadsStay v x
   reads_stay k c = read.5 k (subst (λ (l : List ℕ). 0 < count k l) (sym drew.2) c)
 
@@ -197,12 +190,6 @@ module _ (m : Module) (n : ℕ) (v w x : View) (t : ℕ) (rest : List ℕ) (drew
   pub bodies_by_refusal : (y : View) → y ≡ with_refusal x t → (y.bodies ≡ v.bodies) × (y.refusals ≡ v.refusals ++ t ∷ [])
   bodies_by_refusal y is = (ap (λ (z : View). z.bodies) is ∙ bodies_same, ap (λ (z : View). z.refusals) is ∙ ap (λ (l : List ℕ). l ++ t ∷ []) refusals_same)
 
-  pub made_by_body : (y : View) → y ≡ with_body x t → y.made ≡ v.made
-  made_by_body y is = ap (λ (z : View). z.made) is ∙ (read.4 ∙ drew.3)
-
-  pub made_by_refusal : (y : View) → y ≡ with_refusal x t → y.made ≡ v.made
-  made_by_refusal y is = ap (λ (z : View). z.made) is ∙ (read.4 ∙ drew.3)
-
   once_after : (y : View) → y.drawn ≡ x.drawn → n ≡ length m → IsOnce m v → IsOnce m y
   once_after y is e once = subst (λ (l : List ℕ). ((k : ℕ) → count k l ≤ 1) × ((k : ℕ) → 0 < count k l → k < length m)) (sym (is ∙ read.0))
       (subst (λ (z : ℕ). IsOnceBelow z w) e (drew.4 (subst (λ (z : ℕ). IsOnceBelow z v) (sym e) once)))
@@ -212,14 +199,6 @@ module _ (m : Module) (n : ℕ) (v w x : View) (t : ℕ) (rest : List ℕ) (drew
 
   pub once_by_refusal : (y : View) → y ≡ with_refusal x t → n ≡ length m → IsOnce m v → IsOnce m y
   once_by_refusal y is = once_after y (ap (λ (z : View). z.drawn) is)
-
--- a turn that found no ticket
-pub noted_end : (m : Module) (n : ℕ) (v w : View) → OnlyDrew n v w → IsNoted m v → IsNoted m w
-noted_end m n v w drew noted k c = callees_stay m v w k (λ j h. subst (λ (l : List ℕ). 0 < count j l) (sym drew.2) h)
-    (noted k (subst (λ (l : List ℕ). 0 < count k l) drew.0 c))
-
-pub once_end : (m : Module) (n : ℕ) (v w : View) → n ≡ length m → OnlyDrew n v w → IsOnce m v → IsOnce m w
-once_end m n v w e drew once = subst (λ (z : ℕ). IsOnceBelow z w) e (drew.4 (subst (λ (z : ℕ). IsOnceBelow z v) (sym e) once))
 
 -- ---- what a seat filled
 

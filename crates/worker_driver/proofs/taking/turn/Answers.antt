@@ -1,6 +1,5 @@
-use Rattle.std.proofs.Common.{ℕ, List, refl, subst, arith}
-use Rattle.publish_table.specs.declared.view.View.{View}
-use Rattle.worker_driver.proofs.Views.{open_now, done_by_body, done_by_refusal, noted_by_body, noted_by_refusal, once_by_body, once_by_refusal, first_by_body, first_by_refusal, bodies_by_body, bodies_by_refusal, made_by_body, made_by_refusal, callees_by_body, noted_end, once_end, ticket_low}
+use Rattle.std.proofs.Common.{arith}
+use Rattle.worker_driver.proofs.Views.{open_now, done_by_body, done_by_refusal, noted_by_body, noted_by_refusal, once_by_body, once_by_refusal, ticket_low}
 use Rattle.worker_driver.proofs.taking.turn.Goals as goal
 
 pub publish-requires-clause-ticket : goal.publish-requires-clause-ticket

@@ -95,8 +95,12 @@ none_left n v a is done = subst (IsDoneBut n v) (sym is) (record {
   once = λ t c. absurd (omega arith);
 })
 
-pub none_idle : (b : Board) (s : Seat) (a : List ℕ) → a ≡ [] → IsIdle b s → IsDoneBut b.count (view_of s) a
-none_idle b s a is idle = none_left b.count (view_of s) a is (subst IsDone (sym idle.1) (λ h. refl))
+-- a seat that has done nothing
+pub idle_done : (m : Module) (b : Board) (s : Seat) (a : List ℕ) → a ≡ [] → IsIdle b s → IsDoneBut b.count (view_of s) a × IsNoted m (view_of s)
+idle_done m b s a is idle = (
+  none_left b.count (view_of s) a is (subst IsDone (sym idle.1) (λ h. refl)),
+  subst (IsNoted m) (sym idle.1) (λ t c. absurd (omega arith)),
+)
 
 pub left_end : (n : ℕ) (v w : View) (a : List ℕ) → w ≡ once_ended v → IsDoneBut n v a → IsDoneBut n w a
 left_end n v w a is but = subst (λ (z : View). IsDoneBut n z a) (sym is) (by_end (λ (z : View). IsDoneBut n z a) (v.ends == 0) v but

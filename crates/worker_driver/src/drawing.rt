@@ -5,6 +5,7 @@ ghost use Rattle.publish_table.specs.Seats.{IsSeatOf, StaysSeat, view_of};
 ghost use Rattle.worker_driver.specs.Turns.{IsDoneBut, OnlyDrew};
 
 use publish_table::{Board, Seat};
+use range_workers::make_room;
 use std::alloc::Global;
 use std::collections::VecDeque;
 
@@ -24,6 +25,13 @@ pub(crate) fn none_ahead(alloc: Global, many: usize) -> VecDeque<usize>
     match VecDeque::with_capacity(alloc, many) {
         Ok(ahead) => ahead,
         Err(_) => VecDeque::new(alloc),
+    }
+}
+
+/// Has the allocator take room for the bodies of the next run of tickets at once, where none is ahead.
+pub(crate) fn make_room_for_run(alloc: Global, ahead: &VecDeque<usize>) {
+    if ahead.is_empty() {
+        make_room(alloc);
     }
 }
 

@@ -10,7 +10,7 @@ ghost use Rattle.worker_driver.specs.Turns.{IsBoardFor, IsDone, IsNoted, IsSameS
 ghost use Rattle.worker_driver.specs.Turns.{IsThroughAs, Worked, CountsWell, IsOnce, cost_of, desk_of, seat_at};
 ghost use Rattle.worker_driver.specs.Turns.{cost_in};
 
-use crate::drawing::{many_ahead, none_ahead};
+use crate::drawing::{make_room_for_run, many_ahead, none_ahead};
 use crate::outcome::{Desk, Turn};
 use crate::plan::Plan;
 use crate::taking::turn;
@@ -51,6 +51,7 @@ fn work<R: Wait, G: Gate, L: Ledger>(
     let mut count = 0u128;
     let mut ahead = none_ahead(alloc, many);
     for _ in rt.forever() {
+        make_room_for_run(alloc, &ahead);
         match turn(
             rt, alloc, module, plan, policy, board, seat, &mut ahead, worker, gate, steps,
         ) {

@@ -18,6 +18,7 @@ use Rattle.ir_semantics.specs.Machine.{Frame, Wait, World, Moment, On, Over, Stu
 use Rattle.ir_semantics.specs.Step.{must, enter, enter_target, begin, frame_at}
 use Rattle.ir_semantics.specs.Effect.{target_at, go_to, arg_values, need, Enter}
 use Rattle.interp.specs.State.{function_at, nobody, some_if, on_if, frame_of, waits_of, env_of, done}
+use Rattle.interp.specs.declared.registers.Registers.{Registers}
 use Rattle.interp.specs.declared.state.Frame.{Frame as CodeFrame}
 use Rattle.interp.specs.declared.state.Wait.{Wait as CodeWait}
 
@@ -155,6 +156,6 @@ pub begin_empty : (m : Module) (at : ℕ) (f : Function) (args : List DataValue)
 begin_empty m at f args extra is h = begin_none f f.blocks args extra h ∙ ap (λ g. begin g args extra) (sym (at_found m at f is))
 
 -- the same as code finds it
-pub begun : (m : Module) (at b : ℕ) (f : Function) (ps : List ℕ) (ls : List Line) (args : List DataValue) (extra : List ℕ) (ok v : Bool) (e : Env) (cells : List (Option Bits)) → slice_get m at ≡ Some f → Some b ≡ first_number f.blocks → ps ≡ params_of b f.blocks → ls ≡ lines_of b f.blocks → ok ≡ v → cells ≡ [] → some_if ok e ≡ bind ps args (env_of cells) → some_if v (record { func = function_at m at; rest = ls; env = e; slots = unwritten; extra = extra }) ≡ begin (function_at m at) args extra
+pub begun : (m : Module) (at b : ℕ) (f : Function) (ps : List ℕ) (ls : List Line) (args : List DataValue) (extra : List ℕ) (ok v : Bool) (e : Env) (cells : Registers) → slice_get m at ≡ Some f → Some b ≡ first_number f.blocks → ps ≡ params_of b f.blocks → ls ≡ lines_of b f.blocks → ok ≡ v → env_of cells ≡ no_values → some_if ok e ≡ bind ps args (env_of cells) → some_if v (record { func = function_at m at; rest = ls; env = e; slots = unwritten; extra = extra }) ≡ begin (function_at m at) args extra
 begun m at b f ps ls args extra ok v e cells is first ps_is ls_is okv none bs =
-    begin_first m at b f ps ls args extra unwritten ok v e is first ps_is ls_is refl okv (bs ∙ ap (λ xs. bind ps args (env_of xs)) none)
+    begin_first m at b f ps ls args extra unwritten ok v e is first ps_is ls_is refl okv (bs ∙ ap (bind ps args) none)

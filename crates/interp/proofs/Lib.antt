@@ -4,7 +4,9 @@ pub mod Entering
 pub mod Finding
 pub mod Entries
 pub mod Fitting
+pub mod Standing
 pub mod Hosting
 pub mod Programs
+pub mod SameType
 pub mod Reading
 pub mod Storing

@@ -1,15 +1,11 @@
 -- Values read and bound one after another.
 use Rattle.std.proofs.Common.{◌≡◌, ℕ, suc, ◌+◌, ◌<◌, List, [], ◌∷◌, ◌++◌, length, drop, Option, Some, None, Bool, true, false, nat_eq, if◌then◌else◌, get_or, refl, arith, ap, ◌∙◌, sym, drop-cons, ◌≢◌, append-nil, append_assoc}
-use Rattle.std.proofs.Math.Path.{fun_ext}
 use Rattle.std.proofs.Math.Seq.{drop-length}
 use Rattle.std.proofs.Math.Numerals.{add-one}
-use Rattle.std.specs.Option.{option_map}
 use Rattle.clk_num.specs.declared.bits.Bits.{Bits}
 use Rattle.clk_num.specs.Operations.{DataValue}
 use Rattle.clk_num.specs.Views.{data_of, data_of_all}
 use Rattle.ir_semantics.specs.Values.{Env, cons_some, all_of, join, put, bind}
-use Rattle.byte_store.specs.Cells.{cell_of, put_cell}
-use Rattle.interp.specs.State.{env_of}
 
 pub next_some : {B : Type 0} (out : List B) (x : B) (o : Option (List B)) → join (Some out) (cons_some (Some x) o) ≡ join (Some (out ++ x ∷ [])) o
 next_some out x None = refl
@@ -36,14 +32,6 @@ all_end get as' i out e = rw (e, drop-length as') (ap Some (append-nil out))
 pub all_start : {B : Type 0} (o : Option (List B)) → join (Some []) o ≡ o
 all_start None = refl
 all_start (Some ys) = refl
-
--- a value written is a value put
-put_if : (c : Bool) (x : Bits) (o : Option Bits) → option_map data_of (if c then Some x else o) ≡ (if c then Some (data_of x) else option_map data_of o)
-put_if true x o = refl
-put_if false x o = refl
-
-pub env_put : (cells cells' : List (Option Bits)) (v : ℕ) (x : Bits) → cell_of cells' ≡ put_cell (cell_of cells) v x → env_of cells' ≡ put (env_of cells) v (data_of x)
-env_put cells cells' v x e = fun_ext (λ w. ap (λ (f : ℕ → Option Bits). option_map data_of (f w)) e ∙ put_if (nat_eq w v) x (cell_of cells w))
 
 pub bind_apart : (ns : List ℕ) (xs : List Bits) (e : Env) → length ns ≢ length xs → bind ns (data_of_all xs) e ≡ None
 bind_apart [] [] e h = absurd (h refl)

@@ -1,12 +1,13 @@
 -- The state of a run, as the definition's moment.
 use Rattle.std.specs.Prelude.{◌≡◌, ◌<◌, ℕ, zero, suc, List, [], ◌∷◌, map, reverse, length, Option, Some, None, Bool}
-use Rattle.std.specs.Prelude.{true, false, if◌then◌else◌, Vec, IsTrue}
+use Rattle.std.specs.Prelude.{true, false, if◌then◌else◌, Vec, IsTrue, slice_get}
 use Rattle.std.specs.declared.alloc.Global.{Global}
 use Rattle.ir_core.specs.declared.declarations.Callee.{Callee}
 use Rattle.ir_core.specs.Lookup.{find_function, find_block}
 use Rattle.std.specs.Option.{option_map}
 use Rattle.std.proofs.Common.{get_or}
 use Rattle.clk_num.specs.declared.bits.Bits.{Bits}
+use Rattle.clk_num.specs.Operations.{DataValue}
 use Rattle.clk_num.specs.Views.{data_of}
 use Rattle.ir_core.specs.declared.names.FuncName.TheVariants as name
 use Rattle.ir_core.specs.declared.signatures.Conv.TheVariants.{Fast}
@@ -23,6 +24,10 @@ use Rattle.byte_store.specs.Cells.{cell_of, bytes_at}
 use Rattle.host_script.specs.Script.{reply_of}
 use Rattle.interp.specs.Lines.{lines_fit}
 use Rattle.interp.specs.Outcome.{shown_of, event_of, end_of}
+use Rattle.interp.specs.declared.held.Held.{Held}
+use Rattle.interp.specs.declared.held.Held.TheVariants.{Nothing, Narrow, Wide}
+use Rattle.interp.specs.declared.held.Register.{Register}
+use Rattle.interp.specs.declared.registers.Registers.{Registers}
 use Rattle.interp.specs.declared.outcome.Shown.{Shown}
 use Rattle.interp.specs.declared.state.Target.{Target}
 use Rattle.interp.specs.declared.state.Target.TheVariants.{Inside, Outside, Nowhere, Missing}
@@ -54,9 +59,19 @@ function_at [] at = nobody
 function_at (f ∷ fs) zero = f
 function_at (f ∷ fs) (suc at) = function_at fs at
 
+abbrev pub value_held : Held → DataValue → Option Bits → Option DataValue
+value_held Nothing narrow wide = None
+value_held Narrow narrow wide = Some narrow
+value_held Wide narrow wide = option_map data_of wide
+
+-- what stands at a number: nothing, a value below 2^64, or one among the wide ones
+abbrev pub held_value : Option Register → Option Bits → Option DataValue
+held_value None wide = None
+held_value (Some r) wide = value_held r.held (record { width = r.width; value = r.value }) wide
+
 -- the values of a frame
-abbrev pub env_of : List (Option Bits) → Env
-env_of values v = option_map data_of (cell_of values v)
+abbrev pub env_of : Registers → Env
+env_of values v = held_value (slice_get values.narrow.items v) (cell_of values.wide v)
 
 abbrev pub frame_of : Module → Frame → run.Frame
 frame_of m x =

@@ -59,10 +59,7 @@ fn load_full(
         .read(address_of(base, offset), bytes, flags.big)
     {
         Err(OutOfRange) => Ok(Some(Stop::At(End::Trapped(TrapCode::HeapOob)))),
-        Ok(number) => {
-            let moved = give_results(frame, line, &[Bits::new(width, number)])?;
-            Ok(moved)
-        }
+        Ok(number) => give_results(frame, line, &[Bits::new(width, number)]),
     }
 }
 
@@ -157,18 +154,13 @@ pub fn load(
         ≡ done m frame.old below w line.now (simply m frame.old w (Load access flags address offset))) }
 {
     match access {
-        Access::Full(ty) => {
-            let moved = load_full(frame, world, line, ty, flags, address, offset)?;
-            Ok(moved)
-        }
-        Access::Uload(ty, bytes) => {
-            let moved = load_by_zeros(frame, world, line, ty, bytes, flags, address, offset)?;
-            Ok(moved)
-        }
-        Access::Sload(ty, bytes) => {
-            let moved = load_by_sign(frame, world, line, ty, bytes, flags, address, offset)?;
-            Ok(moved)
-        }
+        Access::Full(ty) => load_full(frame, world, line, ty, flags, address, offset),
+        Access::Uload(ty, bytes) => load_by_zeros(
+            frame, world, line, ty, bytes, flags, address, offset,
+        ),
+        Access::Sload(ty, bytes) => load_by_sign(
+            frame, world, line, ty, bytes, flags, address, offset,
+        ),
     }
 }
 

@@ -52,11 +52,9 @@ pub fn brif<'m>(
         return Ok(Some(Stop::Stuck));
     };
     if x.value() != 0 {
-        let moved = jump(program, frame, line, taken, xs)?;
-        Ok(moved)
+        jump(program, frame, line, taken, xs)
     } else {
-        let moved = jump(program, frame, line, other, xs)?;
-        Ok(moved)
+        jump(program, frame, line, other, xs)
     }
 }
 
@@ -91,6 +89,5 @@ pub fn br_table<'m>(
         return Ok(Some(Stop::Stuck));
     };
     let target = pick(entries, default, x.value());
-    let moved = jump(program, frame, line, target, xs)?;
-    Ok(moved)
+    jump(program, frame, line, target, xs)
 }

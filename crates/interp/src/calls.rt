@@ -13,9 +13,10 @@ ghost use Rattle.interp.specs.State.{function_at, frame_of, frame_if, waits_of, 
 use crate::blocks::enter_target;
 use crate::moves::bind;
 use crate::outcome::End;
+use crate::registers::Registers;
 use crate::simple::give_results;
 use crate::state::{Frame, Program, Stop, Target, Wait};
-use byte_store::{Cells, Slots};
+use byte_store::Slots;
 use clk_num::Bits;
 use debug_tags::Tag;
 use ir_core::{Block, BlockCall, Func, FuncRef, Inst, InstData, List};
@@ -51,7 +52,7 @@ pub fn begin<'m>(
     };
     let params = func.params(first);
     let rest = func.inst_slice(first);
-    let mut values = Cells::new(alloc);
+    let mut values = Registers::new(alloc);
     if !bind(&mut values, params, args)? {
         return Ok(None);
     }
@@ -80,22 +81,16 @@ fn give<'m>(
         (frame_of program.now.module.now frame.old) (waits_of program.now.module.now below) w) }
 {
     match &line.inst {
-        Inst::Call { .. } => {
-            let moved = give_results(frame, line, values)?;
-            Ok(moved)
-        }
-        Inst::CallIndirect { .. } => {
-            let moved = give_results(frame, line, values)?;
-            Ok(moved)
-        }
-        Inst::TryCall { normal, .. } => {
-            let moved = give_target(program, frame, normal.get(), values, xs)?;
-            Ok(moved)
-        }
-        Inst::TryCallIndirect { normal, .. } => {
-            let moved = give_target(program, frame, normal.get(), values, xs)?;
-            Ok(moved)
-        }
+        Inst::Call { .. } => give_results(frame, line, values),
+        Inst::CallIndirect { .. } => give_results(frame, line, values),
+        Inst::TryCall { normal, .. } => give_target(program, frame, normal.get(), values, xs),
+        Inst::TryCallIndirect { normal, .. } => give_target(
+            program,
+            frame,
+            normal.get(),
+            values,
+            xs,
+        ),
         _ => Ok(Some(Stop::Stuck)),
     }
 }
@@ -139,8 +134,7 @@ pub fn resume<'m>(
         return Ok(Some(Stop::At(End::Returned(List::from_vec(values)))));
     };
     *top = wait.frame;
-    let moved = give(program, top, wait.line, values, xs)?;
-    Ok(moved)
+    give(program, top, wait.line, values, xs)
 }
 
 /// A call of the function at a place, above the frame on top.

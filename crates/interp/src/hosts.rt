@@ -101,8 +101,7 @@ pub fn reply<'m>(
             }
             world.replies = rest;
             apply_writes(&mut world.memory, writes);
-            let moved = resume(alloc, program, top, below, values, xs)?;
-            Ok(moved)
+            resume(alloc, program, top, below, values, xs)
         }
         Act::Trap(code) => {
             world.replies = rest;
@@ -112,8 +111,7 @@ pub fn reply<'m>(
         Act::Throw { tag, p0, p1 } => {
             world.replies = rest;
             apply_writes(&mut world.memory, writes);
-            let moved = throw(program, top, below, world, *tag, *p0, *p1, xs)?;
-            Ok(moved)
+            throw(program, top, below, world, *tag, *p0, *p1, xs)
         }
     }
 }

@@ -12,9 +12,10 @@ ghost use Rattle.interp.specs.State.{frame_of, waits_of, world_of, moment, targe
 use crate::calls::{call, return_call};
 use crate::hosts::reply;
 use crate::outcome::{End, Event, Shown};
+use crate::registers::Registers;
 use crate::shows::show;
 use crate::state::{Frame, Program, Stop, Target, Wait, World};
-use byte_store::{Cells, Slots};
+use byte_store::Slots;
 use clk_num::{Bits, TrapCode};
 use ir_core::{FuncName, InstData, List, Sig};
 use std::alloc::{AllocError, Global};
@@ -47,8 +48,7 @@ fn call_host<'m>(
         shown: List::from_vec(shown),
     };
     world.events.push(event)?;
-    let moved = reply(alloc, program, top, below, world, sig, values, xs)?;
-    Ok(moved)
+    reply(alloc, program, top, below, world, sig, values, xs)
 }
 
 /// Puts the frame on top below, to wait at a line. The new frame on top is none that runs.
@@ -64,7 +64,7 @@ fn push_wait<'m>(
     let idle = Frame {
         at: 0,
         rest: &[],
-        values: Cells::new(alloc),
+        values: Registers::new(alloc),
         slots: Slots::new(alloc),
         extra: Vec::new(alloc),
     };
@@ -93,19 +93,15 @@ pub fn invoke<'m>(
         (world_of world.old)) }
 {
     match target {
-        Target::Inside(at) => {
-            let moved = call(alloc, program, top, below, line, at, values)?;
-            Ok(moved)
-        }
+        Target::Inside(at) => call(alloc, program, top, below, line, at, values),
         Target::Outside(name, sig) => {
             let Some(shown) = show(alloc, program, top, below.as_slice(), line)? else {
                 return Ok(Some(Stop::At(End::Unwritten)));
             };
             push_wait(alloc, top, below, line)?;
-            let moved = call_host(
+            call_host(
                 alloc, program, top, below, world, name, sig, shown, values, xs,
-            )?;
-            Ok(moved)
+            )
         }
         Target::Nowhere => Ok(Some(Stop::At(End::Trapped(TrapCode::HeapOob)))),
         Target::Missing => Ok(Some(Stop::Stuck)),
@@ -133,18 +129,14 @@ pub fn invoke_tail<'m>(
         (step.shown (record { line = line_of line.now; frame = frame_of m top.old } ∷ s)) s (world_of world.old)) }
 {
     match target {
-        Target::Inside(at) => {
-            let moved = return_call(alloc, program, top, at, values, extra)?;
-            Ok(moved)
-        }
+        Target::Inside(at) => return_call(alloc, program, top, at, values, extra),
         Target::Outside(name, sig) => {
             let Some(shown) = show(alloc, program, top, below.as_slice(), line)? else {
                 return Ok(Some(Stop::At(End::Unwritten)));
             };
-            let moved = call_host(
+            call_host(
                 alloc, program, top, below, world, name, sig, shown, values, xs,
-            )?;
-            Ok(moved)
+            )
         }
         Target::Nowhere => Ok(Some(Stop::At(End::Trapped(TrapCode::HeapOob)))),
         Target::Missing => Ok(Some(Stop::Stuck)),

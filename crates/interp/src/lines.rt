@@ -57,8 +57,7 @@ pub fn give_back<'m>(
     if !read_all(&top.values, args, values)? {
         return Ok(Some(Stop::Stuck));
     }
-    let moved = resume(alloc, program, top, below, values, xs)?;
-    Ok(moved)
+    resume(alloc, program, top, below, values, xs)
 }
 
 /// A call of a callee declaration, above the frame on top.
@@ -83,8 +82,7 @@ pub fn call_callee<'m>(
         return Ok(Some(Stop::Stuck));
     }
     let target = find_callee(program, top.at, callee);
-    let moved = invoke(alloc, program, top, below, world, line, target, values, xs)?;
-    Ok(moved)
+    invoke(alloc, program, top, below, world, line, target, values, xs)
 }
 
 /// A call of a callee declaration, in place of the frame on top.
@@ -113,8 +111,7 @@ pub fn tail_call_callee<'m>(
         return Ok(Some(Stop::Stuck));
     }
     let target = find_callee(program, top.at, callee);
-    let moved = invoke_tail(
+    invoke_tail(
         alloc, program, top, below, world, line, target, extra, values, xs,
-    )?;
-    Ok(moved)
+    )
 }

@@ -6,14 +6,14 @@ ghost use Rattle.ir_semantics.specs.Values.{all_of, bind};
 ghost use Rattle.ir_semantics.specs.Effect.{arg_value};
 ghost use Rattle.interp.specs.State.{some_if, env_of};
 
-use byte_store::Cells;
+use crate::registers::Registers;
 use clk_num::Bits;
 use ir_core::{Arg, Value};
 use std::alloc::AllocError;
 
 /// The values of these numbers, where all have one.
 pub fn read_all(
-    values: &Cells<Bits>,
+    values: &Registers,
     names: &[Value],
     out: &mut Vec<Bits>,
 ) -> Result<bool, AllocError>
@@ -30,7 +30,7 @@ pub fn read_all(
 }
 
 /// Gives each number its value, where there are as many.
-pub fn bind(values: &mut Cells<Bits>, names: &[Value], xs: &[Bits]) -> Result<bool, AllocError>
+pub fn bind(values: &mut Registers, names: &[Value], xs: &[Bits]) -> Result<bool, AllocError>
     ensures { IfOk result
         (λ b. some_if b (env_of values.new) ≡ bind names.now (data_of_all xs.now) (env_of values.old)) }
 {
@@ -44,7 +44,7 @@ pub fn bind(values: &mut Cells<Bits>, names: &[Value], xs: &[Bits]) -> Result<bo
 }
 
 /// The value of an argument of a target, where it has one.
-fn read_arg(values: &Cells<Bits>, results: &[Bits], payloads: &[Bits], arg: Arg) -> Option<Bits>
+fn read_arg(values: &Registers, results: &[Bits], payloads: &[Bits], arg: Arg) -> Option<Bits>
     ensures { option_map data_of result
         ≡ arg_value (env_of values.now) (data_of_all results.now) (data_of_all payloads.now) arg }
 {
@@ -57,7 +57,7 @@ fn read_arg(values: &Cells<Bits>, results: &[Bits], payloads: &[Bits], arg: Arg)
 
 /// The values of a target's arguments, where all have one.
 pub fn read_args(
-    values: &Cells<Bits>,
+    values: &Registers,
     results: &[Bits],
     payloads: &[Bits],
     args: &[Arg],

@@ -1,5 +1,5 @@
 //! Instructions that give values.
-ghost use Rattle.std.specs.Prelude.{◌≡◌, IfOk, List};
+ghost use Rattle.std.specs.Prelude.{◌≡◌, ◌∷◌, [], IfOk, List};
 ghost use Rattle.clk_num.specs.Operations.{operation};
 ghost use Rattle.clk_num.specs.Views.{data_of, data_of_all};
 ghost use Rattle.ir_core.specs.Module.{Module as RunModule, Pure, PureImm, Trapz, Trapnz};
@@ -11,6 +11,7 @@ ghost use Rattle.interp.specs.State.{moment, done, simply};
 
 use crate::moves::{bind, read_all};
 use crate::outcome::End;
+use crate::quick::quick;
 use crate::state::{Frame, Stop};
 use clk_num::{Bits, Evaled, Op, TrapCode, eval, fits};
 use ir_core::{InstData, Value};
@@ -33,6 +34,21 @@ pub fn give_results(
     }
 }
 
+/// The one result gets this value.
+pub fn give_one(frame: &mut Frame, line: &InstData, x: Bits) -> Result<Option<Stop>, AllocError>
+    ensures { IfOk result (λ r. (m : RunModule) (below : List DeclaredWait) (w : RunWorld)
+        → moment m frame.new below w r
+        ≡ done m frame.old below w line.now (Go (data_of x ∷ []) (bytes_at frame.old.slots) w.memory)) }
+{
+    match line.results.as_slice() {
+        [name] => {
+            frame.values.put(name.number() as usize, x)?;
+            Ok(None)
+        }
+        _ => Ok(Some(Stop::Stuck)),
+    }
+}
+
 /// The results get what an operation gives.
 pub fn compute(
     frame: &mut Frame,
@@ -49,15 +65,28 @@ pub fn compute(
         return Ok(Some(Stop::Stuck));
     }
     match eval(op, args) {
-        Evaled::One(x) => {
-            let moved = give_results(frame, line, &[x])?;
-            Ok(moved)
-        }
-        Evaled::Two(x, y) => {
-            let moved = give_results(frame, line, &[x, y])?;
-            Ok(moved)
-        }
+        Evaled::One(x) => give_one(frame, line, x),
+        Evaled::Two(x, y) => give_results(frame, line, &[x, y]),
         Evaled::Trap(code) => Ok(Some(Stop::At(End::Trapped(code)))),
+    }
+}
+
+/// The results get what an operation gives on two values.
+fn compute_two(
+    frame: &mut Frame,
+    line: &InstData,
+    op: Op,
+    x: Bits,
+    y: Bits,
+) -> Result<Option<Stop>, AllocError>
+    ensures { IfOk result (λ r. (m : RunModule) (below : List DeclaredWait) (w : RunWorld)
+        → moment m frame.new below w r
+        ≡ done m frame.old below w line.now
+        (evaluated (bytes_at frame.old.slots) w.memory (operation op (data_of x ∷ data_of y ∷ [])))) }
+{
+    match quick(op, x, y) {
+        Some(z) => give_one(frame, line, z),
+        None => compute(frame, line, op, &[x, y]),
     }
 }
 
@@ -73,11 +102,36 @@ pub fn pure_op(
         → moment m frame.new below w r
         ≡ done m frame.old below w line.now (simply m frame.old w (Pure op args.now))) }
 {
-    if !read_all(&frame.values, args, xs)? {
-        return Ok(Some(Stop::Stuck));
+    match args {
+        [a, b] => pure_two(frame, line, op, *a, *b),
+        _ => {
+            if !read_all(&frame.values, args, xs)? {
+                return Ok(Some(Stop::Stuck));
+            }
+            compute(frame, line, op, xs)
+        }
     }
-    let moved = compute(frame, line, op, xs)?;
-    Ok(moved)
+}
+
+/// An operation on two values.
+fn pure_two(
+    frame: &mut Frame,
+    line: &InstData,
+    op: Op,
+    a: Value,
+    b: Value,
+) -> Result<Option<Stop>, AllocError>
+    ensures { IfOk result (λ r. (m : RunModule) (below : List DeclaredWait) (w : RunWorld)
+        → moment m frame.new below w r
+        ≡ done m frame.old below w line.now (simply m frame.old w (Pure op (a ∷ b ∷ [])))) }
+{
+    let Some(x) = frame.values.get(a.number() as usize) else {
+        return Ok(Some(Stop::Stuck));
+    };
+    let Some(y) = frame.values.get(b.number() as usize) else {
+        return Ok(Some(Stop::Stuck));
+    };
+    compute_two(frame, line, op, x, y)
 }
 
 /// An operation on a value and an immediate.
@@ -95,8 +149,7 @@ pub fn pure_imm(
     let Some(x) = frame.values.get(arg.number() as usize) else {
         return Ok(Some(Stop::Stuck));
     };
-    let moved = compute(frame, line, op, &[x, imm])?;
-    Ok(moved)
+    compute_two(frame, line, op, x, imm)
 }
 
 /// Traps where a value is 0.
@@ -115,8 +168,7 @@ pub fn trapz(
     if x.value() == 0 {
         return Ok(Some(Stop::At(End::Trapped(code))));
     }
-    let moved = give_results(frame, line, &[])?;
-    Ok(moved)
+    give_results(frame, line, &[])
 }
 
 /// Traps where a value is not 0.
@@ -136,6 +188,5 @@ pub fn trapnz(
     if x.value() != 0 {
         return Ok(Some(Stop::At(End::Trapped(code))));
     }
-    let moved = give_results(frame, line, &[])?;
-    Ok(moved)
+    give_results(frame, line, &[])
 }

@@ -4,8 +4,8 @@ ghost use Rattle.ir_core.specs.Viewed.{line_of};
 ghost use Rattle.interp.specs.Lines.{lines_fit};
 
 use crate::outcome::{End, Event};
-use byte_store::{Cells, Memory, Slots};
-use clk_num::Bits;
+use crate::registers::Registers;
+use byte_store::{Memory, Slots};
 use host_script::Reply;
 use ir_core::{BlockCall, FuncName, InstData, Module, Sig, Value};
 
@@ -32,7 +32,7 @@ pub struct Links {
 pub struct Frame<'m> {
     pub at: usize,
     pub rest: &'m [InstData],
-    pub values: Cells<Bits>,
+    pub values: Registers,
     pub slots: Slots,
     pub extra: Vec<u32>,
     pub ghost fit: { IsTrue (lines_fit (map line_of rest.now)) },

@@ -41,35 +41,17 @@ pub fn act<'m>(
         (world_of world.old).memory (instruction_of line.now.inst))) }
 {
     match &line.inst {
-        Inst::Nop => {
-            let moved = give_results(top, line, &[])?;
-            Ok(moved)
-        }
-        Inst::SequencePoint => {
-            let moved = sequence_point(alloc, program, top, below.as_slice(), world, line)?;
-            Ok(moved)
-        }
-        Inst::Const(bits) => {
-            let moved = give_results(top, line, &[*bits])?;
-            Ok(moved)
-        }
-        Inst::Pure { op, args } => {
-            let moved = pure_op(top, line, *op, args.as_slice(), xs)?;
-            Ok(moved)
-        }
-        Inst::PureImm { op, arg, imm } => {
-            let moved = pure_imm(top, line, *op, *arg, *imm)?;
-            Ok(moved)
-        }
+        Inst::Nop => give_results(top, line, &[]),
+        Inst::SequencePoint => sequence_point(alloc, program, top, below.as_slice(), world, line),
+        Inst::Const(bits) => give_results(top, line, &[*bits]),
+        Inst::Pure { op, args } => pure_op(top, line, *op, args.as_slice(), xs),
+        Inst::PureImm { op, arg, imm } => pure_imm(top, line, *op, *arg, *imm),
         Inst::Load {
             access,
             flags,
             address,
             offset,
-        } => {
-            let moved = load(top, world, line, *access, *flags, *address, *offset)?;
-            Ok(moved)
-        }
+        } => load(top, world, line, *access, *flags, *address, *offset),
         Inst::Store {
             narrow,
             flags,
@@ -80,168 +62,123 @@ pub fn act<'m>(
             let moved = store(top, world, line, *narrow, *flags, *value, *address, *offset);
             Ok(moved)
         }
-        Inst::StackLoad { ty, slot, offset } => {
-            let moved = stack_load(program, top, line, *ty, *slot, *offset)?;
-            Ok(moved)
-        }
+        Inst::StackLoad { ty, slot, offset } => stack_load(program, top, line, *ty, *slot, *offset),
         Inst::StackStore {
             value,
             slot,
             offset,
-        } => {
-            let moved = stack_store(program, top, line, *value, *slot, *offset)?;
-            Ok(moved)
-        }
-        Inst::FuncAddr(callee) => {
-            let moved = func_addr(program, addresses, top, line, *callee)?;
-            Ok(moved)
-        }
-        Inst::Jump(target) => {
-            let moved = jump(program, top, line, target, xs)?;
-            Ok(moved)
-        }
-        Inst::Brif { cond, yes, no } => {
-            let moved = brif(program, top, line, *cond, yes.get(), no.get(), xs)?;
-            Ok(moved)
-        }
+        } => stack_store(program, top, line, *value, *slot, *offset),
+        Inst::FuncAddr(callee) => func_addr(program, addresses, top, line, *callee),
+        Inst::Jump(target) => jump(program, top, line, target, xs),
+        Inst::Brif { cond, yes, no } => brif(program, top, line, *cond, yes.get(), no.get(), xs),
         Inst::BrTable {
             index,
             default,
             entries,
-        } => {
-            let moved = br_table(
-                program,
-                top,
-                line,
-                *index,
-                default.get(),
-                entries.as_slice(),
-                xs,
-            )?;
-            Ok(moved)
-        }
-        Inst::Return(args) => {
-            let moved = give_back(
-                alloc,
-                program,
-                top,
-                below,
-                line,
-                args.as_slice(),
-                values,
-                xs,
-            )?;
-            Ok(moved)
-        }
+        } => br_table(
+            program,
+            top,
+            line,
+            *index,
+            default.get(),
+            entries.as_slice(),
+            xs,
+        ),
+        Inst::Return(args) => give_back(
+            alloc,
+            program,
+            top,
+            below,
+            line,
+            args.as_slice(),
+            values,
+            xs,
+        ),
         Inst::Trap(code) => Ok(Some(Stop::At(End::Trapped(*code)))),
-        Inst::Trapz { cond, code } => {
-            let moved = trapz(top, line, *cond, *code)?;
-            Ok(moved)
-        }
-        Inst::Trapnz { cond, code } => {
-            let moved = trapnz(top, line, *cond, *code)?;
-            Ok(moved)
-        }
-        Inst::Call { callee, args } => {
-            let moved = call_callee(
-                alloc,
-                program,
-                top,
-                below,
-                world,
-                line,
-                *callee,
-                args.as_slice(),
-                values,
-                xs,
-            )?;
-            Ok(moved)
-        }
-        Inst::ReturnCall { callee, args } => {
-            let moved = tail_call_callee(
-                alloc,
-                program,
-                top,
-                below,
-                world,
-                line,
-                *callee,
-                args.as_slice(),
-                values,
-                xs,
-            )?;
-            Ok(moved)
-        }
-        Inst::TryCall { callee, args, .. } => {
-            let moved = call_callee(
-                alloc,
-                program,
-                top,
-                below,
-                world,
-                line,
-                *callee,
-                args.as_slice(),
-                values,
-                xs,
-            )?;
-            Ok(moved)
-        }
-        Inst::CallIndirect { sig, address, args } => {
-            let moved = call_address(
-                alloc,
-                program,
-                addresses,
-                top,
-                below,
-                world,
-                line,
-                *sig,
-                *address,
-                args.as_slice(),
-                values,
-                xs,
-            )?;
-            Ok(moved)
-        }
-        Inst::ReturnCallIndirect { sig, address, args } => {
-            let moved = tail_call_address(
-                alloc,
-                program,
-                addresses,
-                top,
-                below,
-                world,
-                line,
-                *sig,
-                *address,
-                args.as_slice(),
-                values,
-                xs,
-            )?;
-            Ok(moved)
-        }
+        Inst::Trapz { cond, code } => trapz(top, line, *cond, *code),
+        Inst::Trapnz { cond, code } => trapnz(top, line, *cond, *code),
+        Inst::Call { callee, args } => call_callee(
+            alloc,
+            program,
+            top,
+            below,
+            world,
+            line,
+            *callee,
+            args.as_slice(),
+            values,
+            xs,
+        ),
+        Inst::ReturnCall { callee, args } => tail_call_callee(
+            alloc,
+            program,
+            top,
+            below,
+            world,
+            line,
+            *callee,
+            args.as_slice(),
+            values,
+            xs,
+        ),
+        Inst::TryCall { callee, args, .. } => call_callee(
+            alloc,
+            program,
+            top,
+            below,
+            world,
+            line,
+            *callee,
+            args.as_slice(),
+            values,
+            xs,
+        ),
+        Inst::CallIndirect { sig, address, args } => call_address(
+            alloc,
+            program,
+            addresses,
+            top,
+            below,
+            world,
+            line,
+            *sig,
+            *address,
+            args.as_slice(),
+            values,
+            xs,
+        ),
+        Inst::ReturnCallIndirect { sig, address, args } => tail_call_address(
+            alloc,
+            program,
+            addresses,
+            top,
+            below,
+            world,
+            line,
+            *sig,
+            *address,
+            args.as_slice(),
+            values,
+            xs,
+        ),
         Inst::TryCallIndirect {
             sig,
             address,
             args,
             ..
-        } => {
-            let moved = call_address(
-                alloc,
-                program,
-                addresses,
-                top,
-                below,
-                world,
-                line,
-                *sig,
-                *address,
-                args.as_slice(),
-                values,
-                xs,
-            )?;
-            Ok(moved)
-        }
+        } => call_address(
+            alloc,
+            program,
+            addresses,
+            top,
+            below,
+            world,
+            line,
+            *sig,
+            *address,
+            args.as_slice(),
+            values,
+            xs,
+        ),
     }
 }

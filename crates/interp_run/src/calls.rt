@@ -44,8 +44,7 @@ pub fn func_addr<'m>(
     let Some(address) = address_of_callee(program, addresses, frame.at, callee) else {
         return Ok(Some(Stop::Stuck));
     };
-    let moved = give_results(frame, line, &[address_value(address)])?;
-    Ok(moved)
+    give_results(frame, line, &[address_value(address)])
 }
 
 /// A call by an address, above the frame on top.
@@ -76,8 +75,7 @@ pub fn call_address<'m>(
         return Ok(Some(Stop::Stuck));
     }
     let target = find_address(program, addresses, top.at, sig, base.value());
-    let moved = invoke(alloc, program, top, below, world, line, target, values, xs)?;
-    Ok(moved)
+    invoke(alloc, program, top, below, world, line, target, values, xs)
 }
 
 /// A call by an address, in place of the frame on top.
@@ -112,8 +110,7 @@ pub fn tail_call_address<'m>(
         return Ok(Some(Stop::Stuck));
     }
     let target = find_address(program, addresses, top.at, sig, base.value());
-    let moved = invoke_tail(
+    invoke_tail(
         alloc, program, top, below, world, line, target, extra, values, xs,
-    )?;
-    Ok(moved)
+    )
 }

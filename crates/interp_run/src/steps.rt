@@ -38,10 +38,9 @@ fn step<'m>(
         return Ok(Some(Stop::Stuck));
     };
     top.rest = rest;
-    let moved = act(
+    act(
         alloc, program, addresses, top, below, world, line, values, xs,
-    )?;
-    Ok(moved)
+    )
 }
 
 /// Makes so many steps from a frame with none below it, or fewer where the run is over before. The frames that wait

@@ -2,7 +2,6 @@
 use Rattle.std.proofs.Common.{◌≡◌, ℕ, zero, suc, ◌<◌, ◌≤◌, List, [], ◌∷◌, length, map, Option, Some, None, get_or, slice_get, refl, arith, ap, ◌∙◌, sym, if◌then◌else◌, nat_eq, Bool, true, false, inl, inr, subst}
 use Rattle.std.proofs.lemmas.Bool.{eq-eqb, ne_eqb, eqb-true}
 use Rattle.std.proofs.lemmas.List.{length-map}
-use Rattle.clk_num.specs.declared.bits.Bits.{Bits}
 use Rattle.clk_num.specs.Operations.{DataValue}
 use Rattle.ir_core.specs.declared.instructions.InstData.{InstData}
 use Rattle.ir_core.specs.declared.instructions.BlockCall.{BlockCall}

@@ -1,5 +1,5 @@
 -- Values read and bound one after another.
-use Rattle.std.proofs.Common.{◌≡◌, ℕ, suc, ◌+◌, ◌<◌, List, [], ◌∷◌, ◌++◌, length, drop, Option, Some, None, Bool, true, false, nat_eq, if◌then◌else◌, get_or, refl, arith, ap, ◌∙◌, sym, drop-cons, ◌≢◌, append-nil, append_assoc}
+use Rattle.std.proofs.Common.{◌≡◌, ℕ, suc, ◌+◌, ◌<◌, List, [], ◌∷◌, ◌++◌, length, drop, Option, Some, None, get_or, refl, arith, ap, ◌∙◌, sym, drop-cons, ◌≢◌, append-nil, append_assoc}
 use Rattle.std.proofs.Math.Seq.{drop-length}
 use Rattle.std.proofs.Math.Numerals.{add-one}
 use Rattle.clk_num.specs.declared.bits.Bits.{Bits}

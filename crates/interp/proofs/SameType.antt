@@ -1,9 +1,8 @@
 -- Operations on two values of one type.
-use Rattle.std.proofs.Common.{◌≡◌, ℕ, ◌<◌, ◌^◌, [], ◌∷◌, if◌then◌else◌, true, None, Some, List, Option, ap, ◌∙◌, sym, subst}
+use Rattle.std.proofs.Common.{◌≡◌, ℕ, [], ◌∷◌, if◌then◌else◌, None, Some, ap, ◌∙◌, sym}
 use Rattle.std.proofs.lemmas.Bool.{eq-eqb}
 use Rattle.clk_num.specs.declared.op.Op.{Op}
 use Rattle.clk_num.specs.declared.op.Op.TheVariants.{Iadd, Isub, Imul, Band, Bor, Bxor}
-use Rattle.clk_num.specs.declared.width.Width.{Width}
 use Rattle.clk_num.specs.Width.{bits_of, same}
 use Rattle.clk_num.specs.Rows.{row}
 use Rattle.clk_num.specs.Operations.{DataValue, Evaluation, Values, value_of, within, meaning, operation, iadd, isub, imul, band, bor, bxor}

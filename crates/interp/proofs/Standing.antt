@@ -1,18 +1,15 @@
 -- What stands at a number, after more room and after a write.
-use Rattle.std.proofs.Common.{◌≡◌, ℕ, zero, suc, ◌+◌, ◌<◌, List, [], ◌∷◌, ◌++◌, length, Option, Some, None, slice_get, set, refl, arith, if◌then◌else◌, nat_eq, ap, sym, ◌∙◌, Bool, true, false}
+use Rattle.std.proofs.Common.{◌≡◌, ℕ, zero, suc, ◌<◌, List, [], ◌∷◌, ◌++◌, length, Option, Some, slice_get, set, refl, arith, if◌then◌else◌, nat_eq, ap, sym, ◌∙◌, Bool, true, false}
 use Rattle.std.proofs.Math.Dec.{eqb-suc-zero, eqb-zero-suc, eqb-suc-suc}
 use Rattle.std.proofs.Math.Path.{fun_ext}
 use Rattle.std.specs.Option.{option_map}
 use Rattle.clk_num.specs.declared.bits.Bits.{Bits}
-use Rattle.clk_num.specs.Operations.{DataValue}
 use Rattle.clk_num.specs.Views.{data_of}
 use Rattle.byte_store.specs.Cells.{cell_of, put_cell}
 use Rattle.ir_semantics.specs.Values.{Env, put}
-use Rattle.interp.specs.declared.held.Held.{Held}
 use Rattle.interp.specs.declared.held.Held.TheVariants.{Nothing, Narrow, Wide}
 use Rattle.interp.specs.declared.held.Register.{Register}
-use Rattle.interp.specs.declared.registers.Registers.{Registers}
-use Rattle.interp.specs.State.{value_held, held_value, env_of}
+use Rattle.interp.specs.State.{value_held, held_value}
 
 no_more : (xs : List Register) (r : Register) (w : ℕ → Option Bits) → r.held ≡ Nothing → (v : ℕ) → held_value (slice_get (xs ++ r ∷ []) v) (w v) ≡ held_value (slice_get xs v) (w v)
 no_more [] r w h zero = ap (λ k. value_held k (record { width = r.width; value = r.value }) (w zero)) h

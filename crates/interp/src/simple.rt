@@ -45,7 +45,13 @@ pub fn give_one(frame: &mut Frame, line: &InstData, x: Bits) -> Result<Option<St
             frame.values.put(name.number() as usize, x)?;
             Ok(None)
         }
-        _ => Ok(Some(Stop::Stuck)),
+        _ => {
+            let x = Bits {
+                width: x.width,
+                value: x.value,
+            };
+            give_results(frame, line, &[x])
+        }
     }
 }
 

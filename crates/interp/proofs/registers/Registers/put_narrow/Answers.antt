@@ -1,4 +1,4 @@
-use Rattle.std.proofs.Common.{◌∙◌, ap, refl, ◌<◌, length}
+use Rattle.std.proofs.Common.{◌∙◌, ap, refl}
 use Rattle.clk_num.specs.Operations.{value_of}
 use Rattle.ir_semantics.specs.Values.{put}
 use Rattle.interp.proofs.Standing.{set_narrow}

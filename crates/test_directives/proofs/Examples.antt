@@ -8,7 +8,8 @@ use Rattle.clif_words.specs.Words.{stems, refused_stems, is_refused, entity_numb
 use Rattle.clk_num.specs.Numbers.{fits, wrapped}
 use Rattle.script_text.specs.Lexed.{lexed}
 use Rattle.script_text.specs.Symbols as symbols
-use Rattle.test_directives.specs.Examples.{WorkedHeaders, WorkedComments}
+use Rattle.test_directives.specs.Frame.{meaning_from}
+use Rattle.test_directives.specs.Examples.{WorkedHeaders, WorkedComments, WorkedRuns, RefusedRuns}
 
 pub worked_headers : WorkedHeaders
 unfolding digits
@@ -22,7 +23,7 @@ worked_headers = record {
 }
 
 pub worked_comments : WorkedComments
-unfolding digits number_at word_at token_at tokens_from lexemes all_words stems refused_stems is_refused entity_number is_lanes numbered_meaning word_meaning fits wrapped lexed symbols.word symbols.number
+unfolding digits number_at word_at token_at tokens_from lexemes all_words stems refused_stems is_refused entity_number is_lanes numbered_meaning word_meaning fits wrapped lexed symbols.word symbols.number meaning_from
 worked_comments = record {
   equal = refl;
   user = refl;
@@ -38,4 +39,33 @@ worked_comments = record {
   dollar = refl;
   error = refl;
   script = refl;
+}
+
+pub worked_runs : WorkedRuns
+unfolding digits number_at word_at token_at tokens_from lexemes all_words stems refused_stems is_refused entity_number is_lanes numbered_meaning word_meaning fits wrapped lexed symbols.word symbols.number meaning_from
+worked_runs = record {
+  equal = refl;
+  returns = refl;
+  listed = refl;
+  throws = refl;
+  blanks = refl;
+}
+
+pub refused_runs : RefusedRuns
+unfolding digits number_at word_at token_at tokens_from lexemes all_words stems refused_stems is_refused entity_number is_lanes numbered_meaning word_meaning fits wrapped lexed symbols.word symbols.number meaning_from
+refused_runs = record {
+  empty = refl;
+  unclosed = refl;
+  unopened = refl;
+  one_sign = refl;
+  blank_in_sign = refl;
+  no_expectation = refl;
+  bracket = refl;
+  behind_bracket = refl;
+  two_numbers = refl;
+  returned = refl;
+  closed_twice = refl;
+  opened_twice = refl;
+  behind = refl;
+  no_name = refl;
 }

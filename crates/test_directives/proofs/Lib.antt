@@ -1,4 +1,7 @@
 pub mod Words
+pub mod Frame
+pub mod Parts
+pub mod RunReadings
 pub mod Placed
 pub mod Finishing
 pub mod FirstNames

@@ -1,15 +1,15 @@
 -- What a comment asks for.
-use Rattle.std.specs.Prelude.{ℕ, ◌-◌, ◌==◌, Bool, not, ◌||◌, if◌then◌else◌, List, [], ◌∷◌, ◌++◌}
-use Rattle.std.specs.Prelude.{length, take, drop, codes, ℤ, Option, Some, None, Ok, Err, decimal}
+use Rattle.std.specs.Prelude.{ℕ, ◌==◌, if◌then◌else◌, List, [], ◌∷◌, ◌++◌}
+use Rattle.std.specs.Prelude.{length, drop, codes, ℤ, Option, Some, None, Ok, Err, decimal}
 use Rattle.std.specs.Fmt.{signed_decimal}
-use Rattle.std.specs.List.{prefix_len, list_any}
-use Rattle.std.specs.Str.{bytes_eq}
-use Rattle.grammar.specs.Rules.{read_all}
+use Rattle.std.specs.List.{list_any}
+use Rattle.grammar.specs.Rules.{Tree, read_all}
 use Rattle.clk_num.specs.declared.op.TrapCode.{TrapCode}
 use Rattle.clif_lex.specs.declared.spans.Token.{Token}
 use Rattle.clif_lex.specs.Bytes.{semicolon}
 use Rattle.clif_lex.specs.Lexing.{tokens_of}
 use Rattle.clif_words.specs.Lexemes.{lexemes}
+use Rattle.clif_insts.specs.Values.{◌otherwise◌, perhaps}
 use Rattle.clif_read.specs.declared.raw.RawFuncName.{RawFuncName}
 use Rattle.clif_read.specs.declared.raw.RawFuncName.TheVariants as raw_name
 use Rattle.clif_read.specs.ModuleGrammar.{func_name}
@@ -17,7 +17,11 @@ use Rattle.clif_read.specs.DeclarationValues.{func_name_value}
 use Rattle.ir_core.specs.Lookup.{and_then}
 use Rattle.ir_semantics.specs.Machine.{HostAct, Reply, Returns, HostTraps, Throws}
 use Rattle.script_text.specs.Examples.{script_of, numbers_of}
+use Rattle.test_directives.specs.declared.marks.Mark.{Mark}
+use Rattle.test_directives.specs.declared.marks.Mark.TheVariants as marks
 use Rattle.test_directives.specs.Blanks.{behind, trim_front, trimmed}
+use Rattle.test_directives.specs.Frame as frame
+use Rattle.test_directives.specs.Frame.{piece_text, plain_text, meaning}
 
 -- the end that a run is to have
 pub data Expectation : Type 0 where
@@ -89,11 +93,6 @@ values_of t = elim (numbers_of t) [ Err spot ↦ None | Ok numbers ↦ Some numb
 abbrev pub replies_of : List ℕ → Option (List Reply)
 replies_of t = elim (script_of t) [ Err spot ↦ None | Ok replies ↦ Some replies ]
 
--- what stands before the last byte, where that is this one
-abbrev pub up_to : ℕ → List ℕ → Option (List ℕ)
-up_to last t =
-    if bytes_eq (drop (length t - 1) t) (last ∷ []) then Some (take (length t - 1) t) else None
-
 -- a trap or a throw as an act of a host would be written, without writes
 abbrev pub stop_of_act : HostAct → Option Expectation
 stop_of_act (Returns numbers) = None
@@ -123,47 +122,39 @@ one_of (n ∷ more) = if length more == 0 then Some (Values (n ∷ [])) else Non
 abbrev pub plain_expectation : List ℕ → Option Expectation
 plain_expectation t = elim (values_of t) [ Some numbers ↦ one_of numbers | None ↦ stop_of t ]
 
-abbrev pub bracketed : List ℕ → Option (List ℕ)
-bracketed t = and_then (behind (codes "[") t) (up_to 93)
+abbrev pub listed_value : Tree frame.listed → Option Expectation
+listed_value v = and_then (values_of (piece_text v.1.0)) (λ numbers. Some (Values numbers))
 
--- numbers in brackets, or one of those
-abbrev pub expectation_of : List ℕ → Option Expectation
-expectation_of t =
-    elim (bracketed (trimmed t)) [
-      | Some inner ↦ and_then (values_of inner) (λ numbers. Some (Values numbers))
-      | None ↦ plain_expectation (trimmed t)
-    ]
+abbrev pub plain_value : Tree frame.plain → Option Expectation
+plain_value v = plain_expectation (plain_text v)
 
--- what is wanted, by the text from the first `=` or `!` on
-abbrev pub wanted_of : List ℕ → Option Wanted
-wanted_of [] = Some Return
-wanted_of (c ∷ cs) =
-    elim (behind (codes "==") (c ∷ cs)) [
-      | Some rest ↦ and_then (expectation_of rest) (λ e. Some (Equal e))
-      | None ↦ and_then (and_then (behind (codes "!=") (c ∷ cs)) expectation_of) (λ e. Some (Unequal e))
-    ]
+abbrev pub expectation_value : Tree frame.expectation → Option Expectation
+expectation_value v = (listed_value otherwise plain_value) v.1
 
--- ---- calls
+-- ---- runs
 
--- how many bytes stand before the first of a set
-abbrev pub before : (ℕ → Bool) → List ℕ → ℕ
-before is_one t = prefix_len (λ c. not (is_one c)) t
+abbrev pub signed_value : (mark : Mark) → Tree (frame.signed mark) → Option Expectation
+signed_value mark v = expectation_value v.1.1
 
--- the name before the parentheses, and the numbers in them
-abbrev pub call_of : List ℕ → Option (List ℕ × List ℤ)
-call_of t =
-    let open_at = before (λ c. c == 40) t in
-    and_then (name_of (take open_at t)) (λ name.
-    and_then (and_then (behind (codes "(") (drop open_at t)) (up_to 41)) (λ inner.
-    and_then (values_of inner) (λ numbers. Some (name, numbers))))
+abbrev pub equal_value : Tree (frame.signed marks.Equals) → Option Wanted
+equal_value v = and_then (signed_value marks.Equals v) (λ e. Some (Equal e))
 
--- a call, then nothing or `==` or `!=` and an expectation: neither mark stands in a call
+abbrev pub unequal_value : Tree (frame.signed marks.Bang) → Option Wanted
+unequal_value v = and_then (signed_value marks.Bang v) (λ e. Some (Unequal e))
+
+abbrev pub wanted_value : Tree frame.wanted → Option Wanted
+wanted_value v = perhaps (Some Return) (equal_value otherwise unequal_value) v.1
+
+abbrev pub run_value : Tree frame.run → Option Call
+run_value v =
+    and_then (name_of (piece_text v.0)) (λ name.
+    and_then (values_of (piece_text v.1.1.0)) (λ numbers.
+    and_then (wanted_value v.1.1.1.1) (λ wanted.
+    Some (record { name = name; numbers = numbers; wanted = wanted }))))
+
+-- the call that a text is, and what is wanted of it
 abbrev pub run_of : List ℕ → Option Call
-run_of t =
-    let split = before (λ c. (c == 61) || (c == 33)) t in
-    and_then (call_of (trimmed (take split t))) (λ call.
-    and_then (wanted_of (drop split t)) (λ wanted.
-    Some (record { name = call.0; numbers = call.1; wanted = wanted })))
+run_of t = meaning frame.run run_value t
 
 -- ---- comments
 

@@ -1,4 +1,6 @@
 pub mod Blanks
+pub mod Marks
+pub mod Frame
 pub mod Commands
 pub mod Directives
 pub mod Tests

@@ -5,7 +5,7 @@ ghost use Rattle.clif_lex.specs.Bytes as bytes;
 ghost use Rattle.test_directives.specs.Blanks as spec;
 
 /// What stands between words.
-fn is_blank(c: u8) -> bool
+pub(crate) fn is_blank(c: u8) -> bool
     ensures { result ≡ bytes.is_blank c }
 {
     c == b' ' || c == b'\n' || c == b'\t' || c == b'\r'

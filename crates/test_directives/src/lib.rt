@@ -11,6 +11,7 @@ mod comments;
 mod directives;
 mod functions;
 pub mod laws;
+mod marks;
 mod names;
 mod places;
 mod runs;

@@ -1,13 +1,13 @@
 //! Numbers, and the ends that a run may be expected to have.
 ghost use Rattle.std.specs.Prelude.{◌≡◌, map, option_map, IfOk};
-ghost use Rattle.ir_core.specs.Lookup.{and_then};
 ghost use Rattle.host_script.specs.Script.{replies_of, reply_of};
-ghost use Rattle.test_directives.specs.Blanks as blanks;
 ghost use Rattle.test_directives.specs.Directives as spec;
+ghost use Rattle.test_directives.specs.Frame as frame;
 ghost use Rattle.test_directives.specs.Views as views;
 
-use crate::blanks::{behind, trimmed};
+use crate::blanks::trim_front;
 use crate::directives::Expectation;
+use crate::marks::{Mark, are_plain, begins, behind_mark, piece};
 use host_script::{Act, Reply, Script};
 use ir_core::List;
 use script_text::{ScriptErr, number_list, script};
@@ -83,28 +83,64 @@ fn one_of(numbers: List<i128>) -> Option<Expectation>
     }
 }
 
-/// What stands between these bytes in front and this one at the end, where the text has both.
-pub(crate) fn enclosed<'t>(text: &'t [u8], front: &[u8], last: u8) -> Option<&'t [u8]>
-    ensures { option_map (λ inner. inner.now) result ≡ and_then (blanks.behind front.now text.now) (spec.up_to last) }
+/// A number, a trap or a throw.
+fn plain_expectation(alloc: Global, text: &[u8]) -> Result<Option<Expectation>, AllocError>
+    ensures { IfOk result (λ end. option_map views.expectation_of end ≡ spec.plain_expectation text.now) }
 {
-    let rest = behind(text, front)?;
-    let (end, inner) = rest.split_last()?;
-    if *end == last { Some(inner) } else { None }
-}
-
-/// A number, numbers in brackets, a trap or a throw.
-pub(crate) fn expectation_of(alloc: Global, text: &[u8]) -> Result<Option<Expectation>, AllocError>
-    ensures { IfOk result (λ end. option_map views.expectation_of end ≡ spec.expectation_of text.now) }
-{
-    let text = trimmed(text);
-    if let Some(inner) = enclosed(text, b"[".as_slice(), b']') {
-        return match numbers_of(alloc, inner)? {
-            Some(numbers) => Ok(Some(Expectation::Values(numbers))),
-            None => Ok(None),
-        };
-    }
     match numbers_of(alloc, text)? {
         Some(numbers) => Ok(one_of(numbers)),
         None => stop_of(alloc, text),
+    }
+}
+
+/// A number, a trap or a throw, by its marks.
+#[tactic(auto, using(crate::proofs::RunReadings::plain_reads))]
+fn plain_of(alloc: Global, text: &[u8]) -> Result<Option<Expectation>, AllocError>
+    ensures { IfOk result (λ end. option_map views.expectation_of end
+        ≡ frame.meaning frame.plain spec.plain_value text.now) }
+{
+    let Some(rest) = behind_mark(text, Mark::Other) else {
+        return Ok(None);
+    };
+    if are_plain(rest) {
+        plain_expectation(alloc, text)
+    } else {
+        Ok(None)
+    }
+}
+
+/// Numbers in brackets.
+#[tactic(auto, using(crate::proofs::RunReadings::listed_reads))]
+fn listed_of(alloc: Global, text: &[u8]) -> Result<Option<Expectation>, AllocError>
+    ensures { IfOk result (λ end. option_map views.expectation_of end
+        ≡ frame.meaning frame.listed spec.listed_value text.now) }
+{
+    let Some(rest) = behind_mark(text, Mark::LeftBracket) else {
+        return Ok(None);
+    };
+    let (inner, back) = piece(rest);
+    let Some(behind) = behind_mark(back, Mark::RightBracket) else {
+        return Ok(None);
+    };
+    if !trim_front(behind).is_empty() {
+        return Ok(None);
+    }
+    match numbers_of(alloc, inner)? {
+        Some(numbers) => Ok(Some(Expectation::Values(numbers))),
+        None => Ok(None),
+    }
+}
+
+/// A number, numbers in brackets, a trap or a throw.
+#[tactic(auto, using(crate::proofs::RunReadings::expectation_reads))]
+pub(crate) fn expectation_of(alloc: Global, text: &[u8]) -> Result<Option<Expectation>, AllocError>
+    ensures { IfOk result (λ end. option_map views.expectation_of end
+        ≡ frame.meaning frame.expectation spec.expectation_value text.now) }
+{
+    let rest = trim_front(text);
+    if begins(rest, Mark::LeftBracket) {
+        listed_of(alloc, rest)
+    } else {
+        plain_of(alloc, rest)
     }
 }

@@ -1,5 +1,6 @@
 -- Each rule of a `run:`, read from left to right.
-use Rattle.std.proofs.Common.{◌≡◌, ℕ, zero, suc, ◌+◌, ◌==◌, Bool, true, false, ◌&&◌, cond, List, [], ◌∷◌, length, take, drop, map, pos, Option, Some, None, Ok, Err, refl, sym, ap, ◌∙◌}
+use Rattle.std.proofs.Common.{◌≡◌, ℕ, zero, suc, ◌+◌, ◌==◌, Bool, true, false, ◌&&◌, cond, List, [], ◌∷◌, length, take, drop, map, pos, Option, Some, None, Ok, Err, refl, sym, ap, ◌∙◌, arith}
+use Rattle.std.proofs.lemmas.Bool.Decides.{nat_tests}
 use Rattle.std.specs.List.{prefix_len, list_all}
 use Rattle.grammar.specs.Rules.{Lexeme, Rule, Tok, Seq, Alt, Opt, Many, Tree, Out, heads, heads_any, member, firsts, read}
 use Rattle.ir_core.specs.Lookup.{and_then}
@@ -28,7 +29,7 @@ empty_or (c ∷ cs) x y = y
 
 pub empty_is : {A : Type 0} (t : List ℕ) (x y : A) → empty_or t x y ≡ cond (length t == 0) x y
 empty_is [] x y = refl
-empty_is (c ∷ cs) x y = refl
+empty_is {A} (c ∷ cs) x y = let e : (length (c ∷ cs) == 0) ≡ false = grind (arith, nat_tests) in sym (ap (λ (b : Bool). let o : A = cond b x y in o) e)
 
 -- ---- pieces and blanks
 

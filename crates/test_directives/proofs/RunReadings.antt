@@ -1,5 +1,5 @@
 -- What the parts of a `run:` mean, read from left to right.
-use Rattle.std.proofs.Common.{◌≡◌, ℕ, ℤ, ◌==◌, List, length, cond, Option, Some, None, ◌∙◌}
+use Rattle.std.proofs.Common.{◌≡◌, ℕ, ℤ, ◌==◌, Bool, false, List, length, cond, Option, Some, None, sym, ap, ◌∙◌}
 use Rattle.std.specs.List.{list_all}
 use Rattle.ir_core.specs.Lookup.{and_then}
 use Rattle.test_directives.specs.Blanks.{trim_front}
@@ -57,6 +57,16 @@ pub wanted_reads : (t : List ℕ)
 wanted_reads t =
     wanted_is (Some Return) equal_value unequal_value equal_there unequal_there 0 t
     ∙ empty_is (trim_front t) (Some Return) (cond (begins marks.Equals (trim_front t)) (meaning (frame.signed marks.Equals) equal_value (trim_front t)) (meaning (frame.signed marks.Bang) unequal_value (trim_front t)))
+
+abbrev by_begins : List ℕ → Bool → Option Wanted
+by_begins rest b = cond b (meaning (frame.signed marks.Equals) equal_value rest) (meaning (frame.signed marks.Bang) unequal_value rest)
+
+-- what is wanted where something stands behind the blanks, by whether it begins with `=`
+pub wanted_by : (t rest : List ℕ) (b : Bool) → rest ≡ trim_front t → (length rest == 0) ≡ false → begins marks.Equals rest ≡ b → by_begins rest b ≡ meaning frame.wanted wanted_value t
+wanted_by t rest b e some first =
+    sym (wanted_reads t
+    ∙ (ap (λ (x : List ℕ). cond (length x == 0) (Some Return) (by_begins x (begins marks.Equals x))) (sym e)
+    ∙ (ap (λ (d : Bool). cond d (Some Return) (by_begins rest (begins marks.Equals rest))) some ∙ ap (by_begins rest) first)))
 
 wanted_there : Anywhere frame.wanted wanted_value
 wanted_there = wanted_anywhere (Some Return) equal_value unequal_value equal_there unequal_there

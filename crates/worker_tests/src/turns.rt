@@ -41,6 +41,29 @@ fn refuse(board: &Board, seat: Seat) -> Option<usize>
     Some(ticket)
 }
 
+/// A seat that has done nothing takes a turn.
+fn turn_of_idle<R: Wait, L: Ledger>(
+    rt: &R,
+    alloc: Global,
+    module: &Checked,
+    plan: &Plan,
+    policy: Policy,
+    board: &Board,
+    seat: Seat,
+    blank: Blank,
+) -> Turn
+    requires board { IsBoardFor «module».now policy board.now × IsIdle board.now seat }
+    requires plan { IsPlanOf «module».now plan.now × IsLimited policy }
+    requires blank { (blank.name ≡ L.name) × (blank.parts ≡ L.parts) × (0 < blank.parts) }
+{
+    let mut seat = seat;
+    let mut steps: Steps<L> = Steps::open(blank);
+    let mut ahead = VecDeque::new(alloc);
+    turn(
+        rt, alloc, module, plan, policy, board, &mut seat, &mut ahead, 1, &NoGate, &mut steps,
+    )
+}
+
 /// The last seat takes a turn, once the one before it has refused a ticket.
 fn turn_of_last<R: Wait, L: Ledger>(
     rt: &R,
@@ -57,13 +80,9 @@ fn turn_of_last<R: Wait, L: Ledger>(
     requires blank { (blank.name ≡ L.name) × (blank.parts ≡ L.parts) × (0 < blank.parts) }
 {
     let mut seats = seats;
-    let mut last = seats.pop()?;
+    let last = seats.pop()?;
     refuse(board, seats.pop()?)?;
-    let mut steps: Steps<L> = Steps::open(blank);
-    let mut ahead = VecDeque::new(alloc);
-    Some(turn(
-        rt, alloc, module, plan, policy, board, &mut last, &mut ahead, 1, &NoGate, &mut steps,
-    ))
+    Some(turn_of_idle::<R, L>(rt, alloc, module, plan, policy, board, last, blank))
 }
 
 /// The same at a table for the functions of a module.

@@ -11,7 +11,7 @@ use crossbeam_utils::Backoff;
 use inline_finish::{Passed, Policy};
 use ir_check::Checked;
 use module_pass::pass;
-use std::alloc::Global;
+use std::alloc::{AllocError, Global};
 use std::marker::Brand;
 use std::sync::Wait;
 use std::sync::atomic::{AtomicBool, Ordering};
@@ -104,7 +104,7 @@ fn policy() -> Policy
 fn told(alloc: Global, passed: &Passed) -> Option<(Vec<u8>, u128)> {
     let functions = passed.module.module();
     let numbers = numbering(alloc, functions).ok()?;
-    let mut out = MemSink::new(alloc, Vec::new(alloc), 10000).ok()?;
+    let mut out = MemSink::new(alloc, Vec::new(alloc), 1_000_000).ok()?;
     print(functions, &numbers, &mut out).ok()?;
     let text = Vec::from_slice(alloc, out.bytes()).ok()?;
     Some((text, passed.inlined))
@@ -185,4 +185,42 @@ fn workers_make_what_one_thread_makes(rt: HostRuntime) {
             "{workers} held workers"
         );
     }
+}
+
+/// So many functions that each call the one before, behind one that calls none.
+fn chain(alloc: Global, calls: u32) -> Result<String, AllocError> {
+    let mut text = String::from_str(
+        alloc,
+        "function %f0(i64) -> i64 fast {\nblock0(v0: i64):\n    v1 = iadd v0, v0\n    return v1\n}\n",
+    )?;
+    for callee in 0..calls {
+        let caller = callee + 1;
+        let function = format!(in alloc;
+            "function %f{caller}(i64) -> i64 fast {{\n    fn0 = colocated %f{callee}(i64) -> i64 fast\n\
+             block0(v0: i64):\n    v1 = call fn0(v0)\n    return v1\n}}\n"
+        )?;
+        text.push_str(function.as_str())?;
+    }
+    Ok(text)
+}
+
+/// With so many functions a worker draws several tickets at a time.
+#[test]
+fn workers_make_it_by_runs_of_tickets(rt: HostRuntime) -> Result<(), AllocError> {
+    let alloc = rt.alloc();
+    let written = chain(alloc, 599)?;
+    let Ok(module) = check_text(&rt, alloc, written.as_bytes(), 1) else {
+        panic!(&rt; "refused");
+    };
+    let Some((text, inlined)) = made_alone(alloc, &module) else {
+        panic!(&rt; "no memory");
+    };
+    for workers in [1, 2, 3, 8] {
+        let made = made(&rt, alloc, &module, workers, &NoGate);
+        assert!(rt;
+            made.is_some_and(|made| made.0 == text && made.1 == inlined),
+            "{workers} workers"
+        );
+    }
+    Ok(())
 }

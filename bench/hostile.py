@@ -17,7 +17,7 @@ smaller. It runs:
   one name of 60 MB; brackets 1,000,000 deep;
 - `run`: 1,000,000,000 steps of an endless loop, the last byte of the greatest memory and the one behind it, arguments
   at each end of each type and one past it, the longest script that a command line holds (a word of it has at most
-  131,072 bytes, so none has a megabyte), and scripts and arguments that are none;
+  131,072 bytes), and by `test` one of a megabyte; and scripts and arguments that are none;
 - `inline` of a text of 64 MiB on one, two and four processors, under limits on memory.
 Where the kit is at hand, `rt try clifinl --fail-alloc 1.. -- inline` in crates/clifinl refuses each allocation in
 turn."""
@@ -256,6 +256,10 @@ def runs(program):
     count = 18_000
     ran(program, 'the longest script', [f'--args={count}', '--script=' + ','.join(['return'] * count)], HOST,
         (0, b'host %h()\n' * count + b'returned []\n', b''))
+    script = ', '.join(['return'] * 131_072)
+    found = call(program, ['test'], f'test run\n{HOST}; host: {script}\n; run: %f({len(script) // 8}) == []\n'.encode())
+    report = b'pass run %f line %d\n1 passed, 0 failed, 0 skipped\n' % (HOST.count('\n') + 3)
+    expect(found == (0, report, b''), f'a script of a megabyte: {found[0]} {found[1][:80]!r} {found[2]!r}')
 
 
 def refusals(program):

@@ -129,6 +129,7 @@ fn runs_without_a_host(rt: HostRuntime) {
         (SLOT, "", 14, "going\n"),
         (SLOT_READ_FIRST, "", 1_000_000, "unwritten\n"),
         (RECURSION, "", 10_000, "going\n"),
+        (RECURSION, "", 1_000_000, "going\n"),
         (ADDRESSES, "0", 1_000_000, "returned [17]\n"),
         (NO_ADDRESS, "0", 1_000_000, "trapped heap_oob\n"),
     ] {

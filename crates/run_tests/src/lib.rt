@@ -1,4 +1,5 @@
-//! Tests of runs of a module. They stand in a crate of their own, since a crate with tests is proved once more with them.
+//! Tests of runs of a module. They stand in a crate of their own, since a crate with tests is proved once more with
+//! them.
 #![tactic(auto)]
 
 #[cfg(test)]

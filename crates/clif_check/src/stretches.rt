@@ -1,5 +1,5 @@
 //! Modules read stretch by stretch: of the raw functions only those of a stretch are there at a time.
-ghost use Rattle.std.specs.Prelude.{◌≡◌, ◌≢◌, ◌≤◌, [], length, map, IfSome};
+ghost use Rattle.std.specs.Prelude.{◌≡◌, ◌≢◌, ◌≤◌, ◌++◌, [], length, map, IfSome};
 ghost use Rattle.ir_core.specs.Lists.{Each};
 ghost use Rattle.ir_core.specs.Sound.{IsWhole};
 ghost use Rattle.ir_core.specs.WellFormed.{DifferentNames};
@@ -14,7 +14,7 @@ use clif_names::MOST_FUNCTIONS;
 use clif_read::{RawFunction, all_functions, front_end, read_front, stretch_end};
 use clif_resolve::meant_function;
 use ir_core::{Func, Module};
-use range_workers::{Ranges, join_items, read_by_workers};
+use range_workers::{Ranges, read_by_workers};
 use std::alloc::Global;
 use std::thread::Threads;
 
@@ -74,22 +74,16 @@ fn give_back(functions: &mut Vec<Func>)
     }
 }
 
-/// The module that has these functions. `None` where there are too many or two have one name, or memory runs out.
-fn module_of(alloc: Global, functions: Vec<Func>) -> Option<Module>
-    requires { Each (λ func. IsWhole func.function) functions.items }
-    ensures functions { IfSome result (λ m. m ≡ map (λ func. func.function) functions.items) }
+/// The module with these functions behind its own. `None` where two functions have one name, or memory runs out.
+fn push_all(before: Module, functions: Vec<Func>) -> Option<Module>
+    requires whole { Each (λ func. IsWhole func.function) functions.items }
+    requires apart { DifferentNames before }
+    ensures functions { IfSome result (λ m. m ≡ before ++ map (λ func. func.function) functions.items) }
     ensures names { IfSome result (λ m. DifferentNames m) }
-    ensures few { IfSome result (λ m. length m ≤ most_functions) }
 {
-    if functions.len() > MOST_FUNCTIONS {
-        return None;
-    }
     let mut left = functions;
     left.reverse();
-    let mut module = Module::new(alloc);
-    if module.reserve(left.len()).is_err() {
-        return None;
-    }
+    let mut module = before;
     'functions: while let Some(func) = left.pop() {
         if module.find(func.name()).is_some() || module.push(func).is_err() {
             return None;
@@ -97,6 +91,25 @@ fn module_of(alloc: Global, functions: Vec<Func>) -> Option<Module>
         give_back(&mut left);
     }
     Some(module)
+}
+
+/// The module that has the functions of both lists. `None` where there are too many or two have one name, or memory
+/// runs out.
+fn module_of(alloc: Global, first: Vec<Func>, rest: Vec<Func>) -> Option<Module>
+    requires { Each (λ func. IsWhole func.function) (first.items ++ rest.items) }
+    ensures functions { IfSome result (λ m. m ≡ map (λ func. func.function) (first.items ++ rest.items)) }
+    ensures names { IfSome result (λ m. DifferentNames m) }
+    ensures few { IfSome result (λ m. length m ≤ most_functions) }
+{
+    let count = first.len().saturating_add(rest.len());
+    if count > MOST_FUNCTIONS {
+        return None;
+    }
+    let mut module = Module::new(alloc);
+    if module.reserve(count).is_err() {
+        return None;
+    }
+    push_all(push_all(module, first)?, rest)
 }
 
 /// The module that a text means, read by so many workers at once, by stretches of this size. `None` where the text has
@@ -115,5 +128,5 @@ pub fn read_module<R: Threads + Sync>(
     let first = meant_functions(alloc, front.functions.as_slice())?;
     let ranges = TextRanges { text };
     let rest = read_by_workers(rt, alloc, &ranges, end, text.len(), workers, size)?;
-    module_of(alloc, join_items(first, rest)?)
+    module_of(alloc, first, rest)
 }

@@ -1,46 +1,37 @@
-use Rattle.std.proofs.Common.{◌≡◌, [], ◌∷◌, ◌++◌, List, map, sym, ap, subst, ◌∙◌, append_assoc, None, rules}
-use Rattle.std.specs.Prelude.{reverse}
-use Rattle.std.proofs.lemmas.List.{reverse-append}
+use Rattle.std.proofs.Common.{◌≡◌, ◌≤◌, ◌++◌, ℕ, List, length, map, None, Some, Option, length-append, sym, ap, ◌∙◌, arith}
+use Rattle.std.specs.Prelude.{IfSome}
+use Rattle.std.proofs.lemmas.List.{map-append, length-map}
 use Rattle.ir_core.specs.Edits.{Body}
-use Rattle.ir_core.specs.Lists.{Each}
-use Rattle.ir_core.specs.Lookup.{find_function}
-use Rattle.ir_core.specs.Module.{Module}
+use Rattle.ir_core.specs.Module.{Function, Module}
 use Rattle.ir_core.specs.Sound.{IsWhole}
-use Rattle.ir_core.specs.WellFormed.{DifferentNames}
 use Rattle.ir_core.proofs.Members.{each_left, each_right}
-use Rattle.ir_core.proofs.Wholeness.{names_more}
+use Rattle.clif_names.specs.Sizes.{most_functions}
 use Rattle.clif_check.proofs.stretches.module_of.Goals as goal
 
-abbrev Whole : List Body → Type 0
-Whole bs = Each (λ (b : Body). IsWhole b.function) bs
+abbrev function_of : Body → Function
+function_of b = b.function
 
-last_whole : (old new : List Body) (b : Body) → old ≡ new ++ b ∷ [] → Whole old → IsWhole b.function
-last_whole old new b e whole = (each_right (λ (b : Body). IsWhole b.function) new (b ∷ []) (subst Whole e whole)).0
+-- the functions of both lists, one list behind the other
+both : (first rest : List Body) (before : Module) (found : Option Module) → before ≡ map function_of first → IfSome found (λ m. m ≡ before ++ map function_of rest)
+    → IfSome found (λ m. m ≡ map function_of (first ++ rest))
+both first rest before None is all = tt
+both first rest before (Some m) is all = all ∙ (ap (λ (x : Module). x ++ map function_of rest) is ∙ sym (map-append function_of first rest))
 
-others_whole : (old new : List Body) (b : Body) → old ≡ new ++ b ∷ [] → Whole old → Whole new
-others_whole old new b e whole = each_left (λ (b : Body). IsWhole b.function) new (b ∷ []) (subst Whole e whole)
+at_most : (first rest : List Body) (most : ℕ) (found : Option Module) → length (first ++ rest) ≤ most → IfSome found (λ m. m ≡ map function_of (first ++ rest)) → IfSome found (λ m. length m ≤ most)
+at_most first rest most None few is = tt
+at_most first rest most (Some m) few is = rw (is, length-map (first ++ rest) function_of) few
 
--- the last that is left is the next of the module
-last_is_next : (m : Module) (old new : List Body) (b : Body) → old ≡ new ++ b ∷ [] → (m ++ b.function ∷ []) ++ map (λ (x : Body). x.function) (reverse new) ≡ m ++ map (λ (x : Body). x.function) (reverse old)
-last_is_next m old new b e =
-    append_assoc m (b.function ∷ []) (map (λ (x : Body). x.function) (reverse new))
-    ∙ ap (λ (bs : List Body). m ++ map (λ (x : Body). x.function) bs) (sym (reverse-append new (b ∷ [])) ∙ ap reverse (sym e))
+pub push_all-requires-clause-whole : goal.push_all-requires-clause-whole
+push_all-requires-clause-whole c = each_left (λ (b : Body). IsWhole b.function) c.args.first.items c.args.rest.items c.requires
 
-pub push-requires-clause-whole : goal.push-requires-clause-whole
-push-requires-clause-whole c = last_whole c.functions.left.items c.pop.new.self.items c.in-Some.func c.in-Some.ensures.items c.functions.invariant.whole
+pub push_all-requires-2-clause-whole : goal.push_all-requires-2-clause-whole
+push_all-requires-2-clause-whole c = each_right (λ (b : Body). IsWhole b.function) c.args.first.items c.args.rest.items c.requires
 
-pub functions-preserved : goal.functions-preserved
-functions-preserved c =
-    let i = c.functions.invariant in
-    let b = c.in-Some.func in
-    let old = c.functions.left.items in
-    let new = c.pop.new.self.items in
-    let pushed : c.push.new.self ≡ c.functions.module ++ b.function ∷ [] = search rules in
-    let none : find_function b.function.name c.functions.module ≡ None = search rules in
-    let same : c.give_back.new.functions.items ≡ new = c.give_back.ensures in
-    record {
-      apart = subst DifferentNames (sym pushed) (names_more c.functions.module b.function i.apart none);
-      whole = subst Whole (sym same) (others_whole old new b c.in-Some.ensures.items i.whole);
-      all = ap (λ (bs : List Body). c.push.new.self ++ map (λ (x : Body). x.function) (reverse bs)) same
-          ∙ (ap (λ (m : Module). m ++ map (λ (x : Body). x.function) (reverse new)) pushed ∙ last_is_next c.functions.module old new b c.in-Some.ensures.items ∙ i.all);
-    }
+pub returns-clause-functions : goal.returns-clause-functions
+returns-clause-functions c = both c.args.first.items c.args.rest.items c.in_ok-push_all.field-0 c.push_all-2.result (rw (c.reserve.ensures, c.new-module.ensures) at c.in_ok-push_all.ensures.functions) c.push_all-2.ensures.functions
+
+pub returns-clause-few : goal.returns-clause-few
+returns-clause-few c =
+    at_most c.args.first.items c.args.rest.items most_functions c.push_all-2.result
+    (rw (length-append c.args.first.items c.args.rest.items) (omega (arith, c.if-count-gt-MOST_FUNCTIONS.false, c.saturating_add-count.ensures, c.len.ensures, c.len-2.ensures)))
+    (both c.args.first.items c.args.rest.items c.in_ok-push_all.field-0 c.push_all-2.result (rw (c.reserve.ensures, c.new-module.ensures) at c.in_ok-push_all.ensures.functions) c.push_all-2.ensures.functions)

@@ -3,14 +3,15 @@
 
     python3 bench/word_places.py [--write]
 
-`crates/clif_words/src/words.rt` has the words in one table, `WORDS`. This prints `SHIFTS` and `PLACES` for it, or with
-`--write` puts them into that file. A word's sum takes its first, second and last byte and its length, each times a factor
-of `FACTORS`. The sum modulo 64 chooses a shift, and the rest of the sum and the shift modulo 256 the word's place, where
-`PLACES` has its number in `WORDS`. Two words that follow each other there may have one sum: the place has the number of
-the first of them. The last but one is the highest number, so that there is a next row to it. The words that share a shift
-get the first one that brings them to places of their own, those with the most words first.
+`crates/clif_words/src` has the words in two tables, `OPCODES` of opcodes.rt and behind it `WORDS` of words.rt. This prints
+`SHIFTS` and `PLACES` for them, or with `--write` puts them into words.rt. A word's sum takes its first, second and last
+byte and its length, each times a factor of `FACTORS`. The sum modulo 64 chooses a shift, and the rest of the sum and the
+shift modulo 256 the word's place, where `PLACES` has its number, counted through both tables. Two words that follow each
+other there may have one sum: the place has the number of the first of them. The last but one is the highest number, so
+that there is a next row to it. The words that share a shift get the first one that brings them to places of their own,
+those with the most words first.
 
-The prover checks that each row is found where these tables say, so a change of `WORDS` needs this script again. Where it
+The prover checks that each row is found where these tables say, so a change of a row needs this script again. Where it
 finds no shift, other factors are needed, here and in `row_number` and `sum_of`, its definition for the proof."""
 import os
 import re
@@ -20,13 +21,14 @@ FACTORS = 32, 127, 1, 3
 SHIFTS = 64
 PLACES = 256
 
-WORDS_FILE = os.path.join(os.path.dirname(__file__), '..', 'crates', 'clif_words', 'src', 'words.rt')
+SOURCES = os.path.join(os.path.dirname(__file__), '..', 'crates', 'clif_words', 'src')
+OPCODES_FILE, WORDS_FILE = (os.path.join(SOURCES, name) for name in ('opcodes.rt', 'words.rt'))
 
 
-def words_of(source):
-    """The words of `WORDS`, in their order."""
-    table = re.search(r'pub const WORDS: .*?\n\];', source, re.S).group(0)
-    return re.findall(r'Entry\(\s*"(\w+)"', table)
+def words_of(source, name):
+    """The words of the table of this name, in their order."""
+    table = re.search(r'pub const %s: .*?\n\];' % name, source, re.S).group(0)
+    return re.findall(r'\(\s*"(\w+)"', table)
 
 
 def sum_of(word):
@@ -65,9 +67,11 @@ def constant(name, numbers):
 
 
 def main():
+    with open(OPCODES_FILE) as file:
+        opcodes = words_of(file.read(), 'OPCODES')
     with open(WORDS_FILE) as file:
         source = file.read()
-    shifts, places = tables(words_of(source))
+    shifts, places = tables(opcodes + words_of(source, 'WORDS'))
     if '--write' not in sys.argv:
         print(constant('SHIFTS', shifts) + constant('PLACES', places), end='')
         return

@@ -9,10 +9,12 @@ ghost use Rattle.clif_lex.specs.Bytes.{first, is_sign};
 ghost use Rattle.clif_lex.specs.Spelling.{AreIn};
 ghost use Rattle.clif_words.specs.declared.class.Class.TheVariants.{Value};
 ghost use Rattle.clif_words.specs.Table as table;
+ghost use Rattle.clif_words.specs.Opcodes as opcodes;
 ghost use Rattle.clif_words.specs.Words as words;
 ghost use Rattle.clif_words.specs.Lexemes as spec;
 
 use crate::class::Class;
+use crate::opcodes::{OpcodeRow, opcode_rows};
 use crate::words::*;
 use clif_lex::{TokenKind, Tokens};
 
@@ -82,16 +84,42 @@ fn look_up(table: &[Entry], word: &[u8]) -> Option<Meaning>
     None
 }
 
-/// The meaning of a word, if the row with this number has it.
+/// The meaning of a word, if the row at this place has it.
 #[inline]
-fn meaning_at(table: &[Entry], number: usize, word: &[u8]) -> Option<Meaning>
-    requires { number < length table.now }
-    ensures { result ≡ words.look_up (take 1 (drop number (map words.row_of table.now))) word.now }
+fn entry_meaning(entries: &[Entry], place: usize, word: &[u8]) -> Option<Meaning>
+    requires { place < length entries.now }
+    ensures { result ≡ words.look_up (take 1 (drop place (map words.row_of entries.now))) word.now }
 {
-    row_meaning(&table[number], word)
+    row_meaning(&entries[place], word)
 }
 
-/// The number of a row of `WORDS`, where no row but this and the next one may have the word.
+/// The meaning of a word, if the opcode with this number is spelled so.
+#[inline]
+fn opcode_meaning(row: &OpcodeRow, number: usize, word: &[u8]) -> Option<Meaning>
+    ensures { result ≡ words.look_up (opcodes.rows_from number (row.now ∷ [])) word.now }
+{
+    if spells(row.0.as_bytes(), word) {
+        Some(means(row.2, number as u64))
+    } else {
+        None
+    }
+}
+
+/// The meaning of a word, if the row with this number has it: the opcodes come first, behind them the other words.
+#[inline]
+fn meaning_at(number: usize, word: &[u8]) -> Option<Meaning>
+    requires { number < length table.all_words }
+    ensures { result ≡ words.look_up (take 1 (drop number table.all_words)) word.now }
+{
+    let opcodes = opcode_rows();
+    if number < opcodes.len() {
+        opcode_meaning(&opcodes[number], number, word)
+    } else {
+        entry_meaning(&WORDS, number - opcodes.len(), word)
+    }
+}
+
+/// The number of a row, where no row but this and the next one may have the word.
 /// `bench/word_places.py` makes the tables for it.
 #[inline]
 fn row_number(word: &[u8]) -> usize
@@ -115,9 +143,9 @@ fn own_meaning(word: &[u8]) -> Option<Meaning>
         return None;
     }
     let number = row_number(word);
-    match meaning_at(&WORDS, number, word) {
+    match meaning_at(number, word) {
         Some(meaning) => Some(meaning),
-        None => meaning_at(&WORDS, number + 1, word),
+        None => meaning_at(number + 1, word),
     }
 }
 

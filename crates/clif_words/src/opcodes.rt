@@ -1,4 +1,4 @@
-//! The opcodes, one table for reading and printing.
+//! The opcodes: how each is spelled, and the class of its form. The words that are read are looked up in this table.
 
 ghost use Rattle.std.specs.Prelude.{◌≡◌, map, slice_get};
 ghost use Rattle.clif_words.specs.declared.opcodes.OpcodeRow.{OpcodeRow};

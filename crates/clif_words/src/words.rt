@@ -1,93 +1,15 @@
-//! The words that have a meaning of their own.
+//! The words that have a meaning of their own and are no opcodes of the table.
 
 use crate::class::Class;
 
-/// A word, the class of its tokens, and which of the words of the class it is.
-/// Of an opcode that is its row in the table of opcodes, and of another word its place in the list of its class.
+/// A word that is no opcode, the class of its tokens, and which of the words of the class it is: its place in the list
+/// of its class.
 #[derive(Clone, Copy, Debug)]
 pub struct Entry(pub &'static str, pub Class, pub u64);
 
-/// The words in the order of the grammar: the opcodes, those that are refused, and the other words by class.
-pub const WORDS: [Entry; 203] = [
-    Entry("iconst", Class::Iconst, 0),
-    Entry("iadd", Class::Binary, 1),
-    Entry("isub", Class::Binary, 2),
-    Entry("imul", Class::Binary, 3),
-    Entry("band", Class::Binary, 4),
-    Entry("bor", Class::Binary, 5),
-    Entry("bxor", Class::Binary, 6),
-    Entry("smin", Class::Binary, 7),
-    Entry("smax", Class::Binary, 8),
-    Entry("umin", Class::Binary, 9),
-    Entry("umax", Class::Binary, 10),
-    Entry("umulhi", Class::Binary, 11),
-    Entry("smulhi", Class::Binary, 12),
-    Entry("udiv", Class::Binary, 13),
-    Entry("urem", Class::Binary, 14),
-    Entry("sdiv", Class::Binary, 15),
-    Entry("srem", Class::Binary, 16),
-    Entry("ishl", Class::Binary, 17),
-    Entry("ushr", Class::Binary, 18),
-    Entry("sshr", Class::Binary, 19),
-    Entry("rotl", Class::Binary, 20),
-    Entry("rotr", Class::Binary, 21),
-    Entry("uadd_overflow", Class::Binary, 22),
-    Entry("sadd_overflow", Class::Binary, 23),
-    Entry("usub_overflow", Class::Binary, 24),
-    Entry("ssub_overflow", Class::Binary, 25),
-    Entry("iconcat", Class::Binary, 26),
-    Entry("ineg", Class::Unary, 27),
-    Entry("bnot", Class::Unary, 28),
-    Entry("iabs", Class::Unary, 29),
-    Entry("clz", Class::Unary, 30),
-    Entry("ctz", Class::Unary, 31),
-    Entry("popcnt", Class::Unary, 32),
-    Entry("bitrev", Class::Unary, 33),
-    Entry("bswap", Class::Unary, 34),
-    Entry("isplit", Class::Unary, 35),
-    Entry("icmp", Class::Icmp, 36),
-    Entry("select", Class::Select, 37),
-    Entry("uextend", Class::Convert, 38),
-    Entry("sextend", Class::Convert, 39),
-    Entry("ireduce", Class::Convert, 40),
-    Entry("iadd_imm", Class::BinaryImm, 41),
-    Entry("imul_imm", Class::BinaryImm, 42),
-    Entry("band_imm", Class::BinaryImm, 43),
-    Entry("bor_imm", Class::BinaryImm, 44),
-    Entry("bxor_imm", Class::BinaryImm, 45),
-    Entry("ishl_imm", Class::BinaryImm, 46),
-    Entry("ushr_imm", Class::BinaryImm, 47),
-    Entry("sshr_imm", Class::BinaryImm, 48),
-    Entry("icmp_imm", Class::IcmpImm, 49),
-    Entry("load", Class::Load, 50),
-    Entry("uload8", Class::Load, 51),
-    Entry("sload8", Class::Load, 52),
-    Entry("uload16", Class::Load, 53),
-    Entry("sload16", Class::Load, 54),
-    Entry("uload32", Class::LoadWide, 55),
-    Entry("sload32", Class::LoadWide, 56),
-    Entry("store", Class::Store, 57),
-    Entry("istore8", Class::Store, 58),
-    Entry("istore16", Class::Store, 59),
-    Entry("istore32", Class::Store, 60),
-    Entry("stack_load", Class::StackLoad, 61),
-    Entry("stack_store", Class::StackStore, 62),
-    Entry("func_addr", Class::FuncAddr, 63),
-    Entry("nop", Class::Nullary, 64),
-    Entry("sequence_point", Class::Nullary, 65),
-    Entry("jump", Class::Jump, 66),
-    Entry("brif", Class::Brif, 67),
-    Entry("br_table", Class::BrTable, 68),
-    Entry("return", Class::Return, 69),
-    Entry("trap", Class::Trap, 70),
-    Entry("trapz", Class::TrapIf, 71),
-    Entry("trapnz", Class::TrapIf, 72),
-    Entry("call", Class::Call, 73),
-    Entry("return_call", Class::Call, 74),
-    Entry("try_call", Class::TryCall, 75),
-    Entry("call_indirect", Class::CallIndirect, 76),
-    Entry("return_call_indirect", Class::CallIndirect, 77),
-    Entry("try_call_indirect", Class::TryCallIndirect, 78),
+/// The words behind the opcodes, in the order of the grammar: the opcodes that are refused, and the other words by
+/// class.
+pub const WORDS: [Entry; 124] = [
     Entry("stack_addr", Class::RefusedOpcode, 0),
     Entry("dynamic_stack_addr", Class::RefusedOpcode, 1),
     Entry("dynamic_stack_load", Class::RefusedOpcode, 2),
@@ -214,14 +136,15 @@ pub const WORDS: [Entry; 203] = [
     Entry("ule", Class::Condition, 9),
 ];
 
-/// How far the places of the words are shifted whose sums leave this rest. Made from `WORDS` by `bench/word_places.py`.
+/// How far the places of the words are shifted whose sums leave this rest. Made from `OPCODES` and `WORDS`, one table
+/// behind the other, by `bench/word_places.py`.
 pub const SHIFTS: [u8; 64] = [
     116, 1, 17, 2, 99, 3, 90, 8, 1, 34, 135, 11, 84, 87, 6, 5, 0, 110, 84, 44, 145, 161, 22, 40,
     86, 3, 89, 52, 0, 64, 11, 145, 76, 126, 158, 157, 107, 96, 5, 34, 150, 107, 0, 97, 132, 105, 0,
     111, 134, 109, 40, 21, 176, 59, 137, 67, 152, 174, 166, 6, 153, 140, 79, 167,
 ];
 
-/// The number in `WORDS` of the word that belongs at a place, by `bench/word_places.py` too.
+/// The number among the opcodes and `WORDS` of the word that belongs at a place, by `bench/word_places.py` too.
 pub const PLACES: [u8; 256] = [
     116, 149, 108, 95, 94, 37, 114, 65, 88, 171, 170, 187, 49, 157, 186, 77, 122, 128, 115, 12, 11,
     50, 56, 55, 113, 193, 106, 155, 21, 173, 112, 59, 68, 61, 138, 177, 152, 174, 184, 66, 185,

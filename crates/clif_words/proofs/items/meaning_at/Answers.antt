@@ -1,6 +1,35 @@
-use Rattle.std.proofs.Common.{◌∙◌}
-use Rattle.clif_words.proofs.Places.{look_up-row}
+use Rattle.std.proofs.Common.{◌≡◌, ◌-◌, ◌++◌, List, map, length, sym, ap, ◌∙◌, arith}
+use Rattle.std.proofs.lemmas.List.{length-map}
+use Rattle.clif_words.specs.declared.class.Class.TheVariants.{RefusedOpcode}
+use Rattle.clif_words.specs.declared.opcodes.OpcodeRow.{OpcodeRow}
+use Rattle.clif_words.specs.Opcodes.{rows_from}
+use Rattle.clif_words.specs.Table.{Row, rows, opcodes, refused_opcodes, other_words, numbered_through, numbered_each, all_words}
+use Rattle.clif_words.proofs.Places.{look_up-opcode, look_up-other, words_count}
 use Rattle.clif_words.proofs.items.meaning_at.Goals as goal
 
-pub returns : goal.returns
-returns c = c.row_meaning.ensures ∙ look_up-row c.args.table.now c.args.number _ c.args.word.now c.requires
+-- the words behind the opcodes
+others : List Row
+others = rows RefusedOpcode 0 refused_opcodes ++ numbered_each other_words
+
+all_are : (table : List OpcodeRow) → rows_from 0 table ≡ numbered_through 0 opcodes → all_words ≡ rows_from 0 table ++ others
+unfolding all_words others
+all_are table is = ap (λ (xs : List Row). xs ++ others) (sym is)
+
+pub entry_meaning-requires : goal.entry_meaning-requires
+entry_meaning-requires c =
+    let table = c.opcode_rows-opcodes in
+    let few : length table.result.now ≡ 79 = sym (length-map table.result.now (λ (row : OpcodeRow). row.1)) ∙ ap length table.ensures.opcodes in
+    omega (arith, few, words_count, c.requires, c.if-number-opcodes.false)
+
+pub returns-then-number-opcodes : goal.returns-then-number-opcodes
+returns-then-number-opcodes c =
+    let table = c.opcode_rows-opcodes in
+    c.opcode_meaning.ensures ∙ look_up-opcode table.result.now others all_words (all_are table.result.now table.ensures.words) c.args.number _ c.args.word.now c.if-number-opcodes.true
+
+pub returns-else-number-opcodes : goal.returns-else-number-opcodes
+unfolding others
+returns-else-number-opcodes c =
+    let table = c.opcode_rows-opcodes in
+    let behind = c.if-number-opcodes.false in
+    c.entry_meaning.ensures
+    ∙ look_up-other table.result.now others all_words (all_are table.result.now table.ensures.words) c.args.number (c.args.number - length table.result.now) c.args.word.now (omega (arith, behind))

@@ -11,8 +11,7 @@ use Rattle.inline_pass.specs.Policy.{Policy, takes}
 use Rattle.inline_pass.specs.Sites.{Point, is_site, sites_in, own_sites}
 use Rattle.inline_pass.specs.Finished.{callee_at, spliced_at, after_splice}
 use Rattle.inline_pass.specs.Inlined.{inlined_by, inlined_with}
-use Rattle.inline_pass.specs.Going.{Task, Twins}
-use Rattle.inline_pass.specs.GoingLaws.{Onward}
+use Rattle.inline_pass.specs.Going.{Task, Twins, Onward}
 use Rattle.inline_finish.specs.Midway.{Left, Behind, twins_of}
 
 pub inlined_most : (bodies : FuncName → Option Function) (p : Policy) (now : Point → Point) (sites : List Point) (body : Function) → inlined_by bodies p now sites body ≤ length sites

@@ -22,8 +22,8 @@ use Rattle.inline_numbering.proofs.Sizes.{size_renamed}
 use Rattle.inline_numbering.proofs.Places as points
 use Rattle.inline_pass.specs.Policy.{Policy, takes}
 use Rattle.inline_pass.specs.Sites.{called}
-use Rattle.inline_pass.specs.Going.{Task, Ahead, Twins, Going, before_line, stands, body_called, with_body}
-use Rattle.inline_pass.specs.Putting.{Fit, code_splice}
+use Rattle.inline_pass.specs.Going.{Task, Ahead, Twins, Going, before_line, stands, body_called, with_body, Fit}
+use Rattle.inline_pass.proofs.Putting.{code_splice}
 use Rattle.inline_pass.proofs.Going.{here_is, get_first}
 use Rattle.inline_pass.proofs.Passing.{Found, found, then_some, at_place, splice_is}
 use Rattle.inline_pass.proofs.Others as others

@@ -17,9 +17,8 @@ use Rattle.inline_pass.specs.Policy.{Policy}
 use Rattle.inline_pass.specs.Sites.{is_site}
 use Rattle.inline_pass.specs.Finished.{finished, finished_body}
 use Rattle.inline_pass.specs.Inlined.{inlined}
-use Rattle.inline_pass.specs.Going.{Task, Going}
-use Rattle.inline_pass.specs.GoingLaws.{Refused}
-use Rattle.inline_pass.specs.Putting.{Fit, finishing}
+use Rattle.inline_pass.specs.Going.{Task, Going, Fit, finishing}
+use Rattle.inline_pass.proofs.Steps.{Refused}
 use Rattle.inline_pass.proofs.Going.{begins, passes, turns}
 use Rattle.inline_pass.proofs.Putting.{finished_fit, done_is_finished}
 use Rattle.inline_finish.specs.declared.lines.Progress.{Progress}

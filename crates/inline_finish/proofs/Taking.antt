@@ -30,12 +30,11 @@ use Rattle.inline_caller.specs.Replacing.{CanReplace, plain, tail, tries}
 use Rattle.inline_pass.specs.Policy.{Policy, takes}
 use Rattle.inline_pass.specs.Sites.{is_site}
 use Rattle.inline_pass.specs.Finished.{finished}
-use Rattle.inline_pass.specs.Going.{Task, Ahead, Twins, Going, body_called, with_body, spliced_twins}
-use Rattle.inline_pass.specs.GoingLaws.{Refused, Inlines}
-use Rattle.inline_pass.specs.Putting.{Fit, finishing, KeepsCaller, Spliced}
+use Rattle.inline_pass.specs.Going.{Task, Ahead, Twins, Going, body_called, with_body, spliced_twins, Fit, finishing}
+use Rattle.inline_pass.proofs.Steps.{Refused, Inlines}
 use Rattle.inline_pass.proofs.Finishing.{own_text}
 use Rattle.inline_pass.proofs.Going.{calls, takes_call, takes_last}
-use Rattle.inline_pass.proofs.Putting.{splices, finished_fit}
+use Rattle.inline_pass.proofs.Putting.{KeepsCaller, Spliced, splices, finished_fit}
 use Rattle.splice_bounds.specs.Laws.{WithinLimit, PlainCallHasNumbers, TailCallHasNumbers, TryCallHasNumbers}
 use Rattle.splice_size.specs.Laws.{SpliceSizeUnder}
 use Rattle.inline_finish.specs.declared.deciding.Taken.{Taken}

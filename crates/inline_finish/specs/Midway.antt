@@ -12,9 +12,7 @@ use Rattle.ir_semantics.specs.Accepted.{Accepted}
 use Rattle.ir_semantics.specs.Renaming.{Renaming}
 use Rattle.inline_pass.specs.Policy.{Policy}
 use Rattle.inline_pass.specs.Sites as sites
-use Rattle.inline_pass.specs.Going.{Task, Ahead, Twins, Going}
-use Rattle.inline_pass.specs.GoingLaws.{Onward}
-use Rattle.inline_pass.specs.Putting.{Fit}
+use Rattle.inline_pass.specs.Going.{Task, Ahead, Twins, Going, Onward, Fit}
 use Rattle.inline_finish.specs.declared.lines.Progress.{Progress}
 
 -- f is a function of an accepted module, and the sizes of the policy are within the limit of a text

@@ -6,7 +6,7 @@ ghost use Rattle.ir_core.specs.Lists.{In};
 ghost use Rattle.ir_core.specs.Sound.{IsSound};
 ghost use Rattle.ir_core.specs.Viewed.{line_of};
 ghost use Rattle.call_graph.specs.Marks.{target_by};
-ghost use Rattle.inline_pass.specs.Putting.{finishing};
+ghost use Rattle.inline_pass.specs.Going.{finishing};
 ghost use Rattle.inline_finish.specs.Bodies.{HasCallees};
 ghost use Rattle.inline_finish.specs.Building.{policy_of};
 ghost use Rattle.inline_finish.specs.Midway.{IsReady, IsMidway, IsBehind, IsBetween, IsOwnLine, left_in, from_block};

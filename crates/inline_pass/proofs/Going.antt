@@ -8,6 +8,7 @@ use Rattle.ir_core.specs.Lookup.{and_then, find_block, block_numbers}
 use Rattle.ir_core.specs.Lists.{In, Each, Different}
 use Rattle.ir_core.specs.Edits.{lines_of}
 use Rattle.ir_core.specs.Uses.{named_callee, callee_of}
+use Rattle.ir_core.specs.WellFormed.{WellFormed}
 use Rattle.ir_semantics.specs.Renaming.{Renaming, called_under, instruction_under, line_under, block_under}
 use Rattle.ir_semantics.specs.Splice.{sides}
 use Rattle.inline_outcomes.proofs.Local.{some_same, try_target_called}
@@ -16,10 +17,10 @@ use Rattle.inline_numbering.proofs.Same.{blocks_number, renamed_itself}
 use Rattle.inline_numbering.proofs.Typed.{in_map}
 use Rattle.inline_pass.specs.Policy.{takes}
 use Rattle.inline_pass.specs.Sites.{Point, is_site, sites_in, own_sites, point_behind, called}
-use Rattle.inline_pass.specs.Finished.{inline_by, finish_by}
+use Rattle.inline_pass.specs.Finished.{callee_at, inline_by, finish_by}
 use Rattle.inline_pass.specs.Inlined.{inlined_by, inlined_with}
-use Rattle.inline_pass.specs.Going.{Task, Ahead, Twins, Later, Going, before_line, behind_line, sites_left, stands, body_called, with_body, spliced_twins}
-use Rattle.inline_pass.specs.GoingLaws.{untouched, Begins, Calls, Refused, Passes, Inlines, Put, PutWithin, Takes, Onward, TakesLast, Turns}
+use Rattle.inline_pass.specs.Going.{Task, Ahead, Twins, Later, Going, Onward, before_block, before_line, behind_line, sites_left, stands, body_called, with_body, spliced_twins}
+use Rattle.inline_pass.proofs.Steps.{untouched, Refused, Inlines, Put, PutWithin}
 
 -- ---- lists
 
@@ -265,16 +266,20 @@ module _ (task : Task) (ahead : Ahead) (l : Line) (twins : Twins) (point : Point
           callees = λ j d e. put.callees j d (g.callees j d e);
         }
 
-pub calls : Calls
+-- what the definition's body calls at the point of an own line is what the own line calls
+pub calls : (task : Task) (ahead : Ahead) (l : Line) (twins : Twins) (point : Point) (count : ℕ) → Going task (before_line l ahead) twins point count → (j : ℕ) (d : Callee) → callee_of l.inst ≡ Some j → slice_get task.function.callees j ≡ Some d → callee_at twins.body (stands twins ahead) ≡ Some d.name
 calls task ahead l twins point count g j d is has = calls_here task ahead l twins point count g j d is has
 
-pub passes : Passes
+-- behind a line that is no site, or at which nothing is inlined
+pub passes : (task : Task) (ahead : Ahead) (l : Line) (twins : Twins) (point : Point) (count : ℕ) → Going task (before_line l ahead) twins point count → (is_site (callee_of l.inst) ≡ true → Refused task ahead twins) → Going task (behind_line ahead) twins (point.0, suc point.1) count
 passes task ahead l twins point count g h = passes_here task ahead l twins point count g h
 
-pub takes_call : Takes
+-- behind a plain call that is inlined
+pub takes_call : (task : Task) (ahead : Ahead) (l : Line) (twins : Twins) (point : Point) (count : ℕ) → Going task (before_line l ahead) twins point count → (g code : Function) (names : Renaming) (after : ℕ) → Inlines task ahead l twins g → PutWithin twins (spliced_twins twins ahead g code names) point after → Going task (behind_line ahead) (spliced_twins twins ahead g code names) (after, 0) (suc count)
 takes_call task ahead l twins point count g h code names after inlines put = takes_here task ahead l twins point count g h code names inlines after put
 
-pub takes_last : TakesLast
+-- behind a tail call or a `try_call` that is inlined: no own line of the block stands behind it
+pub takes_last : (task : Task) (ahead : Ahead) (l : Line) (twins : Twins) (point : Point) (count : ℕ) → Going task (before_line l ahead) twins point count → ahead.lines ≡ [] → (g code : Function) (names : Renaming) → Inlines task ahead l twins g → Put twins (spliced_twins twins ahead g code names) point.0 → Onward task ahead.rest (spliced_twins twins ahead g code names) (suc count)
 takes_last task ahead l twins point count g e h code names inlines put = onward_here task ahead l twins point count g h code names inlines put e ahead.rest refl
 
 -- ---- the end of a block, and of all
@@ -313,7 +318,8 @@ turns_by task ahead twins point count g e (own ∷ owns) q =
       callees = g.callees;
     }
 
-pub turns : Turns
+-- behind the last line of an own block
+pub turns : (task : Task) (ahead : Ahead) (twins : Twins) (point : Point) (count : ℕ) → Going task ahead twins point count → ahead.lines ≡ [] → Onward task ahead.rest twins count
 turns task ahead twins point count g e = turns_by task ahead twins point count g e ahead.rest refl
 
 -- ---- the beginning
@@ -345,7 +351,8 @@ all_untouched f at pre (own ∷ owns) e d off = (
   all_untouched f at (pre ++ (own ∷ [])) owns (e ∙ move_one pre owns own) d (λ i. off (inr i)),
 )
 
-pub begins : Begins
+-- before the first own line
+pub begins : (task : Task) (own : Block) (rest : List Block) → task.function.blocks ≡ own ∷ rest → WellFormed task.function → Going task (before_block own rest) (untouched task.function) (own.number, 0) 0
 begins task own rest e w =
     let f = task.function in
     let d : Different (block_numbers (own ∷ rest)) = subst (λ z. Different (block_numbers z)) e w.blocks in

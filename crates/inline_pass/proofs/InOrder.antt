@@ -21,7 +21,7 @@ use Rattle.inline_pass.specs.Policy.{Policy, takes}
 use Rattle.inline_pass.specs.Sites.{Point, own_sites, point_behind, called}
 use Rattle.inline_pass.specs.Finished.{inline_by, body_of, finished_in, finished, passed}
 use Rattle.inline_pass.specs.Pass.{finish, pass_by, pass}
-use Rattle.inline_pass.specs.FinishedLaws.{PassIsFinished, OrderInUse}
+use Rattle.inline_pass.specs.FinishedLaws.{PassIsFinished}
 use Rattle.inline_pass.proofs.Passing.{replace_hit, replace_skip, pass_keeps_runs}
 use Rattle.inline_pass.proofs.Finishing.{calls_is, each_function, equation, finish_same, name_of_found}
 
@@ -201,7 +201,8 @@ module _ (p : Policy) (m : Module) (is : IsModule m) where
 pub pass_is_finished : PassIsFinished
 pass_is_finished p m is order b = in_order p m is order b
 
-pub order_in_use : OrderInUse
+-- so does the order of pieces
+pub order_in_use : (p : Policy) (m : Module) → IsModule m → pass p (bottom_up m) m ≡ passed p m
 order_in_use p m is = pass_is_finished p m is (bottom_up m) (order_is_bottom_up m is.names)
 
 pub finished_keep_runs : (p : Policy) (m : Module) → IsModule m → RunsKept m (passed p m)

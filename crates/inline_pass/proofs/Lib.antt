@@ -9,4 +9,5 @@ pub mod Passing
 pub mod Preserving
 pub mod Putting
 pub mod Renumbered
+pub mod Steps
 pub mod Tracking

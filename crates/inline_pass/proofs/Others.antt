@@ -43,7 +43,7 @@ use Rattle.inline_pass.specs.Sites.{Point, own_sites, point_behind, called}
 use Rattle.inline_pass.specs.Finished.{inline_by, finish_by, body_of, finished, finished_body, passed}
 use Rattle.inline_pass.specs.Inlined.{inlined_by, inlined_with, inlined}
 use Rattle.inline_pass.specs.OtherBodies.{SameBody, FinishedRespectNumbers}
-use Rattle.inline_pass.specs.GoingLaws.{own_names}
+use Rattle.inline_pass.proofs.Steps.{own_names}
 use Rattle.inline_pass.proofs.Going.{callee_stays}
 use Rattle.inline_pass.proofs.Passing.{Found, found, then_some, at_place, splice_is}
 use Rattle.inline_pass.proofs.Tracking.{f_none, ren_off}

@@ -4,14 +4,15 @@ use Rattle.std.specs.Prelude.{slice_get, if◌then◌else◌}
 use Rattle.std.proofs.Math.Path.{fun_ext}
 use Rattle.std.proofs.lemmas.Bool.{cases_eq}
 use Rattle.ir_core.specs.declared.names.FuncName.{FuncName}
-use Rattle.ir_core.specs.Module.{Line, Block, Function}
+use Rattle.ir_core.specs.Module.{Line, Block, Function, Module}
 use Rattle.ir_core.specs.Edits.{lines_of}
 use Rattle.ir_core.specs.Lists.{In, Different}
 use Rattle.ir_core.specs.Lookup.{block_numbers, find_block}
 use Rattle.ir_core.specs.Sound.{IsSound}
-use Rattle.ir_core.specs.WellFormed.{WellFormed}
+use Rattle.ir_core.specs.WellFormed.{WellFormed, IsModule}
 use Rattle.ir_core.proofs.Members.{in_left, in_right}
 use Rattle.ir_core.proofs.Wholeness.{whole_of}
+use Rattle.ir_semantics.specs.Accepted.{Accepted}
 use Rattle.ir_semantics.specs.Canon.{SameFunction}
 use Rattle.ir_semantics.specs.Renaming.{Renaming, line_under, block_under}
 use Rattle.ir_semantics.specs.Splice.{Naming, Splicing, Within, kind_of, after_block, after_blocks, body, cut_block, caller_names, sides, spliced, spliced_blocks}
@@ -32,15 +33,42 @@ use Rattle.inline_numbering.proofs.Sides.{joined, sides_carry}
 use Rattle.inline_numbering.proofs.Typed.{block_in}
 use Rattle.inline_numbering.proofs.Places as points
 use Rattle.inline_pass.specs.Sites.{Point, called}
-use Rattle.inline_pass.specs.Going.{Task, Ahead, Twins, Going, before_line, stands, with_body, spliced_twins}
-use Rattle.inline_pass.specs.GoingLaws.{Inlines, Put, PutWithin}
-use Rattle.inline_pass.specs.Putting.{Fit, FinishedFit, KeepsCaller, code_splice, Spliced, Splices, DoneIsFinished}
-use Rattle.inline_pass.specs.Finished.{finished, passed}
+use Rattle.inline_pass.specs.Policy.{Policy}
+use Rattle.inline_pass.specs.Going.{Task, Ahead, Twins, Going, Done, Fit, finishing, before_line, stands, with_body, spliced_twins}
+use Rattle.inline_pass.specs.Finished.{finished, finished_body, passed}
+use Rattle.inline_pass.specs.Inlined.{inlined}
+use Rattle.inline_pass.proofs.Steps.{Inlines, Put, PutWithin}
 use Rattle.inline_pass.proofs.Finishing.{found_by_name, finished_equation}
 use Rattle.inline_pass.proofs.Preserving.{finished_accepted}
 use Rattle.inline_pass.proofs.Going.{here_is, get_first}
 use Rattle.inline_pass.proofs.Passing.{Found, found, then_some, at_place, splice_is}
 use Rattle.inline_pass.proofs.Others as others
+
+-- numbers that leave those of the caller c as they are
+pub record KeepsCaller (n : Naming) (c : Function) : Type 0 where
+  pub values : (v : ℕ) → n.caller_value v ≡ v
+  pub blocks : (x : ℕ) → n.caller_block x ≡ x
+  pub fresh : In n.after (block_numbers c.blocks) → ⊥
+
+-- the splice of h into the code's body at the point where the own line l stands
+abbrev pub code_splice : Naming → Twins → Point → Line → Function → Splicing
+code_splice n twins point l h =
+    record {
+      naming = n;
+      caller = twins.code;
+      callee = h;
+      at = point.0;
+      before = take point.1 (lines_of point.0 twins.code.blocks);
+      site = l;
+      behind = drop (suc point.1) (lines_of point.0 twins.code.blocks);
+    }
+
+-- what the loop needs of a splice into the code's body
+pub record Spliced (task : Task) (old new : Twins) (point : Point) (after : ℕ) (l : Line) : Type 0 where
+  pub put : Put old new point.0
+  pub within : kind_of l.inst ≡ Within → PutWithin old new point after
+  pub fit : Fit task.bodies new.body
+  pub whole : WellFormed new.code
 
 -- ---- blocks in lists
 
@@ -262,16 +290,19 @@ module _ (task : Task) (ahead : Ahead) (l : Line) (twins : Twins) (point : Point
         whole = whole_q;
       }
 
-pub splices : Splices
+-- the splice of a body that is the definition's up to numbering is such a one
+pub splices : (task : Task) (ahead : Ahead) (l : Line) (twins : Twins) (point : Point) (count : ℕ) → Going task (before_line l ahead) twins point count → Fit task.bodies twins.body → WellFormed twins.code → (g h : Function) → Inlines task ahead l twins g → Fit task.bodies g → SameFunction g h → (n : Naming) → KeepsCaller n twins.code → IsSound (spliced (code_splice n twins point l h)) → (names : Renaming) × Spliced task twins (spliced_twins twins ahead g (spliced (code_splice n twins point l h)) names) point n.after l
 splices task ahead l twins point count going fit wc g h inlines fit_g gh n keeps sound = (joined twins.names (by_way g h) n, spliced_here task ahead l twins point count going fit wc g h inlines fit_g gh n keeps sound)
 
-pub finished_fit : FinishedFit
+-- a function of an accepted module fits, and so do the finished bodies that go into it
+pub finished_fit : (p : Policy) (m : Module) → IsModule m → Accepted m → (f : Function) → In f m → Fit (finished_body p m f.name) f × ((x : FuncName) (g : Function) → finished_body p m f.name x ≡ Some g → Fit (finished_body p m f.name) g)
 finished_fit p m is ok f there = (
   record { whole = others.f_whole p m is ok f there; accepted = (others.free_f p m is ok f there).accepted; states = others.f_states p m is ok f there },
   λ x g e. let t = others.good p m is ok f there x g e in record { whole = t.0.whole; accepted = t.0.accepted; states = t.1 },
 )
 
-pub done_is_finished : DoneIsFinished
+-- when all own lines are behind, the code's body is the finished one up to numbering, and the count is its count
+pub done_is_finished : (p : Policy) (m : Module) → IsModule m → Accepted m → (f : Function) → In f m → (twins : Twins) (count : ℕ) → Done (finishing p m f) twins count → WellFormed twins.code → SameFunction (finished p m f) twins.code × (count ≡ inlined p m f)
 done_is_finished p m is ok f there twins count done whole =
     let kept = finished_accepted p m is ok in
     let here : In (finished p m f) (passed p m) = find_function_in f.name (passed p m) (finished p m f) (others.passed_is p m is ok f there f.name f (found_by_name m is.names f there)) in

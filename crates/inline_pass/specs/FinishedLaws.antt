@@ -7,7 +7,7 @@ use Rattle.ir_semantics.specs.Same.{Same}
 use Rattle.ir_core.specs.WellFormed.{IsModule}
 use Rattle.ir_semantics.specs.Accepted.{Accepted}
 use Rattle.ir_semantics.specs.Canon.{SameUpToNumbering}
-use Rattle.call_graph.specs.Order.{BottomUp, bottom_up}
+use Rattle.call_graph.specs.Order.{BottomUp}
 use Rattle.inline_pass.specs.Policy.{Policy}
 use Rattle.inline_pass.specs.Finished.{finish_by, finished, finished_body, passed}
 use Rattle.inline_pass.specs.Pass.{pass}
@@ -22,10 +22,6 @@ FinishedEquation =
 abbrev pub PassIsFinished : Type 0
 PassIsFinished =
     (p : Policy) (m : Module) → IsModule m → (order : List FuncName) → BottomUp m order → pass p order m ≡ passed p m
-
--- the order in use
-abbrev pub OrderInUse : Type 0
-OrderInUse = (p : Policy) (m : Module) → IsModule m → pass p (bottom_up m) m ≡ passed p m
 
 -- so the module of finished bodies has the outcomes of the module
 abbrev pub FinishedKeep : Type 0

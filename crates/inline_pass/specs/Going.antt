@@ -1,18 +1,20 @@
 -- A function's own text while bodies are put into it. There are two bodies side by side: that of the definition, and
 -- the one in the code, which is the first under other numbers. The own lines that are left stand unchanged in the
 -- code's.
-use Rattle.std.specs.Prelude.{◌≡◌, ℕ, suc, ◌+◌, List, ◌∷◌, ◌++◌, drop, Option, Some, slice_get}
+use Rattle.std.specs.Prelude.{◌≡◌, ℕ, suc, ◌+◌, List, [], ◌∷◌, ◌++◌, drop, Option, Some, slice_get}
 use Rattle.ir_core.specs.declared.names.FuncName.{FuncName}
 use Rattle.ir_core.specs.declared.declarations.Callee.{Callee}
-use Rattle.ir_core.specs.Module.{Line, Block, Function}
+use Rattle.ir_core.specs.Module.{Line, Block, Function, Module}
 use Rattle.ir_core.specs.Lookup.{and_then, block_numbers}
 use Rattle.ir_core.specs.Lists.{Each, In, Different}
 use Rattle.ir_core.specs.Edits.{lines_of}
+use Rattle.ir_core.specs.WellFormed.{WellFormed}
+use Rattle.ir_semantics.specs.Accepted.{RulesHold}
 use Rattle.ir_semantics.specs.Renaming.{Renaming}
 use Rattle.inline_numbering.specs.Renamed.{Renamed}
 use Rattle.inline_pass.specs.Policy.{Policy}
 use Rattle.inline_pass.specs.Sites.{Point, sites_in, own_sites}
-use Rattle.inline_pass.specs.Finished.{callee_at, spliced_at, after_splice, inline_by, finish_by}
+use Rattle.inline_pass.specs.Finished.{callee_at, spliced_at, after_splice, inline_by, finish_by, finished_body}
 use Rattle.inline_pass.specs.Inlined.{inlined_by, inlined_with}
 
 -- the function to be finished, and the bodies that go into it
@@ -108,3 +110,20 @@ pub record Going (task : Task) (ahead : Ahead) (twins : Twins) (point : Point) (
 pub record Done (task : Task) (twins : Twins) (count : ℕ) : Type 0 where
   pub same : Renamed twins.names (finish_by task.bodies task.policy task.function) twins.code
   pub counted : count ≡ inlined_with task.bodies task.policy task.function
+
+-- before the next own block, or at the end
+abbrev pub Onward : Task → List Block → Twins → ℕ → Type 0
+Onward task [] twins count = Done task twins count
+Onward task (own ∷ rest) twins count = Going task (before_block own rest) twins (own.number, 0) count
+
+-- whole, accepted where no other function is known, and its declarations of what has a body state the body's signature
+pub record Fit (bodies : FuncName → Option Function) (f : Function) : Type 0 where
+  pub whole : WellFormed f
+  pub accepted : RulesHold [] f
+  pub states :
+      (d : Callee) → In d f.callees → (g : Function) → bodies d.name ≡ Some g
+      → slice_get f.sigs d.sig ≡ Some g.sig
+
+-- f of m is finished with finished bodies
+abbrev pub finishing : Policy → Module → Function → Task
+finishing p m f = record { policy = p; bodies = finished_body p m f.name; function = f }

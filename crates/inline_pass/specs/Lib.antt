@@ -2,10 +2,8 @@ pub mod Finished
 pub mod FinishedAcceptance
 pub mod FinishedLaws
 pub mod Going
-pub mod GoingLaws
 pub mod Inlined
 pub mod OtherBodies
 pub mod Pass
 pub mod Policy
-pub mod Putting
 pub mod Sites

@@ -1,8 +1,6 @@
 //! Laws of finished bodies: functions without a body, each of which has its law as its contract.
-ghost use Rattle.inline_pass.specs.FinishedLaws.{FinishedEquation, FinishedKeep, OrderInUse, PassIsFinished};
+ghost use Rattle.inline_pass.specs.FinishedLaws.{FinishedEquation, FinishedKeep, PassIsFinished};
 ghost use Rattle.inline_pass.specs.FinishedLaws.{RenumberedFinishedKeep};
-ghost use Rattle.inline_pass.specs.GoingLaws.{Begins, Calls, Passes, Takes, TakesLast, Turns};
-ghost use Rattle.inline_pass.specs.Putting.{DoneIsFinished, FinishedFit, Splices};
 ghost use Rattle.inline_pass.specs.OtherBodies.{FinishedRespectNumbers};
 ghost use Rattle.inline_pass.specs.FinishedAcceptance.{FinishedAccepted, FinishedWritable, RenumberedFinishedAccepted};
 ghost use Rattle.inline_pass.specs.FinishedAcceptance.{RenumberedFinishedWritable};
@@ -18,11 +16,6 @@ pub fn finished_equation()
 /// its finished body, in the module's order.
 pub fn pass_is_finished()
     ensures { PassIsFinished }
-{}
-
-/// The pass in the order of pieces, from callees to callers, gives every function its finished body.
-pub fn order_in_use()
-    ensures { OrderInUse }
 {}
 
 /// The module of finished bodies of an accepted module has the outcomes of the module: each outcome of an entry call
@@ -66,52 +59,4 @@ pub fn renumbered_finished_stay_writable()
 /// with as many sites inlined.
 pub fn finished_respect_numbers()
     ensures { FinishedRespectNumbers }
-{}
-
-// ---- the loop over a function's own lines, which puts bodies into it
-
-/// Before the first own line.
-pub fn loop_begins()
-    ensures { Begins }
-{}
-
-/// What is called at the point of an own line is what the own line calls.
-pub fn loop_calls()
-    ensures { Calls }
-{}
-
-/// Behind an own line at which nothing is inlined.
-pub fn loop_passes()
-    ensures { Passes }
-{}
-
-/// The splice of the code at an own line, by numbers that leave the caller's as they are, gives what the loop needs of
-/// it.
-pub fn loop_splices()
-    ensures { Splices }
-{}
-
-/// What the loop needs of the function and of the bodies before its first splice.
-pub fn finished_fit()
-    ensures { FinishedFit }
-{}
-
-/// Behind a plain call that is inlined.
-pub fn loop_takes()
-    ensures { Takes }
-{}
-
-/// Behind a tail call or a `try_call` that is inlined: the next own block begins, or the body is finished.
-pub fn loop_takes_last()
-    ensures { TakesLast }
-{}
-
-/// Behind the last line of an own block: the next one begins, or the body is finished.
-pub fn loop_turns()
-    ensures { Turns }
-{}
-
-/// At the end the code's body is the finished one up to numbering, and the count is the number of its inlined sites.
-pub fn loop_ends_finished()
-    ensures { DoneIsFinished }
 {}

@@ -2,8 +2,7 @@ use Rattle.std.proofs.Common.{List, map, refl, ap, arith}
 use Rattle.std.proofs.lemmas.List.{nil_from_length}
 use Rattle.ir_core.specs.Module.{Line, Function}
 use Rattle.ir_core.specs.Viewed.{line_of}
-use Rattle.inline_pass.specs.Going.{Task}
-use Rattle.inline_pass.specs.Putting.{finishing}
+use Rattle.inline_pass.specs.Going.{Task, finishing}
 use Rattle.inline_finish.specs.Building.{policy_of}
 use Rattle.inline_finish.specs.Midway.{Left, left_in}
 use Rattle.inline_finish.proofs.Steps.{all_own, enters, leaves}

@@ -1,7 +1,7 @@
 use Rattle.std.proofs.Common.{◌≡◌, ◌+◌, ◌≤◌, map, length}
 use Rattle.ir_core.specs.Lists.{Each}
 use Rattle.ir_core.specs.Viewed.{line_of}
-use Rattle.inline_pass.specs.Putting.{finishing}
+use Rattle.inline_pass.specs.Going.{finishing}
 use Rattle.inline_finish.specs.Building.{policy_of}
 use Rattle.inline_finish.specs.Midway.{IsBehind, IsOwnLine, left_in}
 use Rattle.inline_finish.proofs.lines.finish_block.Given as goal

@@ -1,5 +1,5 @@
 use Rattle.std.proofs.Common.{sym, subst, arith}
-use Rattle.inline_pass.specs.Putting.{finishing}
+use Rattle.inline_pass.specs.Going.{finishing}
 use Rattle.inline_finish.specs.Building.{policy_of}
 use Rattle.inline_finish.specs.Midway.{IsBetween, behind_block}
 use Rattle.inline_finish.proofs.Blocks.{next}

@@ -1,6 +1,6 @@
 use Rattle.std.proofs.Common.{◌≡◌, ◌+◌, ◌≤◌, List}
 use Rattle.ir_core.specs.Module.{Block}
-use Rattle.inline_pass.specs.Putting.{finishing}
+use Rattle.inline_pass.specs.Going.{finishing}
 use Rattle.inline_finish.specs.Building.{policy_of}
 use Rattle.inline_finish.specs.Midway.{IsBetween, Remaining}
 use Rattle.inline_finish.proofs.lines.finish_blocks.Given as goal

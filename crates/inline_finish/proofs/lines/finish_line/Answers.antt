@@ -4,7 +4,7 @@ use Rattle.ir_core.specs.Size.{size_of}
 use Rattle.ir_core.specs.Sound.{IsSound}
 use Rattle.ir_core.specs.Viewed.{line_of}
 use Rattle.inline_pass.specs.Policy.{Policy}
-use Rattle.inline_pass.specs.Putting.{finishing}
+use Rattle.inline_pass.specs.Going.{finishing}
 use Rattle.inline_finish.specs.Bodies.{IsBodyOf, AreCountsOf}
 use Rattle.inline_finish.specs.Building.{policy_of}
 use Rattle.inline_finish.specs.Deciding.{IsDecided}

@@ -1,6 +1,7 @@
 -- Worked examples: which rule of acceptance refuses a line, and which values are available.
 use Rattle.std.specs.Prelude.{◌≡◌, ◌≢◌, ℕ, zero, suc, pos, Bool, nat_eq, length, if◌then◌else◌, List, [], ◌∷◌, Option, Some, None, false, true, IsSomeAnd, slice_get}
 use Rattle.std.proofs.Common.{refl, inl, inr, sym, ap, ◌∙◌, subst}
+use Rattle.clk_num.specs.Operations.{value_of}
 use Rattle.clk_num.specs.declared.width.Width.TheVariants.{W32, W128}
 use Rattle.clk_num.specs.declared.op.Op.TheVariants.{Iadd, Udiv, Iconcat}
 use Rattle.clk_num.specs.declared.op.TrapCode.TheVariants as code
@@ -8,7 +9,7 @@ use Rattle.clk_num.specs.Rows.{row}
 use Rattle.debug_tags.specs.declared.tags.Tag.TheVariants.{Slot}
 use Rattle.ir_core.specs.declared.signatures.Ty.TheVariants.{I8, I32, I64, I128}
 use Rattle.ir_core.specs.declared.signatures.Conv.TheVariants.{Fast, Tail}
-use Rattle.ir_core.specs.Module.{Const, Pure, StackLoad, StackStore, Trap, Jump, Brif, Direct, Plain, Branches, Return, ReturnCall, Line, Block, Function}
+use Rattle.ir_core.specs.Module.{Const, Pure, StackLoad, StackStore, Trap, Brif, Direct, Plain, Branches, ReturnCall, Line, Block, Function}
 use Rattle.ir_core.specs.declared.signatures.Sig.{Sig}
 use Rattle.ir_core.specs.declared.instructions.BlockCall.{BlockCall}
 use Rattle.ir_semantics.specs.Splice.{first_number}
@@ -18,7 +19,7 @@ use Rattle.ir_core.specs.Lists.{In, Each}
 use Rattle.ir_semantics.specs.Available.{Reach, begin, next, branch, Available}
 use Rattle.ir_semantics.specs.Accepted.{Rule, no_terminator, entry_target, count_mismatch, type_mismatch, convention, signature_mismatch, slot_range, tag_place, not_available, HoldsAtLine}
 use Rattle.ir_semantics.specs.CallRules.{Declared}
-use Rattle.ir_semantics.proofs.Written.{signature, slot, declares, f, h}
+use Rattle.ir_examples.proofs.Written.{signature, slot, declares, f, h, of_i64, line, tagged, to, jumps, returns, block, function}
 
 -- a rule holds at a line of a block
 abbrev KeptAt : Function → ℕ → ℕ → Rule → Type 0
@@ -27,23 +28,8 @@ KeptAt f b i rule = IsSomeAnd (find_block b f.blocks) (λ block. IsSomeAnd (slic
 -- A slot tag on a tail call.
 abbrev tail_tag : Function
 tail_tag =
-    record {
-      name = f;
-      sig = signature [] [] Tail;
-      slots = slot 4 ∷ [];
-      sigs = signature [] [] Tail ∷ [];
-      callees = declares h 0 ∷ [];
-      types = [];
-      blocks =
-          record {
-            number = 0;
-            params = [];
-            lines =
-                record { inst = ReturnCall (Direct 0) []; ty = None; results = []; tags = Slot 0 ∷ [] } ∷
-                [];
-          } ∷
-          [];
-    }
+    function f (signature [] [] Tail) (slot 4 ∷ []) (signature [] [] Tail ∷ []) (declares h 0 ∷ []) [] (
+    block 0 [] (tagged (Slot 0 ∷ []) [] (ReturnCall (Direct 0) []) ∷ []) ∷ [])
 
 tail_tag_refused : KeptAt tail_tag 0 0 tag_place → ⊥
 unfolding row
@@ -55,24 +41,8 @@ tail_tag_else = (tt, tt, (refl, (refl, refl)), (refl, tt, (refl, refl)), (refl, 
 -- A suffix that is not the operand's type.
 abbrev other_type : Function
 other_type =
-    record {
-      name = f;
-      sig = signature (I64 ∷ []) (I64 ∷ []) Fast;
-      slots = [];
-      sigs = [];
-      callees = [];
-      types = (0, I64) ∷ (1, I32) ∷ [];
-      blocks =
-          record {
-            number = 0;
-            params = 0 ∷ [];
-            lines =
-                record { inst = Plain (Pure Iadd (0 ∷ 0 ∷ [])); ty = Some I32; results = 1 ∷ []; tags = [] } ∷
-                record { inst = Return (0 ∷ []); ty = None; results = []; tags = [] } ∷
-                [];
-          } ∷
-          [];
-    }
+    function f (of_i64 Fast) [] [] [] (I64 ∷ I32 ∷ []) (
+    block 0 (0 ∷ []) (line (Some I32) (1 ∷ []) (Plain (Pure Iadd (0 ∷ 0 ∷ []))) ∷ returns (0 ∷ []) ∷ []) ∷ [])
 
 other_type_refused : KeptAt other_type 0 0 type_mismatch → ⊥
 unfolding row
@@ -81,24 +51,8 @@ other_type_refused p = cc
 -- Two results of an operation that has one.
 abbrev two_results : Function
 two_results =
-    record {
-      name = f;
-      sig = signature (I64 ∷ []) (I64 ∷ []) Fast;
-      slots = [];
-      sigs = [];
-      callees = [];
-      types = (0, I64) ∷ (1, I64) ∷ (2, I8) ∷ [];
-      blocks =
-          record {
-            number = 0;
-            params = 0 ∷ [];
-            lines =
-                record { inst = Plain (Pure Iadd (0 ∷ 0 ∷ [])); ty = Some I64; results = 1 ∷ 2 ∷ []; tags = [] } ∷
-                record { inst = Return (0 ∷ []); ty = None; results = []; tags = [] } ∷
-                [];
-          } ∷
-          [];
-    }
+    function f (of_i64 Fast) [] [] [] (I64 ∷ I64 ∷ I8 ∷ []) (
+    block 0 (0 ∷ []) (line (Some I64) (1 ∷ 2 ∷ []) (Plain (Pure Iadd (0 ∷ 0 ∷ []))) ∷ returns (0 ∷ []) ∷ []) ∷ [])
 
 two_results_refused : KeptAt two_results 0 0 count_mismatch → ⊥
 unfolding row
@@ -107,24 +61,8 @@ two_results_refused p = cc
 -- A terminator that does not stand last.
 abbrev too_soon : Function
 too_soon =
-    record {
-      name = f;
-      sig = signature (I64 ∷ []) (I64 ∷ []) Fast;
-      slots = [];
-      sigs = [];
-      callees = [];
-      types = (0, I64) ∷ [];
-      blocks =
-          record {
-            number = 0;
-            params = 0 ∷ [];
-            lines =
-                record { inst = Plain (Trap (code.User 1)); ty = None; results = []; tags = [] } ∷
-                record { inst = Return (0 ∷ []); ty = None; results = []; tags = [] } ∷
-                [];
-          } ∷
-          [];
-    }
+    function f (of_i64 Fast) [] [] [] (I64 ∷ []) (
+    block 0 (0 ∷ []) (line None [] (Plain (Trap (code.User 1))) ∷ returns (0 ∷ []) ∷ []) ∷ [])
 
 too_soon_refused : KeptAt too_soon 0 0 no_terminator → ⊥
 unfolding row
@@ -132,24 +70,7 @@ too_soon_refused p = p
 
 -- A jump to the first block.
 abbrev to_entry : Function
-to_entry =
-    record {
-      name = f;
-      sig = signature [] [] Fast;
-      slots = [];
-      sigs = [];
-      callees = [];
-      types = [];
-      blocks =
-          record {
-            number = 0;
-            params = [];
-            lines =
-                record { inst = Branches (Jump (record { block = 0; args = [] })); ty = None; results = []; tags = [] } ∷
-                [];
-          } ∷
-          [];
-    }
+to_entry = function f (signature [] [] Fast) [] [] [] [] (block 0 [] (jumps 0 [] ∷ []) ∷ [])
 
 to_entry_refused : KeptAt to_entry 0 0 entry_target → ⊥
 unfolding row
@@ -158,24 +79,8 @@ to_entry_refused p = p.0 refl
 -- Eight bytes of a slot of four.
 abbrev beyond_slot : Function
 beyond_slot =
-    record {
-      name = f;
-      sig = signature [] [] Fast;
-      slots = slot 4 ∷ [];
-      sigs = [];
-      callees = [];
-      types = (0, I64) ∷ [];
-      blocks =
-          record {
-            number = 0;
-            params = [];
-            lines =
-                record { inst = Plain (StackLoad I64 0 (pos 0)); ty = None; results = 0 ∷ []; tags = [] } ∷
-                record { inst = Return []; ty = None; results = []; tags = [] } ∷
-                [];
-          } ∷
-          [];
-    }
+    function f (signature [] [] Fast) (slot 4 ∷ []) [] [] (I64 ∷ []) (
+    block 0 [] (line None (0 ∷ []) (Plain (StackLoad I64 0 (pos 0))) ∷ returns [] ∷ []) ∷ [])
 
 beyond_slot_refused : KeptAt beyond_slot 0 0 slot_range → ⊥
 unfolding row
@@ -184,23 +89,8 @@ beyond_slot_refused p = cc
 -- A tail call under another convention.
 abbrev fast_tail : Function
 fast_tail =
-    record {
-      name = f;
-      sig = signature [] [] Fast;
-      slots = [];
-      sigs = signature [] [] Fast ∷ [];
-      callees = declares h 0 ∷ [];
-      types = [];
-      blocks =
-          record {
-            number = 0;
-            params = [];
-            lines =
-                record { inst = ReturnCall (Direct 0) []; ty = None; results = []; tags = [] } ∷
-                [];
-          } ∷
-          [];
-    }
+    function f (signature [] [] Fast) [] (signature [] [] Fast ∷ []) (declares h 0 ∷ []) [] (
+    block 0 [] (line None [] (ReturnCall (Direct 0) []) ∷ []) ∷ [])
 
 fast_tail_refused : KeptAt fast_tail 0 0 convention → ⊥
 unfolding row
@@ -209,25 +99,11 @@ fast_tail_refused p = cc
 -- No division of an i128.
 abbrev wide_division : Function
 wide_division =
-    record {
-      name = f;
-      sig = signature (I64 ∷ I64 ∷ []) (I64 ∷ []) Fast;
-      slots = [];
-      sigs = [];
-      callees = [];
-      types = (0, I64) ∷ (1, I64) ∷ (2, I128) ∷ (3, I128) ∷ [];
-      blocks =
-          record {
-            number = 0;
-            params = 0 ∷ 1 ∷ [];
-            lines =
-                record { inst = Plain (Pure Iconcat (0 ∷ 1 ∷ [])); ty = Some I64; results = 2 ∷ []; tags = [] } ∷
-                record { inst = Plain (Pure Udiv (2 ∷ 2 ∷ [])); ty = Some I128; results = 3 ∷ []; tags = [] } ∷
-                record { inst = Return (0 ∷ []); ty = None; results = []; tags = [] } ∷
-                [];
-          } ∷
-          [];
-    }
+    function f (signature (I64 ∷ I64 ∷ []) (I64 ∷ []) Fast) [] [] [] (I64 ∷ I64 ∷ I128 ∷ I128 ∷ []) (
+    block 0 (0 ∷ 1 ∷ []) (
+    line (Some I64) (2 ∷ []) (Plain (Pure Iconcat (0 ∷ 1 ∷ []))) ∷
+    line (Some I128) (3 ∷ []) (Plain (Pure Udiv (2 ∷ 2 ∷ []))) ∷
+    returns (0 ∷ []) ∷ []) ∷ [])
 
 wide_division_refused : KeptAt wide_division 0 1 type_mismatch → ⊥
 unfolding row
@@ -236,24 +112,8 @@ wide_division_refused p = p.0
 -- No constant of an i128.
 abbrev wide_constant : Function
 wide_constant =
-    record {
-      name = f;
-      sig = signature (I64 ∷ []) (I64 ∷ []) Fast;
-      slots = [];
-      sigs = [];
-      callees = [];
-      types = (0, I64) ∷ (1, I128) ∷ [];
-      blocks =
-          record {
-            number = 0;
-            params = 0 ∷ [];
-            lines =
-                record { inst = Plain (Const (record { width = W128; value = 1 })); ty = None; results = 1 ∷ []; tags = [] } ∷
-                record { inst = Return (0 ∷ []); ty = None; results = []; tags = [] } ∷
-                [];
-          } ∷
-          [];
-    }
+    function f (of_i64 Fast) [] [] [] (I64 ∷ I128 ∷ []) (
+    block 0 (0 ∷ []) (line None (1 ∷ []) (Plain (Const (value_of W128 1))) ∷ returns (0 ∷ []) ∷ []) ∷ [])
 
 wide_constant_refused : KeptAt wide_constant 0 0 type_mismatch → ⊥
 unfolding row
@@ -262,25 +122,11 @@ wide_constant_refused p = p.1 refl
 -- An i128 into a slot of eight bytes.
 abbrev wide_store : Function
 wide_store =
-    record {
-      name = f;
-      sig = signature (I64 ∷ []) (I64 ∷ []) Fast;
-      slots = slot 8 ∷ [];
-      sigs = [];
-      callees = [];
-      types = (0, I64) ∷ (1, I128) ∷ [];
-      blocks =
-          record {
-            number = 0;
-            params = 0 ∷ [];
-            lines =
-                record { inst = Plain (Pure Iconcat (0 ∷ 0 ∷ [])); ty = Some I64; results = 1 ∷ []; tags = [] } ∷
-                record { inst = Plain (StackStore 1 0 (pos 0)); ty = Some I128; results = []; tags = [] } ∷
-                record { inst = Return (0 ∷ []); ty = None; results = []; tags = [] } ∷
-                [];
-          } ∷
-          [];
-    }
+    function f (of_i64 Fast) (slot 8 ∷ []) [] [] (I64 ∷ I128 ∷ []) (
+    block 0 (0 ∷ []) (
+    line (Some I64) (1 ∷ []) (Plain (Pure Iconcat (0 ∷ 0 ∷ []))) ∷
+    line (Some I128) [] (Plain (StackStore 1 0 (pos 0))) ∷
+    returns (0 ∷ []) ∷ []) ∷ [])
 
 wide_store_refused : KeptAt wide_store 0 1 slot_range → ⊥
 unfolding row
@@ -289,23 +135,8 @@ wide_store_refused p = cc
 -- A declaration of the function itself with another signature.
 abbrev other_signature : Function
 other_signature =
-    record {
-      name = f;
-      sig = signature [] [] Fast;
-      slots = [];
-      sigs = signature (I8 ∷ []) [] Fast ∷ [];
-      callees = declares f 0 ∷ [];
-      types = [];
-      blocks =
-          record {
-            number = 0;
-            params = [];
-            lines =
-                record { inst = Return []; ty = None; results = []; tags = [] } ∷
-                [];
-          } ∷
-          [];
-    }
+    function f (signature [] [] Fast) [] (signature (I8 ∷ []) [] Fast ∷ []) (declares f 0 ∷ []) [] (
+    block 0 [] (returns [] ∷ []) ∷ [])
 
 other_signature_refused : Declared (other_signature ∷ []) other_signature (declares f 0) → ⊥
 other_signature_refused p = let e : Path ℕ 1 0 = ap params (p other_signature refl) in cc
@@ -317,41 +148,13 @@ other_signature_refused p = let e : Path ℕ 1 0 = ap params (p other_signature 
 -- A value whose definition stands before the use in the text, and not on every path.
 abbrev by_text : Function
 by_text =
-    record {
-      name = f;
-      sig = signature (I8 ∷ []) (I32 ∷ []) Fast;
-      slots = [];
-      sigs = [];
-      callees = [];
-      types = (0, I8) ∷ (1, I32) ∷ [];
-      blocks =
-          record {
-            number = 0;
-            params = 0 ∷ [];
-            lines =
-                record { inst = Branches (Brif 0 (record { block = 1; args = [] }) (record { block = 2; args = [] })); ty = Some I8; results = []; tags = [] } ∷
-                [];
-          } ∷
-          record {
-            number = 1;
-            params = [];
-            lines =
-                record { inst = Plain (Const (record { width = W32; value = 1 })); ty = None; results = 1 ∷ []; tags = [] } ∷
-                record { inst = Branches (Jump (record { block = 2; args = [] })); ty = None; results = []; tags = [] } ∷
-                [];
-          } ∷
-          record {
-            number = 2;
-            params = [];
-            lines =
-                record { inst = Return (1 ∷ []); ty = None; results = []; tags = [] } ∷
-                [];
-          } ∷
-          [];
-    }
+    function f (signature (I8 ∷ []) (I32 ∷ []) Fast) [] [] [] (I8 ∷ I32 ∷ []) (
+    block 0 (0 ∷ []) (line (Some I8) [] (Branches (Brif 0 (to 1 []) (to 2 []))) ∷ []) ∷
+    block 1 [] (line None (1 ∷ []) (Plain (Const (value_of W32 1))) ∷ jumps 2 [] ∷ []) ∷
+    block 2 [] (returns (1 ∷ []) ∷ []) ∷ [])
 
 by_text_path : Reach by_text 2 0 (0 ∷ [])
-by_text_path = branch (begin _ _ refl) _ refl _ refl (record { block = 2; args = [] }) (inr (inl refl)) _ refl
+by_text_path = branch (begin _ _ refl) _ refl _ refl (to 2 []) (inr (inl refl)) _ refl
 
 by_text_refused : Available by_text 2 0 1 → ⊥
 by_text_refused p = elim (p (0 ∷ []) by_text_path) [ inl q ↦ cc | inr q ↦ q ]
@@ -359,25 +162,11 @@ by_text_refused p = elim (p (0 ∷ []) by_text_path) [ inl q ↦ cc | inr q ↦ 
 -- A value that is used before the line that defines it, with a suffix that says its type.
 abbrev too_early : Function
 too_early =
-    record {
-      name = f;
-      sig = signature (I64 ∷ []) (I64 ∷ []) Fast;
-      slots = [];
-      sigs = [];
-      callees = [];
-      types = (0, I64) ∷ (1, I64) ∷ (2, I64) ∷ [];
-      blocks =
-          record {
-            number = 0;
-            params = 0 ∷ [];
-            lines =
-                record { inst = Plain (Pure Iadd (2 ∷ 0 ∷ [])); ty = Some I64; results = 1 ∷ []; tags = [] } ∷
-                record { inst = Plain (Pure Iadd (0 ∷ 0 ∷ [])); ty = Some I64; results = 2 ∷ []; tags = [] } ∷
-                record { inst = Return (0 ∷ []); ty = None; results = []; tags = [] } ∷
-                [];
-          } ∷
-          [];
-    }
+    function f (of_i64 Fast) [] [] [] (I64 ∷ I64 ∷ I64 ∷ []) (
+    block 0 (0 ∷ []) (
+    line (Some I64) (1 ∷ []) (Plain (Pure Iadd (2 ∷ 0 ∷ []))) ∷
+    line (Some I64) (2 ∷ []) (Plain (Pure Iadd (0 ∷ 0 ∷ []))) ∷
+    returns (0 ∷ []) ∷ []) ∷ [])
 
 too_early_refused : KeptAt too_early 0 0 not_available → ⊥
 too_early_refused p = elim (p.0 (0 ∷ []) (begin _ _ refl)) [ inl q ↦ cc | inr q ↦ q ]
@@ -389,46 +178,11 @@ too_early_else = (tt, tt, refl, (refl, refl), tt, tt, tt, refl)
 -- A block that nothing enters: every value is available there.
 abbrev no_path : Function
 no_path =
-    record {
-      name = f;
-      sig = signature (I8 ∷ []) (I32 ∷ []) Fast;
-      slots = [];
-      sigs = [];
-      callees = [];
-      types = (0, I8) ∷ (1, I32) ∷ (2, I32) ∷ [];
-      blocks =
-          record {
-            number = 0;
-            params = 0 ∷ [];
-            lines =
-                record { inst = Branches (Brif 0 (record { block = 1; args = [] }) (record { block = 2; args = [] })); ty = Some I8; results = []; tags = [] } ∷
-                [];
-          } ∷
-          record {
-            number = 1;
-            params = [];
-            lines =
-                record { inst = Plain (Const (record { width = W32; value = 1 })); ty = None; results = 1 ∷ []; tags = [] } ∷
-                record { inst = Branches (Jump (record { block = 2; args = [] })); ty = None; results = []; tags = [] } ∷
-                [];
-          } ∷
-          record {
-            number = 2;
-            params = [];
-            lines =
-                record { inst = Plain (Const (record { width = W32; value = 2 })); ty = None; results = 2 ∷ []; tags = [] } ∷
-                record { inst = Return (2 ∷ []); ty = None; results = []; tags = [] } ∷
-                [];
-          } ∷
-          record {
-            number = 3;
-            params = [];
-            lines =
-                record { inst = Return (1 ∷ []); ty = None; results = []; tags = [] } ∷
-                [];
-          } ∷
-          [];
-    }
+    function f (signature (I8 ∷ []) (I32 ∷ []) Fast) [] [] [] (I8 ∷ I32 ∷ I32 ∷ []) (
+    block 0 (0 ∷ []) (line (Some I8) [] (Branches (Brif 0 (to 1 []) (to 2 []))) ∷ []) ∷
+    block 1 [] (line None (1 ∷ []) (Plain (Const (value_of W32 1))) ∷ jumps 2 [] ∷ []) ∷
+    block 2 [] (line None (2 ∷ []) (Plain (Const (value_of W32 2))) ∷ returns (2 ∷ []) ∷ []) ∷
+    block 3 [] (returns (1 ∷ []) ∷ []) ∷ [])
 
 abbrev NotThird : List BlockCall → Type 0
 NotThird ts = Each (λ (t : BlockCall). t.block ≢ 3) ts

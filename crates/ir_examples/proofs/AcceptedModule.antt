@@ -2,57 +2,33 @@
 -- accepted: a rule that is too strong would refuse it. Beside it a module in which one of two paths into a block defines
 -- a value that is used there: it is well-formed, keeps all other rules, and is refused at this use.
 use Rattle.std.proofs.Common.{refl, inl, inr}
-use Rattle.std.specs.Prelude.{◌≡◌, ℕ, pos, negsuc, List, [], ◌∷◌, ◌++◌, Option, Some, None, true, nat_eq, if◌then◌else◌}
-use Rattle.std.specs.List.{enumerate_from}
+use Rattle.std.specs.Prelude.{◌≡◌, ℕ, pos, negsuc, List, [], ◌∷◌, ◌++◌, Some, None, true, nat_eq, if◌then◌else◌}
 use Rattle.clk_num.specs.declared.width.Width.TheVariants.{W8, W16, W32, W64, W128}
 use Rattle.clk_num.specs.declared.op.Op.TheVariants as op
 use Rattle.clk_num.specs.declared.op.Cc.TheVariants as condition
 use Rattle.clk_num.specs.declared.op.TrapCode.TheVariants as code
 use Rattle.clk_num.specs.Operations.{value_of}
 use Rattle.clk_num.specs.Rows.{row}
-use Rattle.debug_tags.specs.declared.tags.Tag.{Tag}
 use Rattle.debug_tags.specs.declared.tags.Tag.TheVariants as tag
-use Rattle.exn_tables.specs.declared.table.Entry.{Entry}
 use Rattle.ir_core.specs.declared.signatures.Ty.{Ty}
 use Rattle.ir_core.specs.declared.signatures.Ty.TheVariants.{I8, I16, I32, I64, I128}
 use Rattle.ir_core.specs.declared.signatures.Sig.{Sig}
 use Rattle.ir_core.specs.declared.signatures.Conv.TheVariants.{Fast, Tail, SystemV}
-use Rattle.ir_core.specs.declared.instructions.Arg.{Arg}
 use Rattle.ir_core.specs.declared.instructions.Arg.TheVariants as arg
-use Rattle.ir_core.specs.declared.instructions.BlockCall.{BlockCall}
 use Rattle.ir_core.specs.declared.instructions.Flags.{Flags}
 use Rattle.ir_core.specs.declared.instructions.Access.TheVariants.{Full, Uload, Sload}
-use Rattle.ir_core.specs.declared.places.Item.TheVariants as item
-use Rattle.ir_core.specs.Module.{Nop, Const, Pure, PureImm, Load, Store, StackLoad, StackStore, FuncAddr, Trap, Trapz, Trapnz, Jump, Brif, BrTable, Direct, Indirect, TryDirect, TryIndirect, Instruction, Plain, Branches, SequencePoint, Return, Call, ReturnCall, TryCall, Line, Block, Function, Module}
+use Rattle.ir_core.specs.Module.{Nop, Const, Pure, PureImm, Load, Store, StackLoad, StackStore, FuncAddr, Trap, Trapz, Trapnz, Brif, BrTable, Direct, Indirect, TryDirect, TryIndirect, Plain, Branches, SequencePoint, Call, ReturnCall, TryCall, Line, Block, Function, Module}
 use Rattle.ir_core.specs.Signatures.{same_sig}
 use Rattle.ir_core.specs.Lookup.{same_name}
 use Rattle.ir_core.specs.WellFormed.{IsModule}
 use Rattle.ir_semantics.specs.Accepted.{not_available, Accepted}
 use Rattle.ir_semantics.specs.Available.{Reach, begin, branch}
-use Rattle.ir_semantics.proofs.Written.{signature, slot, declares, no_flags, f, g, h, t}
+use Rattle.ir_examples.proofs.Written.{signature, slot, declares, no_flags, f, g, h, t, of_i64, line, tagged, to, caught, jumps, returns, block, function, line_at}
 use Rattle.ir_check.specs.Faults.{check, FirstFault}
 use Rattle.ir_check.specs.Twins.{early_fault}
 use Rattle.ir_examples.proofs.Certificate.{is_module, accepted, faulty}
 
--- ---- short words
-
-abbrev pub line : Option Ty → List ℕ → Instruction → Line
-line t results i = record { inst = i; ty = t; results = results; tags = [] }
-
-abbrev pub tagged : List Tag → List ℕ → Instruction → Line
-tagged tags results i = record { inst = i; ty = None; results = results; tags = tags }
-
-abbrev pub block : ℕ → List ℕ → List Line → Block
-block n ps ls = record { number = n; params = ps; lines = ls }
-
-abbrev pub to : ℕ → List Arg → BlockCall
-to b args = record { block = b; args = args }
-
-abbrev pub caught : Option ℕ → BlockCall → Entry BlockCall
-caught t target = record { tag = t; target = target }
-
-abbrev pub one : Sig
-one = signature (I64 ∷ []) (I64 ∷ []) Tail
+-- ---- flags and signatures
 
 abbrev two : Sig
 two = signature (I64 ∷ []) (I64 ∷ I64 ∷ []) Tail
@@ -190,9 +166,7 @@ immediates =
 
 -- the first block ends in one of two ways
 abbrev parting : List Line
-parting =
-    line (Some I8) [] (Branches (Brif 50 (to 1 (arg.Value 68 ∷ [])) (to 2 []))) ∷
-    []
+parting = line (Some I8) [] (Branches (Brif 50 (to 1 (arg.Value 68 ∷ [])) (to 2 []))) ∷ []
 
 -- reads of each type, and of fewer bytes than the type has
 abbrev loads : List Line
@@ -251,7 +225,7 @@ slot_lines =
 abbrev to_join : List Line
 to_join =
     line None [] (Plain Nop) ∷
-    line None [] (Branches (Jump (to 3 (arg.Value 99 ∷ [])))) ∷
+    jumps 3 (arg.Value 99 ∷ []) ∷
     []
 
 -- traps on a condition of any type, for each reason, and a table
@@ -283,15 +257,11 @@ calls =
 
 -- with the signature by which it goes; its results and a payload in any order
 abbrev try_indirect : List Line
-try_indirect =
-    tagged (tag.Slot 1 ∷ []) [] (TryCall (TryIndirect 102) 0 (109 ∷ []) (to 7 (arg.Ret 1 ∷ arg.Ret 0 ∷ [])) (caught (Some 1) (to 5 (arg.Exn 0 ∷ arg.Value 110 ∷ [])) ∷ [])) ∷
-    []
+try_indirect = tagged (tag.Slot 1 ∷ []) [] (TryCall (TryIndirect 102) 0 (109 ∷ []) (to 7 (arg.Ret 1 ∷ arg.Ret 0 ∷ [])) (caught (Some 1) (to 5 (arg.Exn 0 ∷ arg.Value 110 ∷ [])) ∷ [])) ∷ []
 
 -- a tail call of the function itself
 abbrev tail : List Line
-tail =
-    tagged (tag.User 3 ∷ []) [] (ReturnCall (Direct 2) (111 ∷ [])) ∷
-    []
+tail = tagged (tag.User 3 ∷ []) [] (ReturnCall (Direct 2) (111 ∷ [])) ∷ []
 
 -- a block that leads back to itself, with a value from before the loop
 abbrev loop : List Line
@@ -303,38 +273,26 @@ loop =
 
 -- a condition of type i128
 abbrev choice : List Line
-choice =
-    line (Some I128) [] (Branches (Brif 5 (to 8 []) (to 10 []))) ∷
-    []
+choice = line (Some I128) [] (Branches (Brif 5 (to 8 []) (to 10 []))) ∷ []
 
 -- several values
 abbrev gives_two : List Line
-gives_two =
-    line None [] (Return (116 ∷ 0 ∷ [])) ∷
-    []
+gives_two = returns (116 ∷ 0 ∷ []) ∷ []
 
 -- where the tables lead otherwise
 abbrev cold : List Line
-cold =
-    line None [] (Plain (Trap (code.User 2))) ∷
-    []
+cold = line None [] (Plain (Trap (code.User 2))) ∷ []
 
 -- a tail call by an address, whose block stands in the text before those that define its values
 abbrev tail_indirect : List Line
-tail_indirect =
-    tagged (tag.User 4 ∷ []) [] (ReturnCall (Indirect 0 102) (117 ∷ [])) ∷
-    []
+tail_indirect = tagged (tag.User 4 ∷ []) [] (ReturnCall (Indirect 0 102) (117 ∷ [])) ∷ []
 
 -- no path leads to these two blocks: there each value is available
 abbrev unreached : List Line
-unreached =
-    line None [] (TryCall (TryIndirect 78) 1 (118 ∷ []) (to 12 (arg.Ret 0 ∷ [])) []) ∷
-    []
+unreached = line None [] (TryCall (TryIndirect 78) 1 (118 ∷ []) (to 12 (arg.Ret 0 ∷ [])) []) ∷ []
 
 abbrev unreached_too : List Line
-unreached_too =
-    line (Some I64) [] (Branches (Brif 115 (to 11 (arg.Value 119 ∷ [])) (to 8 []))) ∷
-    []
+unreached_too = line (Some I64) [] (Branches (Brif 115 (to 11 (arg.Value 119 ∷ [])) (to 8 []))) ∷ []
 
 abbrev blocks : List Block
 blocks =
@@ -358,21 +316,13 @@ value_types = I64 ∷ I64 ∷ I8 ∷ I16 ∷ I32 ∷ I128 ∷ I64 ∷ I64 ∷ I8
 
 abbrev pub many : Function
 many =
-    record {
-      name = f;
-      sig = two;
-      slots = slot 16 ∷ slot 4 ∷ [];
-      sigs = two ∷ one ∷ signature [] (I32 ∷ []) Fast ∷ signature (I128 ∷ I8 ∷ []) [] SystemV ∷ one ∷ [];
-      callees = declares g 1 ∷ declares h 2 ∷ declares f 0 ∷ declares g 4 ∷ [];
-      types = enumerate_from 0 value_types;
-      blocks = blocks;
-    }
+    function f two (slot 16 ∷ slot 4 ∷ []) (two ∷ of_i64 Tail ∷ signature [] (I32 ∷ []) Fast ∷ signature (I128 ∷ I8 ∷ []) [] SystemV ∷ of_i64 Tail ∷ []) (declares g 1 ∷ declares h 2 ∷ declares f 0 ∷ declares g 4 ∷ []) value_types blocks
 
 abbrev pub gives_back : Function
-gives_back = record { name = g; sig = one; slots = []; sigs = []; callees = []; types = (0, I64) ∷ []; blocks = block 0 (0 ∷ []) (line None [] (Return (0 ∷ [])) ∷ []) ∷ [] }
+gives_back = function g (of_i64 Tail) [] [] [] (I64 ∷ []) (block 0 (0 ∷ []) (returns (0 ∷ []) ∷ []) ∷ [])
 
 abbrev gives_nothing : Function
-gives_nothing = record { name = t; sig = signature [] [] Fast; slots = []; sigs = []; callees = []; types = []; blocks = block 0 [] (line None [] (Return []) ∷ []) ∷ [] }
+gives_nothing = function t (signature [] [] Fast) [] [] [] [] (block 0 [] (returns [] ∷ []) ∷ [])
 
 abbrev accepted_module : Module
 accepted_module = many ∷ gives_back ∷ gives_nothing ∷ []
@@ -406,7 +356,7 @@ live =
     []
 
 abbrev known : Function → ℕ → List ℕ
-known function b = if same_name function.name f then listed live b else []
+known of_function b = if same_name of_function.name f then listed live b else []
 
 many_accepted : Accepted accepted_module
 unfolding row same_sig
@@ -418,13 +368,13 @@ many_accepted = accepted known accepted_module refl refl
 abbrev joins : List Block
 joins =
     block 0 (0 ∷ []) (line (Some I64) [] (Branches (Brif 0 (to 1 []) (to 2 []))) ∷ []) ∷
-    block 1 [] (line None (1 ∷ []) (Plain (Const (value_of W64 5))) ∷ line None [] (Branches (Jump (to 3 []))) ∷ []) ∷
-    block 2 [] (line None [] (Branches (Jump (to 3 []))) ∷ []) ∷
-    block 3 [] (line None [] (Return (1 ∷ [])) ∷ []) ∷
+    block 1 [] (line None (1 ∷ []) (Plain (Const (value_of W64 5))) ∷ jumps 3 [] ∷ []) ∷
+    block 2 [] (jumps 3 [] ∷ []) ∷
+    block 3 [] (returns (1 ∷ []) ∷ []) ∷
     []
 
 abbrev one_path : Function
-one_path = record { name = f; sig = one; slots = []; sigs = []; callees = []; types = (0, I64) ∷ (1, I64) ∷ []; blocks = joins }
+one_path = function f (of_i64 Tail) [] [] [] (I64 ∷ I64 ∷ []) joins
 
 one_path_well_formed : IsModule (one_path ∷ [])
 one_path_well_formed = is_module (one_path ∷ []) (refl, tt) refl
@@ -438,13 +388,13 @@ around : Reach one_path 3 0 (0 ∷ [])
 around = branch (branch (begin _ _ refl) _ refl _ refl (to 2 []) (inr (inl refl)) _ refl) _ refl _ refl (to 3 []) (inl refl) _ refl
 
 abbrev nothing_known : Function → ℕ → List ℕ
-nothing_known function b = []
+nothing_known of_function b = []
 
-one_path_refused : FirstFault (one_path ∷ []) 0 (item.Inst (record { block = 3; index = 0 })) not_available
+one_path_refused : FirstFault (one_path ∷ []) 0 (line_at 3 0) not_available
 unfolding row same_sig
 one_path_refused =
-    faulty nothing_known (one_path ∷ []) refl (check 0 one_path (item.Inst (record { block = 3; index = 0 })) not_available) refl
+    faulty nothing_known (one_path ∷ []) refl (check 0 one_path (line_at 3 0) not_available) refl
     (λ kept. elim ((kept _ _ refl refl).0 (0 ∷ []) around) [ inl q ↦ cc | inr q ↦ q ])
 
 one_path_not_accepted : Accepted (one_path ∷ []) → ⊥
-one_path_not_accepted ok = elim ((ok one_path (inl refl) (item.Inst (record { block = 3; index = 0 })) not_available _ _ refl refl).0 (0 ∷ []) around) [ inl q ↦ cc | inr q ↦ q ]
+one_path_not_accepted ok = elim ((ok one_path (inl refl) (line_at 3 0) not_available _ _ refl refl).0 (0 ∷ []) around) [ inl q ↦ cc | inr q ↦ q ]

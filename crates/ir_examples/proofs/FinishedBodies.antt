@@ -1,22 +1,27 @@
 -- Worked examples of sizes, policies and the pass.
-use Rattle.std.specs.Prelude.{◌≡◌, [], ◌∷◌, map, None}
+use Rattle.std.specs.Prelude.{◌≡◌, ℕ, [], ◌∷◌, map, None}
 use Rattle.std.proofs.Common.{inl, refl}
+use Rattle.clk_num.specs.Operations.{value_of}
 use Rattle.clk_num.specs.declared.width.Width.TheVariants.{W32}
 use Rattle.ir_core.specs.declared.names.FuncName.{FuncName}
 use Rattle.ir_core.specs.declared.names.FuncName.TheVariants.{Text}
 use Rattle.ir_core.specs.declared.signatures.Ty.TheVariants.{I32, I64}
 use Rattle.ir_core.specs.declared.signatures.Conv.TheVariants.{Fast}
 use Rattle.ir_core.specs.declared.instructions.Arg.TheVariants.{Value}
-use Rattle.ir_core.specs.Module.{Const, Jump, Direct, Plain, Branches, Return, Call, Function, Module}
+use Rattle.ir_core.specs.Module.{Const, Direct, Plain, Call, Function, Module}
 use Rattle.ir_core.specs.Signatures.{same_sig}
 use Rattle.ir_semantics.specs.Splice.{sides, splice_with}
 use Rattle.ir_semantics.specs.Canon.{canonical}
 use Rattle.ir_core.specs.Size.{size_of}
-use Rattle.ir_semantics.proofs.Written.{signature, declares, f, g}
+use Rattle.ir_examples.proofs.Written.{signature, declares, f, g, of_i64, line, jumps, returns, block, function, forwards}
 use Rattle.call_graph.specs.Order.{BottomUp, bottom_up, piece_number}
 use Rattle.inline_pass.specs.Finished.{passed}
 use Rattle.inline_pass.specs.Inlined.{inlined, all_inlined}
 use Rattle.inline_pass.specs.Pass.{pass}
+use Rattle.inline_pass.specs.Policy.{Policy}
+
+abbrev sizes : (callee_size caller_size : ℕ) → Policy
+sizes callee_size caller_size = record { callee_size = callee_size; caller_size = caller_size }
 
 abbrev a : FuncName
 a = Text (97 ∷ [])
@@ -36,80 +41,20 @@ f1 = Text (102 ∷ 49 ∷ [])
 -- A function and its one caller.
 abbrev constant : Function
 constant =
-    record {
-      name = f0;
-      sig = signature [] (I32 ∷ []) Fast;
-      slots = [];
-      sigs = [];
-      callees = [];
-      types = (0, I32) ∷ [];
-      blocks =
-          record {
-            number = 0;
-            params = [];
-            lines =
-                record { inst = Plain (Const (record { width = W32; value = 10 })); ty = None; results = 0 ∷ []; tags = [] } ∷
-                record { inst = Return (0 ∷ []); ty = None; results = []; tags = [] } ∷
-                [];
-          } ∷
-          [];
-    }
+    function f0 (signature [] (I32 ∷ []) Fast) [] [] [] (I32 ∷ []) (
+    block 0 [] (line None (0 ∷ []) (Plain (Const (value_of W32 10))) ∷ returns (0 ∷ []) ∷ []) ∷ [])
 
 abbrev one_call : Function
 one_call =
-    record {
-      name = f1;
-      sig = signature [] (I32 ∷ []) Fast;
-      slots = [];
-      sigs = signature [] (I32 ∷ []) Fast ∷ [];
-      callees = declares f0 0 ∷ [];
-      types = (0, I32) ∷ [];
-      blocks =
-          record {
-            number = 0;
-            params = [];
-            lines =
-                record { inst = Call (Direct 0) []; ty = None; results = 0 ∷ []; tags = [] } ∷
-                record { inst = Return (0 ∷ []); ty = None; results = []; tags = [] } ∷
-                [];
-          } ∷
-          [];
-    }
+    function f1 (signature [] (I32 ∷ []) Fast) [] (signature [] (I32 ∷ []) Fast ∷ []) (declares f0 0 ∷ []) (I32 ∷ []) (
+    block 0 [] (line None (0 ∷ []) (Call (Direct 0) []) ∷ returns (0 ∷ []) ∷ []) ∷ [])
 
 abbrev with_constant : Function
 with_constant =
-    record {
-      name = f1;
-      sig = signature [] (I32 ∷ []) Fast;
-      slots = [];
-      sigs = signature [] (I32 ∷ []) Fast ∷ [];
-      callees = declares f0 0 ∷ [];
-      types = (0, I32) ∷ (1, I32) ∷ [];
-      blocks =
-          record {
-            number = 0;
-            params = [];
-            lines =
-                record { inst = Branches (Jump (record { block = 1; args = [] })); ty = None; results = []; tags = [] } ∷
-                [];
-          } ∷
-          record {
-            number = 1;
-            params = [];
-            lines =
-                record { inst = Plain (Const (record { width = W32; value = 10 })); ty = None; results = 0 ∷ []; tags = [] } ∷
-                record { inst = Branches (Jump (record { block = 2; args = Value 0 ∷ [] })); ty = None; results = []; tags = [] } ∷
-                [];
-          } ∷
-          record {
-            number = 2;
-            params = 1 ∷ [];
-            lines =
-                record { inst = Return (1 ∷ []); ty = None; results = []; tags = [] } ∷
-                [];
-          } ∷
-          [];
-    }
+    function f1 (signature [] (I32 ∷ []) Fast) [] (signature [] (I32 ∷ []) Fast ∷ []) (declares f0 0 ∷ []) (I32 ∷ I32 ∷ []) (
+    block 0 [] (jumps 1 [] ∷ []) ∷
+    block 1 [] (line None (0 ∷ []) (Plain (Const (value_of W32 10))) ∷ jumps 2 (Value 0 ∷ []) ∷ []) ∷
+    block 2 (1 ∷ []) (returns (1 ∷ []) ∷ []) ∷ [])
 
 constant_size : size_of constant ≡ 5
 constant_size = refl
@@ -124,224 +69,78 @@ spliced_size = refl
 abbrev pair_of : Module
 pair_of = constant ∷ one_call ∷ []
 
-at_limits : map canonical (passed (record { callee_size = 5; caller_size = 14 }) pair_of) ≡ constant ∷ with_constant ∷ []
+at_limits : map canonical (passed (sizes 5 14) pair_of) ≡ constant ∷ with_constant ∷ []
 unfolding same_sig
 at_limits = refl
 
-below_callee_size : passed (record { callee_size = 4; caller_size = 14 }) pair_of ≡ pair_of
+below_callee_size : passed (sizes 4 14) pair_of ≡ pair_of
 unfolding same_sig
 below_callee_size = refl
 
-below_caller_size : passed (record { callee_size = 5; caller_size = 13 }) pair_of ≡ pair_of
+below_caller_size : passed (sizes 5 13) pair_of ≡ pair_of
 unfolding same_sig
 below_caller_size = refl
 
-inlined_at_limits : map (inlined (record { callee_size = 5; caller_size = 14 }) pair_of) pair_of ≡ 0 ∷ 1 ∷ []
+inlined_at_limits : map (inlined (sizes 5 14) pair_of) pair_of ≡ 0 ∷ 1 ∷ []
 unfolding same_sig
 inlined_at_limits = refl
 
-inlined_below_callee_size : all_inlined (record { callee_size = 4; caller_size = 14 }) pair_of ≡ 0
+inlined_below_callee_size : all_inlined (sizes 4 14) pair_of ≡ 0
 inlined_below_callee_size = refl
 
-inlined_below_caller_size : all_inlined (record { callee_size = 5; caller_size = 13 }) pair_of ≡ 0
+inlined_below_caller_size : all_inlined (sizes 5 13) pair_of ≡ 0
 unfolding same_sig
 inlined_below_caller_size = refl
 
 -- Recursion, and a caller of a recursive function.
 abbrev itself : Function
-itself =
-    record {
-      name = f;
-      sig = signature (I64 ∷ []) (I64 ∷ []) Fast;
-      slots = [];
-      sigs = signature (I64 ∷ []) (I64 ∷ []) Fast ∷ [];
-      callees = declares f 0 ∷ [];
-      types = (0, I64) ∷ (1, I64) ∷ [];
-      blocks =
-          record {
-            number = 0;
-            params = 0 ∷ [];
-            lines =
-                record { inst = Call (Direct 0) (0 ∷ []); ty = None; results = 1 ∷ []; tags = [] } ∷
-                record { inst = Return (1 ∷ []); ty = None; results = []; tags = [] } ∷
-                [];
-          } ∷
-          [];
-    }
+itself = forwards f f
 
 abbrev other : Function
-other =
-    record {
-      name = g;
-      sig = signature (I64 ∷ []) (I64 ∷ []) Fast;
-      slots = [];
-      sigs = signature (I64 ∷ []) (I64 ∷ []) Fast ∷ [];
-      callees = declares f 0 ∷ [];
-      types = (0, I64) ∷ (1, I64) ∷ [];
-      blocks =
-          record {
-            number = 0;
-            params = 0 ∷ [];
-            lines =
-                record { inst = Call (Direct 0) (0 ∷ []); ty = None; results = 1 ∷ []; tags = [] } ∷
-                record { inst = Return (1 ∷ []); ty = None; results = []; tags = [] } ∷
-                [];
-          } ∷
-          [];
-    }
+other = forwards g f
 
 abbrev other_result : Function
 other_result =
-    record {
-      name = g;
-      sig = signature (I64 ∷ []) (I64 ∷ []) Fast;
-      slots = [];
-      sigs = signature (I64 ∷ []) (I64 ∷ []) Fast ∷ [];
-      callees = declares f 0 ∷ [];
-      types = (0, I64) ∷ (1, I64) ∷ (2, I64) ∷ (3, I64) ∷ [];
-      blocks =
-          record {
-            number = 0;
-            params = 0 ∷ [];
-            lines =
-                record { inst = Branches (Jump (record { block = 1; args = Value 0 ∷ [] })); ty = None; results = []; tags = [] } ∷
-                [];
-          } ∷
-          record {
-            number = 1;
-            params = 1 ∷ [];
-            lines =
-                record { inst = Call (Direct 0) (1 ∷ []); ty = None; results = 2 ∷ []; tags = [] } ∷
-                record { inst = Branches (Jump (record { block = 2; args = Value 2 ∷ [] })); ty = None; results = []; tags = [] } ∷
-                [];
-          } ∷
-          record {
-            number = 2;
-            params = 3 ∷ [];
-            lines =
-                record { inst = Return (3 ∷ []); ty = None; results = []; tags = [] } ∷
-                [];
-          } ∷
-          [];
-    }
+    function g (of_i64 Fast) [] (of_i64 Fast ∷ []) (declares f 0 ∷ []) (I64 ∷ I64 ∷ I64 ∷ I64 ∷ []) (
+    block 0 (0 ∷ []) (jumps 1 (Value 0 ∷ []) ∷ []) ∷
+    block 1 (1 ∷ []) (line None (2 ∷ []) (Call (Direct 0) (1 ∷ [])) ∷ jumps 2 (Value 2 ∷ []) ∷ []) ∷
+    block 2 (3 ∷ []) (returns (3 ∷ []) ∷ []) ∷ [])
 
-recursion : map canonical (passed (record { callee_size = 64; caller_size = 4096 }) (itself ∷ other ∷ [])) ≡ itself ∷ other_result ∷ []
+recursion : map canonical (passed (sizes 64 4096) (itself ∷ other ∷ [])) ≡ itself ∷ other_result ∷ []
 unfolding same_sig
 recursion = refl
 
 -- a call that came in with the body is no site
-inlined_of_recursion : map (inlined (record { callee_size = 64; caller_size = 4096 }) (itself ∷ other ∷ [])) (itself ∷ other ∷ []) ≡ 0 ∷ 1 ∷ []
+inlined_of_recursion : map (inlined (sizes 64 4096) (itself ∷ other ∷ [])) (itself ∷ other ∷ []) ≡ 0 ∷ 1 ∷ []
 unfolding same_sig
 inlined_of_recursion = refl
 
 -- Two functions that call each other, and a caller.
 abbrev in_a : Function
-in_a =
-    record {
-      name = a;
-      sig = signature (I64 ∷ []) (I64 ∷ []) Fast;
-      slots = [];
-      sigs = signature (I64 ∷ []) (I64 ∷ []) Fast ∷ [];
-      callees = declares b 0 ∷ [];
-      types = (0, I64) ∷ (1, I64) ∷ [];
-      blocks =
-          record {
-            number = 0;
-            params = 0 ∷ [];
-            lines =
-                record { inst = Call (Direct 0) (0 ∷ []); ty = None; results = 1 ∷ []; tags = [] } ∷
-                record { inst = Return (1 ∷ []); ty = None; results = []; tags = [] } ∷
-                [];
-          } ∷
-          [];
-    }
+in_a = forwards a b
 
 abbrev in_b : Function
-in_b =
-    record {
-      name = b;
-      sig = signature (I64 ∷ []) (I64 ∷ []) Fast;
-      slots = [];
-      sigs = signature (I64 ∷ []) (I64 ∷ []) Fast ∷ [];
-      callees = declares a 0 ∷ [];
-      types = (0, I64) ∷ (1, I64) ∷ [];
-      blocks =
-          record {
-            number = 0;
-            params = 0 ∷ [];
-            lines =
-                record { inst = Call (Direct 0) (0 ∷ []); ty = None; results = 1 ∷ []; tags = [] } ∷
-                record { inst = Return (1 ∷ []); ty = None; results = []; tags = [] } ∷
-                [];
-          } ∷
-          [];
-    }
+in_b = forwards b a
 
 abbrev in_c : Function
-in_c =
-    record {
-      name = c;
-      sig = signature (I64 ∷ []) (I64 ∷ []) Fast;
-      slots = [];
-      sigs = signature (I64 ∷ []) (I64 ∷ []) Fast ∷ [];
-      callees = declares a 0 ∷ [];
-      types = (0, I64) ∷ (1, I64) ∷ [];
-      blocks =
-          record {
-            number = 0;
-            params = 0 ∷ [];
-            lines =
-                record { inst = Call (Direct 0) (0 ∷ []); ty = None; results = 1 ∷ []; tags = [] } ∷
-                record { inst = Return (1 ∷ []); ty = None; results = []; tags = [] } ∷
-                [];
-          } ∷
-          [];
-    }
+in_c = forwards c a
 
 abbrev in_c_result : Function
 in_c_result =
-    record {
-      name = c;
-      sig = signature (I64 ∷ []) (I64 ∷ []) Fast;
-      slots = [];
-      sigs = signature (I64 ∷ []) (I64 ∷ []) Fast ∷ [];
-      callees = declares a 0 ∷ declares b 0 ∷ [];
-      types = (0, I64) ∷ (1, I64) ∷ (2, I64) ∷ (3, I64) ∷ [];
-      blocks =
-          record {
-            number = 0;
-            params = 0 ∷ [];
-            lines =
-                record { inst = Branches (Jump (record { block = 1; args = Value 0 ∷ [] })); ty = None; results = []; tags = [] } ∷
-                [];
-          } ∷
-          record {
-            number = 1;
-            params = 1 ∷ [];
-            lines =
-                record { inst = Call (Direct 1) (1 ∷ []); ty = None; results = 2 ∷ []; tags = [] } ∷
-                record { inst = Branches (Jump (record { block = 2; args = Value 2 ∷ [] })); ty = None; results = []; tags = [] } ∷
-                [];
-          } ∷
-          record {
-            number = 2;
-            params = 3 ∷ [];
-            lines =
-                record { inst = Return (3 ∷ []); ty = None; results = []; tags = [] } ∷
-                [];
-          } ∷
-          [];
-    }
+    function c (of_i64 Fast) [] (of_i64 Fast ∷ []) (declares a 0 ∷ declares b 0 ∷ []) (I64 ∷ I64 ∷ I64 ∷ I64 ∷ []) (
+    block 0 (0 ∷ []) (jumps 1 (Value 0 ∷ []) ∷ []) ∷
+    block 1 (1 ∷ []) (line None (2 ∷ []) (Call (Direct 1) (1 ∷ [])) ∷ jumps 2 (Value 2 ∷ []) ∷ []) ∷
+    block 2 (3 ∷ []) (returns (3 ∷ []) ∷ []) ∷ [])
 
-one_piece_of_two : map canonical (passed (record { callee_size = 64; caller_size = 4096 }) (in_a ∷ in_b ∷ in_c ∷ [])) ≡ in_a ∷ in_b ∷ in_c_result ∷ []
+one_piece_of_two : map canonical (passed (sizes 64 4096) (in_a ∷ in_b ∷ in_c ∷ [])) ≡ in_a ∷ in_b ∷ in_c_result ∷ []
 unfolding same_sig
 one_piece_of_two = refl
 
-inlined_of_two : all_inlined (record { callee_size = 64; caller_size = 4096 }) (in_a ∷ in_b ∷ in_c ∷ []) ≡ 1
+inlined_of_two : all_inlined (sizes 64 4096) (in_a ∷ in_b ∷ in_c ∷ []) ≡ 1
 unfolding same_sig
 inlined_of_two = refl
 
-in_order : map canonical (pass (record { callee_size = 64; caller_size = 4096 }) (a ∷ b ∷ c ∷ []) (in_a ∷ in_b ∷ in_c ∷ [])) ≡ in_a ∷ in_b ∷ in_c_result ∷ []
+in_order : map canonical (pass (sizes 64 4096) (a ∷ b ∷ c ∷ []) (in_a ∷ in_b ∷ in_c ∷ [])) ≡ in_a ∷ in_b ∷ in_c_result ∷ []
 unfolding same_sig
 in_order = refl
 

@@ -2,7 +2,7 @@
 use Rattle.std.specs.Prelude.{[], ◌∷◌, Some, None}
 use Rattle.std.specs.Prelude.{◌≡◌}
 use Rattle.std.proofs.Common.{refl}
-use Rattle.clk_num.specs.Operations.{iadd, isub, sdiv, sdiv_trap, srem, divides_by_zero, ishl, clz, band, iconcat, low_half, high_half, operation, meaning}
+use Rattle.clk_num.specs.Operations.{iadd, isub, sdiv, sdiv_trap, srem, divides_by_zero, ishl, clz, band, iconcat, low_half, high_half, operation, meaning, value_of}
 use Rattle.clk_num.specs.Numbers.{signed, wrapped, fits, fits_signed, quotient, remainder, sum_below, with_bits, zeros_from_top, floored}
 use Rattle.clk_num.specs.Rows.{row}
 use Rattle.ir_semantics.specs.Values.{number_of, bytes_of, memory_read, memory_write, address_at}
@@ -15,89 +15,30 @@ use Rattle.clk_num.specs.declared.op.TrapCode.TheVariants.{HeapOob}
 use Rattle.ir_core.specs.declared.signatures.Ty.TheVariants.{I64}
 use Rattle.ir_core.specs.declared.signatures.Conv.TheVariants.{Fast, Tail}
 use Rattle.ir_core.specs.declared.instructions.Arg.TheVariants.{Value}
-use Rattle.ir_core.specs.Module.{PureImm, Jump, Direct, Indirect, Plain, Branches, Return, Call, ReturnCall, Function, Module}
+use Rattle.ir_core.specs.Module.{PureImm, Direct, Indirect, Plain, Call, ReturnCall, Function, Module}
 use Rattle.ir_semantics.specs.Machine.{Going, Returned, Trapped}
 use Rattle.ir_semantics.specs.Runs.{outcome}
 use Rattle.ir_semantics.specs.Splice.{sides, splice_with, replace}
 use Rattle.ir_semantics.specs.Canon.{canonical}
-use Rattle.ir_semantics.proofs.Written.{signature, declares, f, g, t, i64s, world, ends}
+use Rattle.ir_examples.proofs.Written.{signature, declares, f, g, t, i64s, world, ends, of_i64, line, jumps, returns, block, function}
 
 -- An indirect tail call out of the callee.
 abbrev indirect_tail_callee : Function
 indirect_tail_callee =
-    record {
-      name = t;
-      sig = signature (I64 ∷ I64 ∷ []) (I64 ∷ []) Tail;
-      slots = [];
-      sigs = signature (I64 ∷ []) (I64 ∷ []) Tail ∷ [];
-      callees = [];
-      types = (0, I64) ∷ (1, I64) ∷ [];
-      blocks =
-          record {
-            number = 0;
-            params = 0 ∷ 1 ∷ [];
-            lines =
-                record { inst = ReturnCall (Indirect 0 0) (1 ∷ []); ty = None; results = []; tags = [] } ∷
-                [];
-          } ∷
-          [];
-    }
+    function t (signature (I64 ∷ I64 ∷ []) (I64 ∷ []) Tail) [] (of_i64 Tail ∷ []) [] (I64 ∷ I64 ∷ []) (
+    block 0 (0 ∷ 1 ∷ []) (line None [] (ReturnCall (Indirect 0 0) (1 ∷ [])) ∷ []) ∷ [])
 
 abbrev indirect_tail_caller : Function
 indirect_tail_caller =
-    record {
-      name = f;
-      sig = signature (I64 ∷ I64 ∷ []) (I64 ∷ []) Fast;
-      slots = [];
-      sigs = signature (I64 ∷ I64 ∷ []) (I64 ∷ []) Tail ∷ [];
-      callees = declares t 0 ∷ [];
-      types = (0, I64) ∷ (1, I64) ∷ (2, I64) ∷ [];
-      blocks =
-          record {
-            number = 0;
-            params = 0 ∷ 1 ∷ [];
-            lines =
-                record { inst = Call (Direct 0) (0 ∷ 1 ∷ []); ty = None; results = 2 ∷ []; tags = [] } ∷
-                record { inst = Return (2 ∷ []); ty = None; results = []; tags = [] } ∷
-                [];
-          } ∷
-          [];
-    }
+    function f (signature (I64 ∷ I64 ∷ []) (I64 ∷ []) Fast) [] (signature (I64 ∷ I64 ∷ []) (I64 ∷ []) Tail ∷ []) (declares t 0 ∷ []) (I64 ∷ I64 ∷ I64 ∷ []) (
+    block 0 (0 ∷ 1 ∷ []) (line None (2 ∷ []) (Call (Direct 0) (0 ∷ 1 ∷ [])) ∷ returns (2 ∷ []) ∷ []) ∷ [])
 
 abbrev indirect_tail_result : Function
 indirect_tail_result =
-    record {
-      name = f;
-      sig = signature (I64 ∷ I64 ∷ []) (I64 ∷ []) Fast;
-      slots = [];
-      sigs = signature (I64 ∷ I64 ∷ []) (I64 ∷ []) Tail ∷ signature (I64 ∷ []) (I64 ∷ []) Tail ∷ [];
-      callees = declares t 0 ∷ [];
-      types = (0, I64) ∷ (1, I64) ∷ (2, I64) ∷ (3, I64) ∷ (4, I64) ∷ (5, I64) ∷ [];
-      blocks =
-          record {
-            number = 0;
-            params = 0 ∷ 1 ∷ [];
-            lines =
-                record { inst = Branches (Jump (record { block = 1; args = Value 0 ∷ Value 1 ∷ [] })); ty = None; results = []; tags = [] } ∷
-                [];
-          } ∷
-          record {
-            number = 1;
-            params = 2 ∷ 3 ∷ [];
-            lines =
-                record { inst = Call (Indirect 1 2) (3 ∷ []); ty = None; results = 4 ∷ []; tags = [] } ∷
-                record { inst = Branches (Jump (record { block = 2; args = Value 4 ∷ [] })); ty = None; results = []; tags = [] } ∷
-                [];
-          } ∷
-          record {
-            number = 2;
-            params = 5 ∷ [];
-            lines =
-                record { inst = Return (5 ∷ []); ty = None; results = []; tags = [] } ∷
-                [];
-          } ∷
-          [];
-    }
+    function f (signature (I64 ∷ I64 ∷ []) (I64 ∷ []) Fast) [] (signature (I64 ∷ I64 ∷ []) (I64 ∷ []) Tail ∷ of_i64 Tail ∷ []) (declares t 0 ∷ []) (I64 ∷ I64 ∷ I64 ∷ I64 ∷ I64 ∷ I64 ∷ []) (
+    block 0 (0 ∷ 1 ∷ []) (jumps 1 (Value 0 ∷ Value 1 ∷ []) ∷ []) ∷
+    block 1 (2 ∷ 3 ∷ []) (line None (4 ∷ []) (Call (Indirect 1 2) (3 ∷ [])) ∷ jumps 2 (Value 4 ∷ []) ∷ []) ∷
+    block 2 (5 ∷ []) (returns (5 ∷ []) ∷ []) ∷ [])
 
 indirect_tail_text : canonical (splice_with sides indirect_tail_caller 0 0 indirect_tail_callee) ≡ indirect_tail_result
 unfolding iadd isub sdiv sdiv_trap srem divides_by_zero ishl clz band iconcat low_half high_half operation meaning row signed wrapped fits fits_signed quotient remainder sum_below with_bits zeros_from_top floored number_of bytes_of memory_read memory_write address_at written same_sig names
@@ -106,24 +47,8 @@ indirect_tail_text = refl
 -- The function whose address is called: the names in order are %f, %g, %t.
 abbrev indirect_tail_target : Function
 indirect_tail_target =
-    record {
-      name = g;
-      sig = signature (I64 ∷ []) (I64 ∷ []) Tail;
-      slots = [];
-      sigs = [];
-      callees = [];
-      types = (0, I64) ∷ (1, I64) ∷ [];
-      blocks =
-          record {
-            number = 0;
-            params = 0 ∷ [];
-            lines =
-                record { inst = Plain (PureImm Iadd 0 (record { width = W64; value = 1 })); ty = Some I64; results = 1 ∷ []; tags = [] } ∷
-                record { inst = Return (1 ∷ []); ty = None; results = []; tags = [] } ∷
-                [];
-          } ∷
-          [];
-    }
+    function g (of_i64 Tail) [] [] [] (I64 ∷ I64 ∷ []) (
+    block 0 (0 ∷ []) (line (Some I64) (1 ∷ []) (Plain (PureImm Iadd 0 (value_of W64 1))) ∷ returns (1 ∷ []) ∷ []) ∷ [])
 
 abbrev indirect_tail_before : Module
 indirect_tail_before = indirect_tail_callee ∷ indirect_tail_target ∷ indirect_tail_caller ∷ []

@@ -5,103 +5,31 @@ use Rattle.ir_core.specs.Signatures.{same_sig}
 use Rattle.ir_core.specs.declared.signatures.Ty.TheVariants.{I64}
 use Rattle.ir_core.specs.declared.signatures.Conv.TheVariants.{Fast}
 use Rattle.ir_core.specs.declared.instructions.Arg.TheVariants.{Value, Ret}
-use Rattle.ir_core.specs.Module.{Jump, Direct, TryIndirect, call_target, Branches, Return, Call, TryCall, Function}
+use Rattle.ir_core.specs.Module.{TryIndirect, call_target, TryCall, Function}
 use Rattle.ir_core.specs.Lookup.{signature_of}
 use Rattle.ir_core.specs.Uses.{sigs_used}
 use Rattle.ir_semantics.specs.Splice.{sides, splice_with}
 use Rattle.ir_semantics.specs.Canon.{canonical}
-use Rattle.ir_semantics.proofs.Written.{signature, declares, f, g}
+use Rattle.ir_examples.proofs.Written.{signature, declares, f, g, of_i64, line, to, jumps, returns, block, function, forwards}
 
 -- It calls the address that it is given, by its one signature.
 abbrev trying_callee : Function
 trying_callee =
-    record {
-      name = g;
-      sig = signature (I64 ∷ []) (I64 ∷ []) Fast;
-      slots = [];
-      sigs = signature (I64 ∷ I64 ∷ []) (I64 ∷ []) Fast ∷ [];
-      callees = [];
-      types = (0, I64) ∷ (1, I64) ∷ [];
-      blocks =
-          record {
-            number = 0;
-            params = 0 ∷ [];
-            lines =
-                record { inst = TryCall (TryIndirect 0) 0 (0 ∷ 0 ∷ []) (record { block = 1; args = Ret 0 ∷ [] }) []; ty = None; results = []; tags = [] } ∷
-                [];
-          } ∷
-          record {
-            number = 1;
-            params = 1 ∷ [];
-            lines =
-                record { inst = Return (1 ∷ []); ty = None; results = []; tags = [] } ∷
-                [];
-          } ∷
-          [];
-    }
+    function g (of_i64 Fast) [] (signature (I64 ∷ I64 ∷ []) (I64 ∷ []) Fast ∷ []) [] (I64 ∷ I64 ∷ []) (
+    block 0 (0 ∷ []) (line None [] (TryCall (TryIndirect 0) 0 (0 ∷ 0 ∷ []) (to 1 (Ret 0 ∷ [])) []) ∷ []) ∷
+    block 1 (1 ∷ []) (returns (1 ∷ []) ∷ []) ∷ [])
 
 abbrev trying_caller : Function
-trying_caller =
-    record {
-      name = f;
-      sig = signature (I64 ∷ []) (I64 ∷ []) Fast;
-      slots = [];
-      sigs = signature (I64 ∷ []) (I64 ∷ []) Fast ∷ [];
-      callees = declares g 0 ∷ [];
-      types = (0, I64) ∷ (1, I64) ∷ [];
-      blocks =
-          record {
-            number = 0;
-            params = 0 ∷ [];
-            lines =
-                record { inst = Call (Direct 0) (0 ∷ []); ty = None; results = 1 ∷ []; tags = [] } ∷
-                record { inst = Return (1 ∷ []); ty = None; results = []; tags = [] } ∷
-                [];
-          } ∷
-          [];
-    }
+trying_caller = forwards f g
 
 -- The callee's first signature is the caller's second.
 abbrev trying_result : Function
 trying_result =
-    record {
-      name = f;
-      sig = signature (I64 ∷ []) (I64 ∷ []) Fast;
-      slots = [];
-      sigs = signature (I64 ∷ []) (I64 ∷ []) Fast ∷ signature (I64 ∷ I64 ∷ []) (I64 ∷ []) Fast ∷ [];
-      callees = declares g 0 ∷ [];
-      types = (0, I64) ∷ (1, I64) ∷ (2, I64) ∷ (3, I64) ∷ [];
-      blocks =
-          record {
-            number = 0;
-            params = 0 ∷ [];
-            lines =
-                record { inst = Branches (Jump (record { block = 1; args = Value 0 ∷ [] })); ty = None; results = []; tags = [] } ∷
-                [];
-          } ∷
-          record {
-            number = 1;
-            params = 1 ∷ [];
-            lines =
-                record { inst = TryCall (TryIndirect 1) 1 (1 ∷ 1 ∷ []) (record { block = 2; args = Ret 0 ∷ [] }) []; ty = None; results = []; tags = [] } ∷
-                [];
-          } ∷
-          record {
-            number = 2;
-            params = 2 ∷ [];
-            lines =
-                record { inst = Branches (Jump (record { block = 3; args = Value 2 ∷ [] })); ty = None; results = []; tags = [] } ∷
-                [];
-          } ∷
-          record {
-            number = 3;
-            params = 3 ∷ [];
-            lines =
-                record { inst = Return (3 ∷ []); ty = None; results = []; tags = [] } ∷
-                [];
-          } ∷
-          [];
-    }
+    function f (of_i64 Fast) [] (of_i64 Fast ∷ signature (I64 ∷ I64 ∷ []) (I64 ∷ []) Fast ∷ []) (declares g 0 ∷ []) (I64 ∷ I64 ∷ I64 ∷ I64 ∷ []) (
+    block 0 (0 ∷ []) (jumps 1 (Value 0 ∷ []) ∷ []) ∷
+    block 1 (1 ∷ []) (line None [] (TryCall (TryIndirect 1) 1 (1 ∷ 1 ∷ []) (to 2 (Ret 0 ∷ [])) []) ∷ []) ∷
+    block 2 (2 ∷ []) (jumps 3 (Value 2 ∷ []) ∷ []) ∷
+    block 3 (3 ∷ []) (returns (3 ∷ []) ∷ []) ∷ [])
 
 trying_text : canonical (splice_with sides trying_caller 0 0 trying_callee) ≡ trying_result
 unfolding same_sig
@@ -111,5 +39,5 @@ trying_text = refl
 trying_signature : signature_of trying_result (call_target (TryIndirect 1) 1) ≡ Some (signature (I64 ∷ I64 ∷ []) (I64 ∷ []) Fast)
 trying_signature = refl
 
-trying_uses : sigs_used (TryCall (TryIndirect 1) 1 (1 ∷ 1 ∷ []) (record { block = 2; args = Ret 0 ∷ [] }) []) ≡ 1 ∷ []
+trying_uses : sigs_used (TryCall (TryIndirect 1) 1 (1 ∷ 1 ∷ []) (to 2 (Ret 0 ∷ [])) []) ≡ 1 ∷ []
 trying_uses = refl

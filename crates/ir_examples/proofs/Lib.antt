@@ -13,3 +13,4 @@ pub mod Tails
 pub mod Throws
 pub mod FirstFaults
 pub mod FinishedBodies
+pub mod Written

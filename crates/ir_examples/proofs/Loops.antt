@@ -2,7 +2,7 @@
 use Rattle.std.specs.Prelude.{pos, [], ◌∷◌, Some, None}
 use Rattle.std.specs.Prelude.{◌≡◌}
 use Rattle.std.proofs.Common.{refl}
-use Rattle.clk_num.specs.Operations.{iadd, isub, sdiv, sdiv_trap, srem, divides_by_zero, ishl, clz, band, iconcat, low_half, high_half, operation, meaning}
+use Rattle.clk_num.specs.Operations.{iadd, isub, sdiv, sdiv_trap, srem, divides_by_zero, ishl, clz, band, iconcat, low_half, high_half, operation, meaning, value_of}
 use Rattle.clk_num.specs.Numbers.{signed, wrapped, fits, fits_signed, quotient, remainder, sum_below, with_bits, zeros_from_top, floored}
 use Rattle.clk_num.specs.Rows.{row}
 use Rattle.ir_semantics.specs.Values.{number_of, bytes_of, memory_read, memory_write, address_at}
@@ -14,134 +14,40 @@ use Rattle.clk_num.specs.declared.op.Op.TheVariants.{Iadd}
 use Rattle.ir_core.specs.declared.signatures.Ty.TheVariants.{I32, I64}
 use Rattle.ir_core.specs.declared.signatures.Conv.TheVariants.{Fast}
 use Rattle.ir_core.specs.declared.instructions.Arg.TheVariants.{Value}
-use Rattle.ir_core.specs.Module.{Const, PureImm, StackLoad, StackStore, Jump, Brif, Direct, Plain, Branches, Return, Call, Function, Module}
+use Rattle.ir_core.specs.Module.{Const, PureImm, StackLoad, StackStore, Brif, Direct, Plain, Branches, Call, Function, Module}
 use Rattle.ir_semantics.specs.Machine.{Going, Returned, Unwritten}
 use Rattle.ir_semantics.specs.Runs.{outcome}
 use Rattle.ir_semantics.specs.Splice.{sides, splice_with, replace}
 use Rattle.ir_semantics.specs.Canon.{canonical}
-use Rattle.ir_semantics.proofs.Written.{signature, slot, declares, f, g, i64s, world, ends}
+use Rattle.ir_examples.proofs.Written.{signature, slot, declares, f, g, i64s, world, ends, of_i64, line, to, jumps, returns, block, function}
 
 -- A loop and two returns.
 abbrev loop_callee : Function
 loop_callee =
-    record {
-      name = g;
-      sig = signature (I32 ∷ []) (I32 ∷ []) Fast;
-      slots = [];
-      sigs = [];
-      callees = [];
-      types = (0, I32) ∷ (1, I32) ∷ (2, I32) ∷ (3, I32) ∷ (4, I32) ∷ [];
-      blocks =
-          record {
-            number = 0;
-            params = 0 ∷ [];
-            lines =
-                record { inst = Branches (Brif 0 (record { block = 1; args = Value 0 ∷ [] }) (record { block = 2; args = [] })); ty = Some I32; results = []; tags = [] } ∷
-                [];
-          } ∷
-          record {
-            number = 1;
-            params = 1 ∷ [];
-            lines =
-                record { inst = Plain (PureImm Iadd 1 (record { width = W32; value = 4294967295 })); ty = Some I32; results = 2 ∷ []; tags = [] } ∷
-                record { inst = Branches (Brif 2 (record { block = 1; args = Value 2 ∷ [] }) (record { block = 3; args = Value 2 ∷ [] })); ty = Some I32; results = []; tags = [] } ∷
-                [];
-          } ∷
-          record {
-            number = 2;
-            params = [];
-            lines =
-                record { inst = Plain (Const (record { width = W32; value = 7 })); ty = None; results = 3 ∷ []; tags = [] } ∷
-                record { inst = Return (3 ∷ []); ty = None; results = []; tags = [] } ∷
-                [];
-          } ∷
-          record {
-            number = 3;
-            params = 4 ∷ [];
-            lines =
-                record { inst = Return (4 ∷ []); ty = None; results = []; tags = [] } ∷
-                [];
-          } ∷
-          [];
-    }
+    function g (signature (I32 ∷ []) (I32 ∷ []) Fast) [] [] [] (I32 ∷ I32 ∷ I32 ∷ I32 ∷ I32 ∷ []) (
+    block 0 (0 ∷ []) (line (Some I32) [] (Branches (Brif 0 (to 1 (Value 0 ∷ [])) (to 2 []))) ∷ []) ∷
+    block 1 (1 ∷ []) (
+    line (Some I32) (2 ∷ []) (Plain (PureImm Iadd 1 (value_of W32 4294967295))) ∷
+    line (Some I32) [] (Branches (Brif 2 (to 1 (Value 2 ∷ [])) (to 3 (Value 2 ∷ [])))) ∷ []) ∷
+    block 2 [] (line None (3 ∷ []) (Plain (Const (value_of W32 7))) ∷ returns (3 ∷ []) ∷ []) ∷
+    block 3 (4 ∷ []) (returns (4 ∷ []) ∷ []) ∷ [])
 
 abbrev loop_caller : Function
 loop_caller =
-    record {
-      name = f;
-      sig = signature (I32 ∷ []) (I32 ∷ []) Fast;
-      slots = [];
-      sigs = signature (I32 ∷ []) (I32 ∷ []) Fast ∷ [];
-      callees = declares g 0 ∷ [];
-      types = (0, I32) ∷ (1, I32) ∷ [];
-      blocks =
-          record {
-            number = 0;
-            params = 0 ∷ [];
-            lines =
-                record { inst = Call (Direct 0) (0 ∷ []); ty = None; results = 1 ∷ []; tags = [] } ∷
-                record { inst = Return (1 ∷ []); ty = None; results = []; tags = [] } ∷
-                [];
-          } ∷
-          [];
-    }
+    function f (signature (I32 ∷ []) (I32 ∷ []) Fast) [] (signature (I32 ∷ []) (I32 ∷ []) Fast ∷ []) (declares g 0 ∷ []) (I32 ∷ I32 ∷ []) (
+    block 0 (0 ∷ []) (line None (1 ∷ []) (Call (Direct 0) (0 ∷ [])) ∷ returns (1 ∷ []) ∷ []) ∷ [])
 
 abbrev loop_result : Function
 loop_result =
-    record {
-      name = f;
-      sig = signature (I32 ∷ []) (I32 ∷ []) Fast;
-      slots = [];
-      sigs = signature (I32 ∷ []) (I32 ∷ []) Fast ∷ [];
-      callees = declares g 0 ∷ [];
-      types = (0, I32) ∷ (1, I32) ∷ (2, I32) ∷ (3, I32) ∷ (4, I32) ∷ (5, I32) ∷ (6, I32) ∷ [];
-      blocks =
-          record {
-            number = 0;
-            params = 0 ∷ [];
-            lines =
-                record { inst = Branches (Jump (record { block = 1; args = Value 0 ∷ [] })); ty = None; results = []; tags = [] } ∷
-                [];
-          } ∷
-          record {
-            number = 1;
-            params = 1 ∷ [];
-            lines =
-                record { inst = Branches (Brif 1 (record { block = 2; args = Value 1 ∷ [] }) (record { block = 3; args = [] })); ty = Some I32; results = []; tags = [] } ∷
-                [];
-          } ∷
-          record {
-            number = 2;
-            params = 2 ∷ [];
-            lines =
-                record { inst = Plain (PureImm Iadd 2 (record { width = W32; value = 4294967295 })); ty = Some I32; results = 3 ∷ []; tags = [] } ∷
-                record { inst = Branches (Brif 3 (record { block = 2; args = Value 3 ∷ [] }) (record { block = 4; args = Value 3 ∷ [] })); ty = Some I32; results = []; tags = [] } ∷
-                [];
-          } ∷
-          record {
-            number = 3;
-            params = [];
-            lines =
-                record { inst = Plain (Const (record { width = W32; value = 7 })); ty = None; results = 4 ∷ []; tags = [] } ∷
-                record { inst = Branches (Jump (record { block = 5; args = Value 4 ∷ [] })); ty = None; results = []; tags = [] } ∷
-                [];
-          } ∷
-          record {
-            number = 4;
-            params = 5 ∷ [];
-            lines =
-                record { inst = Branches (Jump (record { block = 5; args = Value 5 ∷ [] })); ty = None; results = []; tags = [] } ∷
-                [];
-          } ∷
-          record {
-            number = 5;
-            params = 6 ∷ [];
-            lines =
-                record { inst = Return (6 ∷ []); ty = None; results = []; tags = [] } ∷
-                [];
-          } ∷
-          [];
-    }
+    function f (signature (I32 ∷ []) (I32 ∷ []) Fast) [] (signature (I32 ∷ []) (I32 ∷ []) Fast ∷ []) (declares g 0 ∷ []) (I32 ∷ I32 ∷ I32 ∷ I32 ∷ I32 ∷ I32 ∷ I32 ∷ []) (
+    block 0 (0 ∷ []) (jumps 1 (Value 0 ∷ []) ∷ []) ∷
+    block 1 (1 ∷ []) (line (Some I32) [] (Branches (Brif 1 (to 2 (Value 1 ∷ [])) (to 3 []))) ∷ []) ∷
+    block 2 (2 ∷ []) (
+    line (Some I32) (3 ∷ []) (Plain (PureImm Iadd 2 (value_of W32 4294967295))) ∷
+    line (Some I32) [] (Branches (Brif 3 (to 2 (Value 3 ∷ [])) (to 4 (Value 3 ∷ [])))) ∷ []) ∷
+    block 3 [] (line None (4 ∷ []) (Plain (Const (value_of W32 7))) ∷ jumps 5 (Value 4 ∷ []) ∷ []) ∷
+    block 4 (5 ∷ []) (jumps 5 (Value 5 ∷ []) ∷ []) ∷
+    block 5 (6 ∷ []) (returns (6 ∷ []) ∷ []) ∷ [])
 
 loop_text : canonical (splice_with sides loop_caller 0 0 loop_callee) ≡ loop_result
 unfolding iadd isub sdiv sdiv_trap srem divides_by_zero ishl clz band iconcat low_half high_half operation meaning row signed wrapped fits fits_signed quotient remainder sum_below with_bits zeros_from_top floored number_of bytes_of memory_read memory_write address_at written same_sig names
@@ -154,119 +60,64 @@ abbrev loop_after : Module
 loop_after = replace (splice_with sides loop_caller 0 0 loop_callee) loop_before
 
 -- with 0 the loop is not entered, with 2 it is gone through twice; as many steps before as after
-loop_before_0_5 : outcome loop_before f (record { width = W32; value = 0 } ∷ []) (world [] []) 5 ≡ ends [] [] (Returned (record { width = W32; value = 7 } ∷ []))
+loop_before_0_5 : outcome loop_before f (value_of W32 0 ∷ []) (world [] []) 5 ≡ ends [] [] (Returned (value_of W32 7 ∷ []))
 unfolding iadd isub sdiv sdiv_trap srem divides_by_zero ishl clz band iconcat low_half high_half operation meaning row signed wrapped fits fits_signed quotient remainder sum_below with_bits zeros_from_top floored number_of bytes_of memory_read memory_write address_at written same_sig names
 loop_before_0_5 = refl
 
-loop_before_0_4 : outcome loop_before f (record { width = W32; value = 0 } ∷ []) (world [] []) 4 ≡ ends [] [] (Going)
+loop_before_0_4 : outcome loop_before f (value_of W32 0 ∷ []) (world [] []) 4 ≡ ends [] [] (Going)
 unfolding iadd isub sdiv sdiv_trap srem divides_by_zero ishl clz band iconcat low_half high_half operation meaning row signed wrapped fits fits_signed quotient remainder sum_below with_bits zeros_from_top floored number_of bytes_of memory_read memory_write address_at written same_sig names
 loop_before_0_4 = refl
 
-loop_after_0_5 : outcome loop_after f (record { width = W32; value = 0 } ∷ []) (world [] []) 5 ≡ ends [] [] (Returned (record { width = W32; value = 7 } ∷ []))
+loop_after_0_5 : outcome loop_after f (value_of W32 0 ∷ []) (world [] []) 5 ≡ ends [] [] (Returned (value_of W32 7 ∷ []))
 unfolding iadd isub sdiv sdiv_trap srem divides_by_zero ishl clz band iconcat low_half high_half operation meaning row signed wrapped fits fits_signed quotient remainder sum_below with_bits zeros_from_top floored number_of bytes_of memory_read memory_write address_at written same_sig names
 loop_after_0_5 = refl
 
-loop_after_0_4 : outcome loop_after f (record { width = W32; value = 0 } ∷ []) (world [] []) 4 ≡ ends [] [] (Going)
+loop_after_0_4 : outcome loop_after f (value_of W32 0 ∷ []) (world [] []) 4 ≡ ends [] [] (Going)
 unfolding iadd isub sdiv sdiv_trap srem divides_by_zero ishl clz band iconcat low_half high_half operation meaning row signed wrapped fits fits_signed quotient remainder sum_below with_bits zeros_from_top floored number_of bytes_of memory_read memory_write address_at written same_sig names
 loop_after_0_4 = refl
 
-loop_before_2_8 : outcome loop_before f (record { width = W32; value = 2 } ∷ []) (world [] []) 8 ≡ ends [] [] (Returned (record { width = W32; value = 0 } ∷ []))
+loop_before_2_8 : outcome loop_before f (value_of W32 2 ∷ []) (world [] []) 8 ≡ ends [] [] (Returned (value_of W32 0 ∷ []))
 unfolding iadd isub sdiv sdiv_trap srem divides_by_zero ishl clz band iconcat low_half high_half operation meaning row signed wrapped fits fits_signed quotient remainder sum_below with_bits zeros_from_top floored number_of bytes_of memory_read memory_write address_at written same_sig names
 loop_before_2_8 = refl
 
-loop_before_2_7 : outcome loop_before f (record { width = W32; value = 2 } ∷ []) (world [] []) 7 ≡ ends [] [] (Going)
+loop_before_2_7 : outcome loop_before f (value_of W32 2 ∷ []) (world [] []) 7 ≡ ends [] [] (Going)
 unfolding iadd isub sdiv sdiv_trap srem divides_by_zero ishl clz band iconcat low_half high_half operation meaning row signed wrapped fits fits_signed quotient remainder sum_below with_bits zeros_from_top floored number_of bytes_of memory_read memory_write address_at written same_sig names
 loop_before_2_7 = refl
 
-loop_after_2_8 : outcome loop_after f (record { width = W32; value = 2 } ∷ []) (world [] []) 8 ≡ ends [] [] (Returned (record { width = W32; value = 0 } ∷ []))
+loop_after_2_8 : outcome loop_after f (value_of W32 2 ∷ []) (world [] []) 8 ≡ ends [] [] (Returned (value_of W32 0 ∷ []))
 unfolding iadd isub sdiv sdiv_trap srem divides_by_zero ishl clz band iconcat low_half high_half operation meaning row signed wrapped fits fits_signed quotient remainder sum_below with_bits zeros_from_top floored number_of bytes_of memory_read memory_write address_at written same_sig names
 loop_after_2_8 = refl
 
-loop_after_2_7 : outcome loop_after f (record { width = W32; value = 2 } ∷ []) (world [] []) 7 ≡ ends [] [] (Going)
+loop_after_2_7 : outcome loop_after f (value_of W32 2 ∷ []) (world [] []) 7 ≡ ends [] [] (Going)
 unfolding iadd isub sdiv sdiv_trap srem divides_by_zero ishl clz band iconcat low_half high_half operation meaning row signed wrapped fits fits_signed quotient remainder sum_below with_bits zeros_from_top floored number_of bytes_of memory_read memory_write address_at written same_sig names
 loop_after_2_7 = refl
 
 -- A slot in a loop.
 abbrev slots_callee : Function
 slots_callee =
-    record {
-      name = g;
-      sig = signature (I64 ∷ []) (I64 ∷ []) Fast;
-      slots = slot 8 ∷ [];
-      sigs = [];
-      callees = [];
-      types = (0, I64) ∷ (1, I64) ∷ [];
-      blocks =
-          record {
-            number = 0;
-            params = 0 ∷ [];
-            lines =
-                record { inst = Plain (StackStore 0 0 (pos 0)); ty = Some I64; results = []; tags = [] } ∷
-                record { inst = Plain (StackLoad I64 0 (pos 0)); ty = None; results = 1 ∷ []; tags = [] } ∷
-                record { inst = Return (1 ∷ []); ty = None; results = []; tags = [] } ∷
-                [];
-          } ∷
-          [];
-    }
+    function g (of_i64 Fast) (slot 8 ∷ []) [] [] (I64 ∷ I64 ∷ []) (
+    block 0 (0 ∷ []) (
+    line (Some I64) [] (Plain (StackStore 0 0 (pos 0))) ∷
+    line None (1 ∷ []) (Plain (StackLoad I64 0 (pos 0))) ∷
+    returns (1 ∷ []) ∷ []) ∷ [])
 
 abbrev slots_exchanged : Function
 slots_exchanged =
-    record {
-      name = g;
-      sig = signature (I64 ∷ []) (I64 ∷ []) Fast;
-      slots = slot 8 ∷ [];
-      sigs = [];
-      callees = [];
-      types = (0, I64) ∷ (1, I64) ∷ [];
-      blocks =
-          record {
-            number = 0;
-            params = 0 ∷ [];
-            lines =
-                record { inst = Plain (StackLoad I64 0 (pos 0)); ty = None; results = 1 ∷ []; tags = [] } ∷
-                record { inst = Plain (StackStore 0 0 (pos 0)); ty = Some I64; results = []; tags = [] } ∷
-                record { inst = Return (1 ∷ []); ty = None; results = []; tags = [] } ∷
-                [];
-          } ∷
-          [];
-    }
+    function g (of_i64 Fast) (slot 8 ∷ []) [] [] (I64 ∷ I64 ∷ []) (
+    block 0 (0 ∷ []) (
+    line None (1 ∷ []) (Plain (StackLoad I64 0 (pos 0))) ∷
+    line (Some I64) [] (Plain (StackStore 0 0 (pos 0))) ∷
+    returns (1 ∷ []) ∷ []) ∷ [])
 
 abbrev slots_caller : Function
 slots_caller =
-    record {
-      name = f;
-      sig = signature [] (I64 ∷ []) Fast;
-      slots = [];
-      sigs = signature (I64 ∷ []) (I64 ∷ []) Fast ∷ [];
-      callees = declares g 0 ∷ [];
-      types = (0, I64) ∷ (1, I64) ∷ (2, I64) ∷ (3, I64) ∷ (4, I64) ∷ [];
-      blocks =
-          record {
-            number = 0;
-            params = [];
-            lines =
-                record { inst = Plain (Const (record { width = W64; value = 2 })); ty = None; results = 0 ∷ []; tags = [] } ∷
-                record { inst = Branches (Jump (record { block = 1; args = Value 0 ∷ [] })); ty = None; results = []; tags = [] } ∷
-                [];
-          } ∷
-          record {
-            number = 1;
-            params = 1 ∷ [];
-            lines =
-                record { inst = Call (Direct 0) (1 ∷ []); ty = None; results = 2 ∷ []; tags = [] } ∷
-                record { inst = Plain (PureImm Iadd 2 (record { width = W64; value = 18446744073709551615 })); ty = Some I64; results = 3 ∷ []; tags = [] } ∷
-                record { inst = Branches (Brif 3 (record { block = 1; args = Value 3 ∷ [] }) (record { block = 2; args = Value 2 ∷ [] })); ty = Some I64; results = []; tags = [] } ∷
-                [];
-          } ∷
-          record {
-            number = 2;
-            params = 4 ∷ [];
-            lines =
-                record { inst = Return (4 ∷ []); ty = None; results = []; tags = [] } ∷
-                [];
-          } ∷
-          [];
-    }
+    function f (signature [] (I64 ∷ []) Fast) [] (of_i64 Fast ∷ []) (declares g 0 ∷ []) (I64 ∷ I64 ∷ I64 ∷ I64 ∷ I64 ∷ []) (
+    block 0 [] (line None (0 ∷ []) (Plain (Const (value_of W64 2))) ∷ jumps 1 (Value 0 ∷ []) ∷ []) ∷
+    block 1 (1 ∷ []) (
+    line None (2 ∷ []) (Call (Direct 0) (1 ∷ [])) ∷
+    line (Some I64) (3 ∷ []) (Plain (PureImm Iadd 2 (value_of W64 18446744073709551615))) ∷
+    line (Some I64) [] (Branches (Brif 3 (to 1 (Value 3 ∷ [])) (to 2 (Value 2 ∷ [])))) ∷ []) ∷
+    block 2 (4 ∷ []) (returns (4 ∷ []) ∷ []) ∷ [])
 
 abbrev slots_before : Module
 slots_before = slots_callee ∷ slots_caller ∷ []

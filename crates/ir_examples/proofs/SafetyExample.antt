@@ -1,18 +1,16 @@
 -- A module that is whole and accepted, with a call that can be replaced: %f calls %g, and %g adds its argument to itself. So
 -- the laws of accepted modules speak of something.
-use Rattle.std.proofs.Common.{◌≡◌, ◌⊎◌, ℕ, zero, suc, inl, inr, List, [], ◌∷◌, ◌++◌, Option, Some, None, Bool, true, false, nat_eq, refl, sym, ap, ◌∙◌, subst, arith}
+use Rattle.std.proofs.Common.{◌≡◌, ◌⊎◌, ℕ, zero, suc, inl, inr, List, [], ◌∷◌, ◌++◌, Some, None, Bool, true, false, nat_eq, refl, sym, ap, ◌∙◌, subst, arith}
 use Rattle.std.specs.Prelude.{⊤, slice_get, if◌then◌else◌}
 use Rattle.clk_num.specs.declared.op.Op.TheVariants.{Iadd}
 use Rattle.clk_num.specs.Rows.{row}
 use Rattle.ir_core.specs.declared.names.FuncName.{FuncName}
-use Rattle.ir_core.specs.declared.signatures.Ty.{Ty}
 use Rattle.ir_core.specs.declared.signatures.Ty.TheVariants.{I64}
-use Rattle.ir_core.specs.declared.signatures.Sig.{Sig}
 use Rattle.ir_core.specs.declared.signatures.Conv.TheVariants.{Fast}
 use Rattle.ir_core.specs.declared.declarations.Callee.{Callee}
 use Rattle.ir_core.specs.declared.instructions.BlockCall.{BlockCall}
 use Rattle.ir_core.specs.declared.places.Item.TheVariants as item
-use Rattle.ir_core.specs.Module.{Pure, Direct, Plain, Return, Call, Instruction, Line, Block, Function, Module}
+use Rattle.ir_core.specs.Module.{Pure, Direct, Plain, Call, Line, Block, Function, Module}
 use Rattle.ir_core.specs.Lookup.{find_block}
 use Rattle.ir_core.specs.Lists.{In}
 use Rattle.ir_core.specs.Uses.{targets}
@@ -23,29 +21,29 @@ use Rattle.ir_core.specs.WellFormed.{WellFormed, IsModule}
 use Rattle.ir_semantics.specs.Accepted.{Rule, no_terminator, entry_target, count_mismatch, type_mismatch, convention, signature_mismatch, slot_range, tag_place, not_available, HoldsAtLine, HoldsAtBlock, HoldsAtCallee, RulesHold, Accepted}
 use Rattle.ir_semantics.specs.CallRules.{Declared}
 use Rattle.ir_semantics.proofs.SafetyTypes.{some_same, head_same}
-use Rattle.ir_semantics.proofs.Written.{signature, declares, f, g}
-
-abbrev line_of : Instruction → Option Ty → Line
-line_of inst ty = record { inst = inst; ty = ty; results = 1 ∷ []; tags = [] }
+use Rattle.ir_examples.proofs.Written.{declares, f, g, of_i64, line, returns, block, function}
 
 abbrev last_line : Line
-last_line = record { inst = Return (1 ∷ []); ty = None; results = []; tags = [] }
-
-abbrev block_of : Line → Block
-block_of l = record { number = 0; params = 0 ∷ []; lines = l ∷ last_line ∷ [] }
-
-abbrev of_i64 : Sig
-of_i64 = signature (I64 ∷ []) (I64 ∷ []) Fast
+last_line = returns (1 ∷ [])
 
 -- one block: v0 comes in, the line gives v1, and v1 is returned
+abbrev block_of : Line → Block
+block_of l = block 0 (0 ∷ []) (l ∷ last_line ∷ [])
+
 abbrev function_of : FuncName → List Callee → Line → Function
-function_of n callees l = record { name = n; sig = of_i64; slots = []; sigs = of_i64 ∷ []; callees = callees; types = (0, I64) ∷ (1, I64) ∷ []; blocks = block_of l ∷ [] }
+function_of name callees l = function name (of_i64 Fast) [] (of_i64 Fast ∷ []) callees (I64 ∷ I64 ∷ []) (block_of l ∷ [])
+
+abbrev call_line : Line
+call_line = line None (1 ∷ []) (Call (Direct 0) (0 ∷ []))
+
+abbrev add_line : Line
+add_line = line (Some I64) (1 ∷ []) (Plain (Pure Iadd (0 ∷ 0 ∷ [])))
 
 abbrev caller : Function
-caller = function_of f (declares g 0 ∷ []) (line_of (Call (Direct 0) (0 ∷ [])) None)
+caller = function_of f (declares g 0 ∷ []) call_line
 
 abbrev callee : Function
-callee = function_of g [] (line_of (Plain (Pure Iadd (0 ∷ 0 ∷ []))) (Some I64))
+callee = function_of g [] add_line
 
 abbrev both : Module
 both = caller ∷ callee ∷ []
@@ -140,7 +138,7 @@ module _ (m : Module) (n : FuncName) (callees : List Callee) (l : Line) (results
 
 -- ---- the two functions
 
-call_kept : (b : ℕ) (rule : Rule) → HoldsAtLine caller b (block_of (line_of (Call (Direct 0) (0 ∷ [])) None)) 0 (line_of (Call (Direct 0) (0 ∷ [])) None) rule
+call_kept : (b : ℕ) (rule : Rule) → HoldsAtLine caller b (block_of call_line) 0 call_line rule
 call_kept b no_terminator = tt
 call_kept b entry_target = tt
 call_kept b count_mismatch = (refl, refl)
@@ -149,9 +147,9 @@ call_kept b convention = tt
 call_kept b signature_mismatch = tt
 call_kept b slot_range = tt
 call_kept b tag_place = tt
-call_kept b not_available = ((λ defs r. passes both f (declares g 0 ∷ []) (line_of (Call (Direct 0) (0 ∷ [])) None) refl refl r), tt)
+call_kept b not_available = ((λ defs r. passes both f (declares g 0 ∷ []) call_line refl refl r), tt)
 
-add_kept : (b : ℕ) (rule : Rule) → HoldsAtLine callee b (block_of (line_of (Plain (Pure Iadd (0 ∷ 0 ∷ []))) (Some I64))) 0 (line_of (Plain (Pure Iadd (0 ∷ 0 ∷ []))) (Some I64)) rule
+add_kept : (b : ℕ) (rule : Rule) → HoldsAtLine callee b (block_of add_line) 0 add_line rule
 unfolding row
 add_kept b no_terminator = tt
 add_kept b entry_target = tt
@@ -161,15 +159,15 @@ add_kept b convention = tt
 add_kept b signature_mismatch = tt
 add_kept b slot_range = tt
 add_kept b tag_place = refl
-add_kept b not_available = ((λ defs r. passes both g [] (line_of (Plain (Pure Iadd (0 ∷ 0 ∷ []))) (Some I64)) refl refl r), ((λ defs r. passes both g [] (line_of (Plain (Pure Iadd (0 ∷ 0 ∷ []))) (Some I64)) refl refl r), tt))
+add_kept b not_available = ((λ defs r. passes both g [] add_line refl refl r), ((λ defs r. passes both g [] add_line refl refl r), tt))
 
 g_declared : (c : Callee) → In c (declares g 0 ∷ []) → Declared both caller c
 g_declared c (inl q) = subst (Declared both caller) (sym q) (λ h e. ap (λ (z : Function). Some z.sig) (some_same e))
 g_declared c (inr p) = elim p [ ]
 
 pub both_accepted : Accepted both
-both_accepted h (inl q) = subst (RulesHold both) (sym q) (all_kept both f (declares g 0 ∷ []) (line_of (Call (Direct 0) (0 ∷ [])) None) refl refl g_declared call_kept)
-both_accepted h (inr (inl q)) = subst (RulesHold both) (sym q) (all_kept both g [] (line_of (Plain (Pure Iadd (0 ∷ 0 ∷ []))) (Some I64)) refl refl (λ c p. elim p [ ]) add_kept)
+both_accepted h (inl q) = subst (RulesHold both) (sym q) (all_kept both f (declares g 0 ∷ []) call_line refl refl g_declared call_kept)
+both_accepted h (inr (inl q)) = subst (RulesHold both) (sym q) (all_kept both g [] add_line refl refl (λ c p. elim p [ ]) add_kept)
 both_accepted h (inr (inr p)) = elim p [ ]
 
 caller_whole : WellFormed caller
@@ -203,7 +201,7 @@ both_whole = record { names = (refl, (refl, tt)); whole = (caller_whole, (callee
 
 -- the call is a site
 abbrev call_of_both : Splicing
-call_of_both = record { naming = sides; caller = caller; callee = callee; at = 0; before = []; site = line_of (Call (Direct 0) (0 ∷ [])) None; behind = last_line ∷ [] }
+call_of_both = record { naming = sides; caller = caller; callee = callee; at = 0; before = []; site = call_line; behind = last_line ∷ [] }
 
 pub both_site : Site both call_of_both
-both_site = record { block = block_of (line_of (Call (Direct 0) (0 ∷ [])) None); block_found = refl; lines = refl; caller_found = refl; callee = 0; is_call = refl; declared = declares g 0; declared_found = refl; callee_found = refl }
+both_site = record { block = block_of call_line; block_found = refl; lines = refl; caller_found = refl; callee = 0; is_call = refl; declared = declares g 0; declared_found = refl; callee_found = refl }

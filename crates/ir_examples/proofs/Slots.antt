@@ -1,7 +1,7 @@
 -- A worked example: caller and callee both have slots, and each keeps the bytes of its own.
 use Rattle.std.specs.Prelude.{◌≡◌, pos, [], ◌∷◌, Some, None}
 use Rattle.std.proofs.Common.{refl}
-use Rattle.clk_num.specs.Operations.{iadd, operation, meaning}
+use Rattle.clk_num.specs.Operations.{iadd, operation, meaning, value_of}
 use Rattle.clk_num.specs.Numbers.{signed, wrapped, fits, fits_signed}
 use Rattle.clk_num.specs.Rows.{row}
 use Rattle.ir_semantics.specs.Values.{number_of, bytes_of, memory_read, memory_write, address_at}
@@ -13,102 +13,48 @@ use Rattle.clk_num.specs.declared.op.Op.TheVariants.{Iadd}
 use Rattle.ir_core.specs.declared.signatures.Ty.TheVariants.{I64}
 use Rattle.ir_core.specs.declared.signatures.Conv.TheVariants.{Fast}
 use Rattle.ir_core.specs.declared.instructions.Arg.TheVariants.{Value}
-use Rattle.ir_core.specs.Module.{Pure, PureImm, StackLoad, StackStore, Jump, Direct, Plain, Branches, Return, Call, Function, Module}
+use Rattle.ir_core.specs.Module.{Pure, PureImm, StackLoad, StackStore, Direct, Plain, Call, Function, Module}
 use Rattle.ir_semantics.specs.Machine.{Returned}
 use Rattle.ir_semantics.specs.Runs.{outcome}
 use Rattle.ir_semantics.specs.Splice.{sides, splice_with, replace}
 use Rattle.ir_semantics.specs.Canon.{canonical}
-use Rattle.ir_semantics.proofs.Written.{signature, slot, declares, f, g, i64s, world, ends}
+use Rattle.ir_examples.proofs.Written.{slot, declares, f, g, i64s, world, ends, of_i64, line, jumps, returns, block, function}
 
 -- It stores its argument and one in its slot, and gives what it reads there.
 abbrev storing_callee : Function
 storing_callee =
-    record {
-      name = g;
-      sig = signature (I64 ∷ []) (I64 ∷ []) Fast;
-      slots = slot 16 ∷ [];
-      sigs = [];
-      callees = [];
-      types = (0, I64) ∷ (1, I64) ∷ (2, I64) ∷ [];
-      blocks =
-          record {
-            number = 0;
-            params = 0 ∷ [];
-            lines =
-                record { inst = Plain (PureImm Iadd 0 (record { width = W64; value = 1 })); ty = Some I64; results = 1 ∷ []; tags = [] } ∷
-                record { inst = Plain (StackStore 1 0 (pos 8)); ty = Some I64; results = []; tags = [] } ∷
-                record { inst = Plain (StackLoad I64 0 (pos 8)); ty = None; results = 2 ∷ []; tags = [] } ∷
-                record { inst = Return (2 ∷ []); ty = None; results = []; tags = [] } ∷
-                [];
-          } ∷
-          [];
-    }
+    function g (of_i64 Fast) (slot 16 ∷ []) [] [] (I64 ∷ I64 ∷ I64 ∷ []) (
+    block 0 (0 ∷ []) (
+    line (Some I64) (1 ∷ []) (Plain (PureImm Iadd 0 (value_of W64 1))) ∷
+    line (Some I64) [] (Plain (StackStore 1 0 (pos 8))) ∷
+    line None (2 ∷ []) (Plain (StackLoad I64 0 (pos 8))) ∷
+    returns (2 ∷ []) ∷ []) ∷ [])
 
 -- It stores its argument in its slot, calls the other, and reads its slot again.
 abbrev storing_caller : Function
 storing_caller =
-    record {
-      name = f;
-      sig = signature (I64 ∷ []) (I64 ∷ []) Fast;
-      slots = slot 8 ∷ [];
-      sigs = signature (I64 ∷ []) (I64 ∷ []) Fast ∷ [];
-      callees = declares g 0 ∷ [];
-      types = (0, I64) ∷ (1, I64) ∷ (2, I64) ∷ (3, I64) ∷ [];
-      blocks =
-          record {
-            number = 0;
-            params = 0 ∷ [];
-            lines =
-                record { inst = Plain (StackStore 0 0 (pos 0)); ty = Some I64; results = []; tags = [] } ∷
-                record { inst = Call (Direct 0) (0 ∷ []); ty = None; results = 1 ∷ []; tags = [] } ∷
-                record { inst = Plain (StackLoad I64 0 (pos 0)); ty = None; results = 2 ∷ []; tags = [] } ∷
-                record { inst = Plain (Pure Iadd (1 ∷ 2 ∷ [])); ty = Some I64; results = 3 ∷ []; tags = [] } ∷
-                record { inst = Return (3 ∷ []); ty = None; results = []; tags = [] } ∷
-                [];
-          } ∷
-          [];
-    }
+    function f (of_i64 Fast) (slot 8 ∷ []) (of_i64 Fast ∷ []) (declares g 0 ∷ []) (I64 ∷ I64 ∷ I64 ∷ I64 ∷ []) (
+    block 0 (0 ∷ []) (
+    line (Some I64) [] (Plain (StackStore 0 0 (pos 0))) ∷
+    line None (1 ∷ []) (Call (Direct 0) (0 ∷ [])) ∷
+    line None (2 ∷ []) (Plain (StackLoad I64 0 (pos 0))) ∷
+    line (Some I64) (3 ∷ []) (Plain (Pure Iadd (1 ∷ 2 ∷ []))) ∷
+    returns (3 ∷ []) ∷ []) ∷ [])
 
 -- The callee's slot stands behind the caller's.
 abbrev storing_result : Function
 storing_result =
-    record {
-      name = f;
-      sig = signature (I64 ∷ []) (I64 ∷ []) Fast;
-      slots = slot 8 ∷ slot 16 ∷ [];
-      sigs = signature (I64 ∷ []) (I64 ∷ []) Fast ∷ [];
-      callees = declares g 0 ∷ [];
-      types = (0, I64) ∷ (1, I64) ∷ (2, I64) ∷ (3, I64) ∷ (4, I64) ∷ (5, I64) ∷ (6, I64) ∷ [];
-      blocks =
-          record {
-            number = 0;
-            params = 0 ∷ [];
-            lines =
-                record { inst = Plain (StackStore 0 0 (pos 0)); ty = Some I64; results = []; tags = [] } ∷
-                record { inst = Branches (Jump (record { block = 1; args = Value 0 ∷ [] })); ty = None; results = []; tags = [] } ∷
-                [];
-          } ∷
-          record {
-            number = 1;
-            params = 1 ∷ [];
-            lines =
-                record { inst = Plain (PureImm Iadd 1 (record { width = W64; value = 1 })); ty = Some I64; results = 2 ∷ []; tags = [] } ∷
-                record { inst = Plain (StackStore 2 1 (pos 8)); ty = Some I64; results = []; tags = [] } ∷
-                record { inst = Plain (StackLoad I64 1 (pos 8)); ty = None; results = 3 ∷ []; tags = [] } ∷
-                record { inst = Branches (Jump (record { block = 2; args = Value 3 ∷ [] })); ty = None; results = []; tags = [] } ∷
-                [];
-          } ∷
-          record {
-            number = 2;
-            params = 4 ∷ [];
-            lines =
-                record { inst = Plain (StackLoad I64 0 (pos 0)); ty = None; results = 5 ∷ []; tags = [] } ∷
-                record { inst = Plain (Pure Iadd (4 ∷ 5 ∷ [])); ty = Some I64; results = 6 ∷ []; tags = [] } ∷
-                record { inst = Return (6 ∷ []); ty = None; results = []; tags = [] } ∷
-                [];
-          } ∷
-          [];
-    }
+    function f (of_i64 Fast) (slot 8 ∷ slot 16 ∷ []) (of_i64 Fast ∷ []) (declares g 0 ∷ []) (I64 ∷ I64 ∷ I64 ∷ I64 ∷ I64 ∷ I64 ∷ I64 ∷ []) (
+    block 0 (0 ∷ []) (line (Some I64) [] (Plain (StackStore 0 0 (pos 0))) ∷ jumps 1 (Value 0 ∷ []) ∷ []) ∷
+    block 1 (1 ∷ []) (
+    line (Some I64) (2 ∷ []) (Plain (PureImm Iadd 1 (value_of W64 1))) ∷
+    line (Some I64) [] (Plain (StackStore 2 1 (pos 8))) ∷
+    line None (3 ∷ []) (Plain (StackLoad I64 1 (pos 8))) ∷
+    jumps 2 (Value 3 ∷ []) ∷ []) ∷
+    block 2 (4 ∷ []) (
+    line None (5 ∷ []) (Plain (StackLoad I64 0 (pos 0))) ∷
+    line (Some I64) (6 ∷ []) (Plain (Pure Iadd (4 ∷ 5 ∷ []))) ∷
+    returns (6 ∷ []) ∷ []) ∷ [])
 
 storing_text : canonical (splice_with sides storing_caller 0 1 storing_callee) ≡ storing_result
 unfolding iadd operation meaning row signed wrapped fits fits_signed number_of bytes_of memory_read memory_write address_at written same_sig names

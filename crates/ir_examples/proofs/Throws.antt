@@ -12,116 +12,34 @@ use Rattle.ir_semantics.specs.Names.{names}
 use Rattle.ir_core.specs.declared.signatures.Ty.TheVariants.{I64}
 use Rattle.ir_core.specs.declared.signatures.Conv.TheVariants.{Fast}
 use Rattle.ir_core.specs.declared.instructions.Arg.TheVariants.{Value, Ret, Exn}
-use Rattle.ir_core.specs.Module.{Jump, Direct, Branches, Return, Call, TryCall, Function, Module, TryDirect}
+use Rattle.ir_core.specs.Module.{TryCall, Function, Module, TryDirect}
 use Rattle.ir_semantics.specs.Machine.{Host, Caught, Throws, Returned, Threw}
 use Rattle.ir_semantics.specs.Runs.{outcome}
 use Rattle.ir_semantics.specs.Splice.{sides, splice_with, replace}
 use Rattle.ir_semantics.specs.Canon.{canonical}
-use Rattle.ir_semantics.proofs.Written.{signature, declares, f, g, h, i64s, world, ends}
+use Rattle.ir_examples.proofs.Written.{declares, f, g, h, i64s, world, ends, of_i64, line, to, caught, jumps, returns, block, function, forwards}
 
 -- A throw through a plain call of the callee.
 abbrev throw_callee : Function
-throw_callee =
-    record {
-      name = g;
-      sig = signature (I64 ∷ []) (I64 ∷ []) Fast;
-      slots = [];
-      sigs = signature (I64 ∷ []) (I64 ∷ []) Fast ∷ [];
-      callees = declares h 0 ∷ [];
-      types = (0, I64) ∷ (1, I64) ∷ [];
-      blocks =
-          record {
-            number = 0;
-            params = 0 ∷ [];
-            lines =
-                record { inst = Call (Direct 0) (0 ∷ []); ty = None; results = 1 ∷ []; tags = [] } ∷
-                record { inst = Return (1 ∷ []); ty = None; results = []; tags = [] } ∷
-                [];
-          } ∷
-          [];
-    }
+throw_callee = forwards g h
 
 abbrev throw_caller : Function
 throw_caller =
-    record {
-      name = f;
-      sig = signature (I64 ∷ []) (I64 ∷ []) Fast;
-      slots = [];
-      sigs = signature (I64 ∷ []) (I64 ∷ []) Fast ∷ [];
-      callees = declares g 0 ∷ [];
-      types = (0, I64) ∷ (1, I64) ∷ (2, I64) ∷ [];
-      blocks =
-          record {
-            number = 0;
-            params = 0 ∷ [];
-            lines =
-                record { inst = TryCall (TryDirect 0) 0 (0 ∷ []) (record { block = 1; args = Ret 0 ∷ [] }) (record { tag = Some 3; target = (record { block = 2; args = Exn 0 ∷ [] }) } ∷ []); ty = None; results = []; tags = [] } ∷
-                [];
-          } ∷
-          record {
-            number = 1;
-            params = 1 ∷ [];
-            lines =
-                record { inst = Return (1 ∷ []); ty = None; results = []; tags = [] } ∷
-                [];
-          } ∷
-          record {
-            number = 2;
-            params = 2 ∷ [];
-            lines =
-                record { inst = Return (2 ∷ []); ty = None; results = []; tags = [] } ∷
-                [];
-          } ∷
-          [];
-    }
+    function f (of_i64 Fast) [] (of_i64 Fast ∷ []) (declares g 0 ∷ []) (I64 ∷ I64 ∷ I64 ∷ []) (
+    block 0 (0 ∷ []) (
+    line None [] (TryCall (TryDirect 0) 0 (0 ∷ []) (to 1 (Ret 0 ∷ [])) (caught (Some 3) (to 2 (Exn 0 ∷ [])) ∷ [])) ∷ []) ∷
+    block 1 (1 ∷ []) (returns (1 ∷ []) ∷ []) ∷
+    block 2 (2 ∷ []) (returns (2 ∷ []) ∷ []) ∷ [])
 
 abbrev throw_result : Function
 throw_result =
-    record {
-      name = f;
-      sig = signature (I64 ∷ []) (I64 ∷ []) Fast;
-      slots = [];
-      sigs = signature (I64 ∷ []) (I64 ∷ []) Fast ∷ [];
-      callees = declares g 0 ∷ declares h 0 ∷ [];
-      types = (0, I64) ∷ (1, I64) ∷ (2, I64) ∷ (3, I64) ∷ (4, I64) ∷ [];
-      blocks =
-          record {
-            number = 0;
-            params = 0 ∷ [];
-            lines =
-                record { inst = Branches (Jump (record { block = 1; args = Value 0 ∷ [] })); ty = None; results = []; tags = [] } ∷
-                [];
-          } ∷
-          record {
-            number = 1;
-            params = 1 ∷ [];
-            lines =
-                record { inst = TryCall (TryDirect 1) 0 (1 ∷ []) (record { block = 2; args = Ret 0 ∷ [] }) (record { tag = Some 3; target = (record { block = 4; args = Exn 0 ∷ [] }) } ∷ []); ty = None; results = []; tags = [] } ∷
-                [];
-          } ∷
-          record {
-            number = 2;
-            params = 2 ∷ [];
-            lines =
-                record { inst = Branches (Jump (record { block = 3; args = Value 2 ∷ [] })); ty = None; results = []; tags = [] } ∷
-                [];
-          } ∷
-          record {
-            number = 3;
-            params = 3 ∷ [];
-            lines =
-                record { inst = Return (3 ∷ []); ty = None; results = []; tags = [] } ∷
-                [];
-          } ∷
-          record {
-            number = 4;
-            params = 4 ∷ [];
-            lines =
-                record { inst = Return (4 ∷ []); ty = None; results = []; tags = [] } ∷
-                [];
-          } ∷
-          [];
-    }
+    function f (of_i64 Fast) [] (of_i64 Fast ∷ []) (declares g 0 ∷ declares h 0 ∷ []) (I64 ∷ I64 ∷ I64 ∷ I64 ∷ I64 ∷ []) (
+    block 0 (0 ∷ []) (jumps 1 (Value 0 ∷ []) ∷ []) ∷
+    block 1 (1 ∷ []) (
+    line None [] (TryCall (TryDirect 1) 0 (1 ∷ []) (to 2 (Ret 0 ∷ [])) (caught (Some 3) (to 4 (Exn 0 ∷ [])) ∷ [])) ∷ []) ∷
+    block 2 (2 ∷ []) (jumps 3 (Value 2 ∷ []) ∷ []) ∷
+    block 3 (3 ∷ []) (returns (3 ∷ []) ∷ []) ∷
+    block 4 (4 ∷ []) (returns (4 ∷ []) ∷ []) ∷ [])
 
 throw_text : canonical (splice_with sides throw_caller 0 0 throw_callee) ≡ throw_result
 unfolding iadd isub sdiv sdiv_trap srem divides_by_zero ishl clz band iconcat low_half high_half operation meaning row signed wrapped fits fits_signed quotient remainder sum_below with_bits zeros_from_top floored number_of bytes_of memory_read memory_write address_at written same_sig names
@@ -152,126 +70,30 @@ throw_after_threw = refl
 -- Joined tables.
 abbrev tables_callee : Function
 tables_callee =
-    record {
-      name = g;
-      sig = signature (I64 ∷ []) (I64 ∷ []) Fast;
-      slots = [];
-      sigs = signature (I64 ∷ []) (I64 ∷ []) Fast ∷ [];
-      callees = declares h 0 ∷ [];
-      types = (0, I64) ∷ (1, I64) ∷ (2, I64) ∷ [];
-      blocks =
-          record {
-            number = 0;
-            params = 0 ∷ [];
-            lines =
-                record { inst = TryCall (TryDirect 0) 0 (0 ∷ []) (record { block = 1; args = Ret 0 ∷ [] }) (record { tag = Some 1; target = (record { block = 2; args = Exn 0 ∷ [] }) } ∷ []); ty = None; results = []; tags = [] } ∷
-                [];
-          } ∷
-          record {
-            number = 1;
-            params = 1 ∷ [];
-            lines =
-                record { inst = Return (1 ∷ []); ty = None; results = []; tags = [] } ∷
-                [];
-          } ∷
-          record {
-            number = 2;
-            params = 2 ∷ [];
-            lines =
-                record { inst = Return (2 ∷ []); ty = None; results = []; tags = [] } ∷
-                [];
-          } ∷
-          [];
-    }
+    function g (of_i64 Fast) [] (of_i64 Fast ∷ []) (declares h 0 ∷ []) (I64 ∷ I64 ∷ I64 ∷ []) (
+    block 0 (0 ∷ []) (
+    line None [] (TryCall (TryDirect 0) 0 (0 ∷ []) (to 1 (Ret 0 ∷ [])) (caught (Some 1) (to 2 (Exn 0 ∷ [])) ∷ [])) ∷ []) ∷
+    block 1 (1 ∷ []) (returns (1 ∷ []) ∷ []) ∷
+    block 2 (2 ∷ []) (returns (2 ∷ []) ∷ []) ∷ [])
 
 abbrev tables_caller : Function
 tables_caller =
-    record {
-      name = f;
-      sig = signature (I64 ∷ []) (I64 ∷ []) Fast;
-      slots = [];
-      sigs = signature (I64 ∷ []) (I64 ∷ []) Fast ∷ [];
-      callees = declares g 0 ∷ [];
-      types = (0, I64) ∷ (1, I64) ∷ (2, I64) ∷ [];
-      blocks =
-          record {
-            number = 0;
-            params = 0 ∷ [];
-            lines =
-                record { inst = TryCall (TryDirect 0) 0 (0 ∷ []) (record { block = 1; args = Ret 0 ∷ [] }) (record { tag = Some 1; target = (record { block = 2; args = Exn 0 ∷ [] }) } ∷ record { tag = Some 2; target = (record { block = 2; args = Exn 1 ∷ [] }) } ∷ record { tag = None; target = (record { block = 2; args = Exn 0 ∷ [] }) } ∷ []); ty = None; results = []; tags = [] } ∷
-                [];
-          } ∷
-          record {
-            number = 1;
-            params = 1 ∷ [];
-            lines =
-                record { inst = Return (1 ∷ []); ty = None; results = []; tags = [] } ∷
-                [];
-          } ∷
-          record {
-            number = 2;
-            params = 2 ∷ [];
-            lines =
-                record { inst = Return (2 ∷ []); ty = None; results = []; tags = [] } ∷
-                [];
-          } ∷
-          [];
-    }
+    function f (of_i64 Fast) [] (of_i64 Fast ∷ []) (declares g 0 ∷ []) (I64 ∷ I64 ∷ I64 ∷ []) (
+    block 0 (0 ∷ []) (
+    line None [] (TryCall (TryDirect 0) 0 (0 ∷ []) (to 1 (Ret 0 ∷ [])) (caught (Some 1) (to 2 (Exn 0 ∷ [])) ∷ caught (Some 2) (to 2 (Exn 1 ∷ [])) ∷ caught None (to 2 (Exn 0 ∷ [])) ∷ [])) ∷ []) ∷
+    block 1 (1 ∷ []) (returns (1 ∷ []) ∷ []) ∷
+    block 2 (2 ∷ []) (returns (2 ∷ []) ∷ []) ∷ [])
 
 abbrev tables_result : Function
 tables_result =
-    record {
-      name = f;
-      sig = signature (I64 ∷ []) (I64 ∷ []) Fast;
-      slots = [];
-      sigs = signature (I64 ∷ []) (I64 ∷ []) Fast ∷ [];
-      callees = declares g 0 ∷ declares h 0 ∷ [];
-      types = (0, I64) ∷ (1, I64) ∷ (2, I64) ∷ (3, I64) ∷ (4, I64) ∷ (5, I64) ∷ [];
-      blocks =
-          record {
-            number = 0;
-            params = 0 ∷ [];
-            lines =
-                record { inst = Branches (Jump (record { block = 1; args = Value 0 ∷ [] })); ty = None; results = []; tags = [] } ∷
-                [];
-          } ∷
-          record {
-            number = 1;
-            params = 1 ∷ [];
-            lines =
-                record { inst = TryCall (TryDirect 1) 0 (1 ∷ []) (record { block = 2; args = Ret 0 ∷ [] }) (record { tag = Some 1; target = (record { block = 3; args = Exn 0 ∷ [] }) } ∷ record { tag = Some 1; target = (record { block = 5; args = Exn 0 ∷ [] }) } ∷ record { tag = Some 2; target = (record { block = 5; args = Exn 1 ∷ [] }) } ∷ record { tag = None; target = (record { block = 5; args = Exn 0 ∷ [] }) } ∷ []); ty = None; results = []; tags = [] } ∷
-                [];
-          } ∷
-          record {
-            number = 2;
-            params = 2 ∷ [];
-            lines =
-                record { inst = Branches (Jump (record { block = 4; args = Value 2 ∷ [] })); ty = None; results = []; tags = [] } ∷
-                [];
-          } ∷
-          record {
-            number = 3;
-            params = 3 ∷ [];
-            lines =
-                record { inst = Branches (Jump (record { block = 4; args = Value 3 ∷ [] })); ty = None; results = []; tags = [] } ∷
-                [];
-          } ∷
-          record {
-            number = 4;
-            params = 4 ∷ [];
-            lines =
-                record { inst = Return (4 ∷ []); ty = None; results = []; tags = [] } ∷
-                [];
-          } ∷
-          record {
-            number = 5;
-            params = 5 ∷ [];
-            lines =
-                record { inst = Return (5 ∷ []); ty = None; results = []; tags = [] } ∷
-                [];
-          } ∷
-          [];
-    }
+    function f (of_i64 Fast) [] (of_i64 Fast ∷ []) (declares g 0 ∷ declares h 0 ∷ []) (I64 ∷ I64 ∷ I64 ∷ I64 ∷ I64 ∷ I64 ∷ []) (
+    block 0 (0 ∷ []) (jumps 1 (Value 0 ∷ []) ∷ []) ∷
+    block 1 (1 ∷ []) (
+    line None [] (TryCall (TryDirect 1) 0 (1 ∷ []) (to 2 (Ret 0 ∷ [])) (caught (Some 1) (to 3 (Exn 0 ∷ [])) ∷ caught (Some 1) (to 5 (Exn 0 ∷ [])) ∷ caught (Some 2) (to 5 (Exn 1 ∷ [])) ∷ caught None (to 5 (Exn 0 ∷ [])) ∷ [])) ∷ []) ∷
+    block 2 (2 ∷ []) (jumps 4 (Value 2 ∷ []) ∷ []) ∷
+    block 3 (3 ∷ []) (jumps 4 (Value 3 ∷ []) ∷ []) ∷
+    block 4 (4 ∷ []) (returns (4 ∷ []) ∷ []) ∷
+    block 5 (5 ∷ []) (returns (5 ∷ []) ∷ []) ∷ [])
 
 tables_text : canonical (splice_with sides tables_caller 0 0 tables_callee) ≡ tables_result
 unfolding iadd isub sdiv sdiv_trap srem divides_by_zero ishl clz band iconcat low_half high_half operation meaning row signed wrapped fits fits_signed quotient remainder sum_below with_bits zeros_from_top floored number_of bytes_of memory_read memory_write address_at written same_sig names

@@ -54,7 +54,8 @@ impl Registers {
         }
     }
 
-    /// Gives a number its value.
+    /// Gives a number its value. `Err` is want of memory, for the registers up to the number or for the cell of a value
+    /// of 2^64 or above: then nothing is said of the values.
     pub fn put(&mut self, at: usize, value: Bits) -> Result<(), AllocError>
         ensures { IfOk result (λ _. env_of self.new ≡ put (env_of self.old) at (data_of value)) }
     {

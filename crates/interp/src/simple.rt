@@ -9,9 +9,9 @@ ghost use Rattle.byte_store.specs.Cells.{bytes_at};
 ghost use Rattle.interp.specs.declared.state.Wait.{Wait as DeclaredWait};
 ghost use Rattle.interp.specs.State.{moment, done, simply};
 
+use crate::common_ops::eval_common;
 use crate::moves::{bind, read_all};
 use crate::outcome::End;
-use crate::quick::quick;
 use crate::state::{Frame, Stop};
 use clk_num::{Bits, Evaled, Op, TrapCode, eval, fits};
 use ir_core::{InstData, Value};
@@ -90,7 +90,7 @@ fn compute_two(
         ≡ done m frame.old below w line.now
         (evaluated (bytes_at frame.old.slots) w.memory (operation op (data_of x ∷ data_of y ∷ [])))) }
 {
-    match quick(op, x, y) {
+    match eval_common(op, x, y) {
         Some(z) => give_one(frame, line, z),
         None => compute(frame, line, op, &[x, y]),
     }

@@ -97,7 +97,7 @@ pub fn act<'m>(
         Inst::Trap(code) => Ok(Some(Stop::At(End::Trapped(*code)))),
         Inst::Trapz { cond, code } => trapz(top, line, *cond, *code),
         Inst::Trapnz { cond, code } => trapnz(top, line, *cond, *code),
-        Inst::Call { callee, args } => call_callee(
+        Inst::Call { callee, args } | Inst::TryCall { callee, args, .. } => call_callee(
             alloc,
             program,
             top,
@@ -121,19 +121,13 @@ pub fn act<'m>(
             values,
             xs,
         ),
-        Inst::TryCall { callee, args, .. } => call_callee(
-            alloc,
-            program,
-            top,
-            below,
-            world,
-            line,
-            *callee,
-            args.as_slice(),
-            values,
-            xs,
-        ),
-        Inst::CallIndirect { sig, address, args } => call_address(
+        Inst::CallIndirect { sig, address, args }
+        | Inst::TryCallIndirect {
+            sig,
+            address,
+            args,
+            ..
+        } => call_address(
             alloc,
             program,
             addresses,
@@ -148,25 +142,6 @@ pub fn act<'m>(
             xs,
         ),
         Inst::ReturnCallIndirect { sig, address, args } => tail_call_address(
-            alloc,
-            program,
-            addresses,
-            top,
-            below,
-            world,
-            line,
-            *sig,
-            *address,
-            args.as_slice(),
-            values,
-            xs,
-        ),
-        Inst::TryCallIndirect {
-            sig,
-            address,
-            args,
-            ..
-        } => call_address(
             alloc,
             program,
             addresses,

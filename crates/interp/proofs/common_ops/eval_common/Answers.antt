@@ -4,7 +4,7 @@ use Rattle.clk_num.specs.Views.{data_of}
 use Rattle.clk_num.proofs.ArithmeticLemmas.{iadd_is, isub_is, imul_is}
 use Rattle.clk_num.proofs.BitwiseLemmas.{band_is, bor_is, bxor_is}
 use Rattle.interp.proofs.SameType.{sum, difference, product, both, either, one_of_both}
-use Rattle.interp.proofs.quick.quick.Goals as goal
+use Rattle.interp.proofs.common_ops.eval_common.Goals as goal
 
 pub returns-in-Iadd : goal.returns-in-Iadd
 returns-in-Iadd c =

@@ -5,9 +5,9 @@ ghost use Rattle.clk_num.specs.Views.{data_of};
 
 use clk_num::{Bits, Op};
 
-/// A sum, a difference, a product or an operation bit by bit of two values of one type. None of other operands, and of
-/// other operations, which `eval` computes. It is there for speed alone.
-pub fn quick(op: Op, x: Bits, y: Bits) -> Option<Bits>
+/// A sum, a difference, a product or an operation bit by bit of two values of one type, by one match and no row's test.
+/// None of other operands, and of other operations, which `eval` computes. It is there for speed alone.
+pub fn eval_common(op: Op, x: Bits, y: Bits) -> Option<Bits>
     ensures { IfSome result (λ z. Values (data_of z ∷ []) ≡ operation op (data_of x ∷ data_of y ∷ [])) }
 {
     if x.width.bits() != y.width.bits() {

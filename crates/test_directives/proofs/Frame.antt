@@ -12,7 +12,7 @@ use Rattle.test_directives.specs.Blanks.{trim_front}
 use Rattle.test_directives.specs.declared.marks.Mark.{Mark}
 use Rattle.test_directives.specs.declared.marks.Mark.TheVariants.{Blank, LeftParen, RightParen, LeftBracket, RightBracket, Equals, Bang, Other}
 use Rattle.test_directives.specs.Marks.{code, mark_of, token_of, bytes_from, behind_mark, begins, is_in, count}
-use Rattle.test_directives.specs.Frame.{one, letter, piece, blanks, plain_letter, byte, letter_byte, plain_byte, meaning_from}
+use Rattle.test_directives.specs.Frame.{one, letter, field, blanks, plain_letter, byte, letter_byte, plain_byte, meaning_from}
 use Rattle.test_directives.proofs.Words.{drop_more, take_more}
 
 -- what all of the tokens mean, by what was read of them

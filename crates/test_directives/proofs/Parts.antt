@@ -9,7 +9,7 @@ use Rattle.test_directives.specs.Blanks.{trim_front}
 use Rattle.test_directives.specs.declared.marks.Mark.{Mark}
 use Rattle.test_directives.specs.declared.marks.Mark.TheVariants.{Blank, LeftParen, RightParen, LeftBracket, RightBracket, Equals, Bang, Other}
 use Rattle.test_directives.specs.Marks.{code, mark_of, token_of, bytes_from, behind_mark, begins, is_in, count}
-use Rattle.test_directives.specs.Frame.{one, letter, piece, blanks, plain_letter, byte, plain_byte, letter_byte, piece_text, plain_text, listed, plain, expectation, signed, wanted, run, meaning_from}
+use Rattle.test_directives.specs.Frame.{one, letter, field, blanks, plain_letter, byte, plain_byte, letter_byte, field_text, plain_text, listed, plain, expectation, signed, wanted, run, meaning_from}
 use Rattle.test_directives.proofs.Words.{drop_more, take_more}
 use Rattle.test_directives.proofs.Frame.{ended, meant, seq_ok, tok_is, first_is, alt_is, opt_is, tok_single, letter_single, plain_single, many_is, trimmed_is}
 
@@ -31,13 +31,13 @@ pub empty_is : {A : Type 0} (t : List ℕ) (x y : A) → empty_or t x y ≡ cond
 empty_is [] x y = refl
 empty_is {A} (c ∷ cs) x y = let e : (length (c ∷ cs) == 0) ≡ false = grind (arith, nat_tests) in sym (ap (λ (b : Bool). let o : A = cond b x y in o) e)
 
--- ---- pieces and blanks
+-- ---- fields and blanks
 
-piece_then : {A : Type 0} (b : Rule) (g : List ℕ → Tree b → Option A) (s : ℕ) (t : List ℕ)
-    → (spot : ℕ) × (ended (λ (v : Tree piece × Tree b). g (piece_text v.0) v.1) (read (Seq piece b) (bytes_from s t)) ≡ ended (g (front t)) (read b (bytes_from spot (back t))))
-piece_then b g s t =
+field_then : {A : Type 0} (b : Rule) (g : List ℕ → Tree b → Option A) (s : ℕ) (t : List ℕ)
+    → (spot : ℕ) × (ended (λ (v : Tree field × Tree b). g (field_text v.0) v.1) (read (Seq field b) (bytes_from s t)) ≡ ended (g (front t)) (read b (bytes_from spot (back t))))
+field_then b g s t =
     let k = many_is letter letter_byte letter_single s t in
-    (k.0, seq_ok piece b (λ v. g (piece_text v.0) v.1) (bytes_from s t) (bytes_from k.0 (back t)) k.1 k.2 ∙ ap (λ (x : List ℕ). ended (g x) (read b (bytes_from k.0 (back t)))) k.3)
+    (k.0, seq_ok field b (λ v. g (field_text v.0) v.1) (bytes_from s t) (bytes_from k.0 (back t)) k.1 k.2 ∙ ap (λ (x : List ℕ). ended (g x) (read b (bytes_from k.0 (back t)))) k.3)
 
 blanks_then : {A : Type 0} (b : Rule) (g : Tree b → Option A) (s : ℕ) (t : List ℕ)
     → (spot : ℕ) × (ended (λ (v : Tree blanks × Tree b). g v.1) (read (Seq blanks b) (bytes_from s t)) ≡ ended g (read b (bytes_from spot (trim_front t))))
@@ -57,19 +57,19 @@ blanks_end {A} o s t =
 -- ---- numbers in brackets
 
 pub listed_is : {A : Type 0} (g : List ℕ → Option A) (s : ℕ) (t : List ℕ)
-    → meaning_from s listed (λ v. g (piece_text v.1.0)) t ≡ and_then (behind_mark LeftBracket t) (λ rest. and_then (behind_mark RightBracket (back rest)) (λ more. empty_or (trim_front more) (g (front rest)) None))
+    → meaning_from s listed (λ v. g (field_text v.1.0)) t ≡ and_then (behind_mark LeftBracket t) (λ rest. and_then (behind_mark RightBracket (back rest)) (λ more. empty_or (trim_front more) (g (front rest)) None))
 listed_is {A} g s t =
-    meant listed (λ v. g (piece_text v.1.0)) s t
-    ∙ (tok_is LeftBracket (Seq piece (Seq (one RightBracket) blanks)) (λ u. g (piece_text u.0)) s t
+    meant listed (λ v. g (field_text v.1.0)) s t
+    ∙ (tok_is LeftBracket (Seq field (Seq (one RightBracket) blanks)) (λ u. g (field_text u.0)) s t
     ∙ (λ j. and_then (behind_mark LeftBracket t) (λ rest. inside rest j)))
   where
-    inside : (rest : List ℕ) → ended (λ (u : Tree piece × Tree (Seq (one RightBracket) blanks)). g (piece_text u.0)) (read (Seq piece (Seq (one RightBracket) blanks)) (bytes_from (suc s) rest))
+    inside : (rest : List ℕ) → ended (λ (u : Tree field × Tree (Seq (one RightBracket) blanks)). g (field_text u.0)) (read (Seq field (Seq (one RightBracket) blanks)) (bytes_from (suc s) rest))
         ≡ and_then (behind_mark RightBracket (back rest)) (λ more. empty_or (trim_front more) (g (front rest)) None)
     inside rest =
-        let k = piece_then (Seq (one RightBracket) blanks) (λ x w. g x) (suc s) rest in
+        let k = field_then (Seq (one RightBracket) blanks) (λ x w. g x) (suc s) rest in
         k.1 ∙ (tok_is RightBracket blanks (λ v. g (front rest)) k.0 (back rest) ∙ (λ j. and_then (behind_mark RightBracket (back rest)) (λ more. blanks_end (g (front rest)) (suc k.0) more j)))
 
-pub listed_anywhere : {A : Type 0} (g : List ℕ → Option A) → Anywhere listed (λ v. g (piece_text v.1.0))
+pub listed_anywhere : {A : Type 0} (g : List ℕ → Option A) → Anywhere listed (λ v. g (field_text v.1.0))
 listed_anywhere g s t = listed_is g s t ∙ sym (listed_is g 0 t)
 
 -- ---- a number, a trap or a throw
@@ -213,21 +213,21 @@ pull {X} {Y} {A} {B} {T} (Some u) None f k o = nothing {B = B} o
 pull (Some u) (Some v) f k o = map_ended f (k u v) o
 
 pub run_is : {X Y A B : Type 0} (n : List ℕ → Option X) (v : List ℕ → Option Y) (f : Tree wanted → Option A) (k : X → Y → A → Option B) → Anywhere wanted f → (s : ℕ) (t : List ℕ)
-    → meaning_from s run (λ w. and_then (n (piece_text w.0)) (λ x. and_then (v (piece_text w.1.1.0)) (λ y. and_then (f w.1.1.1.1) (k x y)))) t
+    → meaning_from s run (λ w. and_then (n (field_text w.0)) (λ x. and_then (v (field_text w.1.1.0)) (λ y. and_then (f w.1.1.1.1) (k x y)))) t
     ≡ and_then (behind_mark LeftParen (back t)) (λ rest. and_then (behind_mark RightParen (back rest)) (λ more.
     and_then (n (front t)) (λ x. and_then (v (front rest)) (λ y. and_then (meaning_from 0 wanted f more) (k x y)))))
 run_is {X} {Y} {A} {B} n v f k p s t =
-    let first = piece_then Behind (λ x w. made x (piece_text w.1.0) w.1.1.1) s t in
-    meant run (λ w. made (piece_text w.0) (piece_text w.1.1.0) w.1.1.1.1) s t
+    let first = field_then Behind (λ x w. made x (field_text w.1.0) w.1.1.1) s t in
+    meant run (λ w. made (field_text w.0) (field_text w.1.1.0) w.1.1.1.1) s t
     ∙ (first.1
-    ∙ (tok_is LeftParen Inside (λ w. made (front t) (piece_text w.0) w.1.1) first.0 (back t)
+    ∙ (tok_is LeftParen Inside (λ w. made (front t) (field_text w.0) w.1.1) first.0 (back t)
     ∙ (λ j. and_then (behind_mark LeftParen (back t)) (λ rest. inside (suc first.0) rest j))))
   where
     Inside : Rule
-    Inside = Seq piece (Seq (one RightParen) wanted)
+    Inside = Seq field (Seq (one RightParen) wanted)
 
     Behind : Rule
-    Behind = Seq (one LeftParen) (Seq piece (Seq (one RightParen) wanted))
+    Behind = Seq (one LeftParen) (Seq field (Seq (one RightParen) wanted))
 
     made : List ℕ → List ℕ → Tree wanted → Option B
     made a b w = and_then (n a) (λ x. and_then (v b) (λ y. and_then (f w) (k x y)))
@@ -238,10 +238,10 @@ run_is {X} {Y} {A} {B} n v f k p s t =
         pull (n (front t)) (v (front rest)) f k (read wanted (bytes_from spot more))
         ∙ ap (λ (o : Option A). and_then (n (front t)) (λ x. and_then (v (front rest)) (λ y. and_then o (k x y)))) (sym (meant wanted f spot more) ∙ p spot more)
 
-    inside : (spot : ℕ) (rest : List ℕ) → ended (λ (w : Tree Inside). made (front t) (piece_text w.0) w.1.1) (read Inside (bytes_from spot rest))
+    inside : (spot : ℕ) (rest : List ℕ) → ended (λ (w : Tree Inside). made (front t) (field_text w.0) w.1.1) (read Inside (bytes_from spot rest))
         ≡ and_then (behind_mark RightParen (back rest)) (λ more. and_then (n (front t)) (λ x. and_then (v (front rest)) (λ y. and_then (meaning_from 0 wanted f more) (k x y))))
     inside spot rest =
-        let q = piece_then (Seq (one RightParen) wanted) (λ x w. made (front t) x w.1) spot rest in
+        let q = field_then (Seq (one RightParen) wanted) (λ x w. made (front t) x w.1) spot rest in
         q.1
         ∙ (tok_is RightParen wanted (λ w. made (front t) (front rest) w) q.0 (back rest)
         ∙ (λ j. and_then (behind_mark RightParen (back rest)) (λ more. last (suc q.0) rest more j)))

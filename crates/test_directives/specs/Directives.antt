@@ -21,7 +21,7 @@ use Rattle.test_directives.specs.declared.marks.Mark.{Mark}
 use Rattle.test_directives.specs.declared.marks.Mark.TheVariants as marks
 use Rattle.test_directives.specs.Blanks.{behind, trim_front, trimmed}
 use Rattle.test_directives.specs.Frame as frame
-use Rattle.test_directives.specs.Frame.{piece_text, plain_text, meaning}
+use Rattle.test_directives.specs.Frame.{field_text, plain_text, meaning}
 
 -- the end that a run is to have
 pub data Expectation : Type 0 where
@@ -123,7 +123,7 @@ abbrev pub plain_expectation : List ℕ → Option Expectation
 plain_expectation t = elim (values_of t) [ Some numbers ↦ one_of numbers | None ↦ stop_of t ]
 
 abbrev pub listed_value : Tree frame.listed → Option Expectation
-listed_value v = and_then (values_of (piece_text v.1.0)) (λ numbers. Some (Values numbers))
+listed_value v = and_then (values_of (field_text v.1.0)) (λ numbers. Some (Values numbers))
 
 abbrev pub plain_value : Tree frame.plain → Option Expectation
 plain_value v = plain_expectation (plain_text v)
@@ -147,8 +147,8 @@ wanted_value v = perhaps (Some Return) (equal_value otherwise unequal_value) v.1
 
 abbrev pub run_value : Tree frame.run → Option Call
 run_value v =
-    and_then (name_of (piece_text v.0)) (λ name.
-    and_then (values_of (piece_text v.1.1.0)) (λ numbers.
+    and_then (name_of (field_text v.0)) (λ name.
+    and_then (values_of (field_text v.1.1.0)) (λ numbers.
     and_then (wanted_value v.1.1.1.1) (λ wanted.
     Some (record { name = name; numbers = numbers; wanted = wanted }))))
 

@@ -15,16 +15,16 @@ one mark = Tok (code mark)
 abbrev pub letter : Rule
 letter = one Blank or one Other
 
--- a name, or numbers
-abbrev pub piece : Rule
-piece = Many letter
+-- what stands between marks: a name, or numbers
+abbrev pub field : Rule
+field = Many letter
 
 abbrev pub blanks : Rule
 blanks = Many (one Blank)
 
 -- [1, -2]
 abbrev pub listed : Rule
-listed = one LeftBracket then piece then one RightBracket then blanks
+listed = one LeftBracket then field then one RightBracket then blanks
 
 -- a byte of a number, a trap or a throw
 abbrev pub plain_letter : Rule
@@ -46,7 +46,7 @@ wanted = blanks then Opt (signed Equals or signed Bang)
 
 -- %f(1, -2) == 3
 abbrev pub run : Rule
-run = piece then one LeftParen then piece then one RightParen then wanted
+run = field then one LeftParen then field then one RightParen then wanted
 
 -- the next byte always says which way to go
 pub run_is_good : good run ≡ true
@@ -63,8 +63,8 @@ letter_byte = byte otherwise byte
 abbrev pub plain_byte : Tree plain_letter → ℕ
 plain_byte = letter_byte otherwise byte otherwise byte
 
-abbrev pub piece_text : Tree piece → List ℕ
-piece_text v = map letter_byte v
+abbrev pub field_text : Tree field → List ℕ
+field_text v = map letter_byte v
 
 abbrev pub plain_text : Tree plain → List ℕ
 plain_text v = byte v.0 ∷ map plain_byte v.1

@@ -70,7 +70,7 @@ fn letters(text: &[u8]) -> usize
 }
 
 /// The text before the first mark, and the text from there on.
-pub(crate) fn piece(text: &[u8]) -> (&[u8], &[u8])
+pub(crate) fn split_field(text: &[u8]) -> (&[u8], &[u8])
     ensures front { result.0.now ≡ take (spec.count frame.letter text.now) text.now }
     ensures back { result.1.now ≡ drop (spec.count frame.letter text.now) text.now }
 {

@@ -7,7 +7,7 @@ ghost use Rattle.test_directives.specs.Views as views;
 
 use crate::blanks::trim_front;
 use crate::directives::{Directive, Expectation, Wanted};
-use crate::marks::{Mark, begins, behind_mark, piece};
+use crate::marks::{Mark, begins, behind_mark, split_field};
 use crate::names::name_of;
 use crate::values::{expectation_of, numbers_of};
 use std::alloc::{AllocError, Global};
@@ -73,11 +73,11 @@ pub(crate) fn run_of(alloc: Global, text: &[u8]) -> Result<Option<Directive>, Al
     ensures { IfOk result (λ run. option_map views.directive_of run
         ≡ and_then (spec.run_of text.now) (λ call. Some (spec.Run call))) }
 {
-    let (front, back) = piece(text);
+    let (front, back) = split_field(text);
     let Some(rest) = behind_mark(back, Mark::LeftParen) else {
         return Ok(None);
     };
-    let (inner, end) = piece(rest);
+    let (inner, end) = split_field(rest);
     let Some(behind) = behind_mark(end, Mark::RightParen) else {
         return Ok(None);
     };

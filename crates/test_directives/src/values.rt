@@ -7,7 +7,7 @@ ghost use Rattle.test_directives.specs.Views as views;
 
 use crate::blanks::trim_front;
 use crate::directives::Expectation;
-use crate::marks::{Mark, are_plain, begins, behind_mark, piece};
+use crate::marks::{Mark, are_plain, begins, behind_mark, split_field};
 use host_script::{Act, Reply, Script};
 use ir_core::List;
 use script_text::{ScriptErr, number_list, script};
@@ -118,7 +118,7 @@ fn listed_of(alloc: Global, text: &[u8]) -> Result<Option<Expectation>, AllocErr
     let Some(rest) = behind_mark(text, Mark::LeftBracket) else {
         return Ok(None);
     };
-    let (inner, back) = piece(rest);
+    let (inner, back) = split_field(rest);
     let Some(behind) = behind_mark(back, Mark::RightBracket) else {
         return Ok(None);
     };

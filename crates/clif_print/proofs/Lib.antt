@@ -1,5 +1,1 @@
-pub mod Digits
-pub mod Puts
-pub mod Results
-pub mod Sinks
 pub mod Types

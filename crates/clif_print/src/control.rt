@@ -5,17 +5,17 @@ ghost use Rattle.ir_text.specs.TextTree.{Text, spelled, comma, ◌▹◌};
 ghost use Rattle.ir_text.specs.TextInstructions.{instruction, signature_reference, target, exception_table};
 ghost use Rattle.ir_core.specs.Viewed.{instruction_of};
 ghost use Rattle.ir_core.specs.declared.instructions.Inst.TheVariants as form;
-ghost use Rattle.clif_print.specs.Output.{Start, Puts};
+ghost use Rattle.text_output.specs.Output.{Start, Puts};
 
 use crate::operands::{
     put_call_arguments, put_callee_reference, put_exception_table, put_operands,
     put_signature_reference, put_suffix_if, put_target, put_target_list, put_trap_code, put_value,
 };
-use crate::output::Output;
 use clif_numbers::FuncNumbers;
 use clk_num::TrapCode;
 use exn_tables::Table;
 use ir_core::{BlockCall, FuncRef, List, SigRef, Ty, Value, Values};
+use text_output::Output;
 
 pub(crate) fn put_jump<O: Output>(
     out: &mut O,

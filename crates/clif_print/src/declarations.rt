@@ -3,13 +3,13 @@ ghost use Rattle.std.specs.Prelude.{ℕ, List};
 ghost use Rattle.ir_text.specs.TextTree.{Text, spelled};
 ghost use Rattle.ir_text.specs.TextDeclarations.{alignment, colocation, slot_line, signature_line, callee_line};
 ghost use Rattle.ir_text.specs.TextDeclarations.{declarations};
-ghost use Rattle.clif_print.specs.Output.{Start, Puts};
+ghost use Rattle.text_output.specs.Output.{Start, Puts};
 
 use crate::operands::put_signature_reference;
-use crate::output::{Output, put_number};
 use crate::signatures::{put_name, put_signature};
 use clif_numbers::FuncNumbers;
 use ir_core::{Callee, Sig, SlotDecl};
+use text_output::{Output, put_number};
 
 /// What is declared before the blocks.
 pub(crate) trait Declared {

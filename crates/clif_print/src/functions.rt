@@ -10,19 +10,19 @@ ghost use Rattle.ir_text.specs.Text.{blocks, canonical_function};
 ghost use Rattle.ir_text.specs.TextInstructions.{type_text, next_after};
 ghost use Rattle.ir_text.specs.TextDeclarations.{after_declarations};
 ghost use Rattle.ir_core.specs.Viewed.{line_of};
-ghost use Rattle.clif_print.specs.Output.{Start, Puts};
+ghost use Rattle.text_output.specs.Output.{Start, Puts};
 ghost use Rattle.clif_numbers.specs.Walk.{block_at, blocks_at};
 
 use crate::declarations::put_declarations;
 use crate::instructions::put_instruction;
 use crate::lists::put_list;
 use crate::operands::{put_block_reference, put_tags, put_value};
-use crate::output::Output;
 use crate::signatures::{put_name, put_signature};
 use crate::suffixes::{shown_suffix, type_of};
 use crate::words::type_word;
 use clif_numbers::FuncNumbers;
 use ir_core::{Block, Blocks, Func, InstData, Ty, Value};
+use text_output::Output;
 
 fn put_results<O: Output>(out: &mut O, func: &Func, numbers: &FuncNumbers, defined: &[Value])
     ensures { Puts O.holds out.old out.new (spelled (results func.now.function numbers.now defined.now)) }

@@ -7,7 +7,7 @@ ghost use Rattle.ir_text.specs.TextInstructions.{suffix_but_i64};
 ghost use Rattle.ir_text.specs.TextInstructions.{extending_suffix, load_opcode, store_opcode};
 ghost use Rattle.ir_core.specs.Viewed.{instruction_of};
 ghost use Rattle.ir_core.specs.declared.instructions.Inst.TheVariants as form;
-ghost use Rattle.clif_print.specs.Output.{Start, Puts};
+ghost use Rattle.text_output.specs.Output.{Start, Puts};
 
 use crate::control::{
     put_br_table, put_brif, put_call, put_call_indirect, put_jump, put_return, put_return_call,
@@ -17,11 +17,11 @@ use crate::operands::{
     put_address, put_callee_reference, put_constant, put_flags, put_operands, put_slot_address,
     put_suffix, put_suffix_if, put_value,
 };
-use crate::output::{Output, put_numbered};
 use crate::words::{condition_word, op_word, ty_of};
 use clif_numbers::FuncNumbers;
 use clk_num::{Bits, Op};
 use ir_core::{Access, Flags, FuncRef, Inst, Slot, Ty, Value};
+use text_output::{Output, put_numbered};
 
 /// Puts the suffix of an operation.
 fn put_op_suffix<O: Output>(out: &mut O, op: Op, suffix: Option<Ty>)

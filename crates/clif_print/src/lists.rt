@@ -2,10 +2,10 @@
 ghost use Rattle.std.specs.Prelude.{ℕ, List};
 ghost use Rattle.ir_text.specs.Numbering.{Numbering};
 ghost use Rattle.ir_text.specs.TextTree.{Text, spelled, more, separated, in_parentheses, in_brackets};
-ghost use Rattle.clif_print.specs.Output.{Start, Puts};
+ghost use Rattle.text_output.specs.Output.{Start, Puts};
 
-use crate::output::Output;
 use clif_numbers::FuncNumbers;
+use text_output::Output;
 
 /// What stands in lists.
 pub(crate) trait Item {

@@ -8,16 +8,16 @@ ghost use Rattle.ir_text.specs.TextInstructions.{entry, exception_table, operand
 ghost use Rattle.ir_text.specs.TextInstructions.{debug_tags, suffix, suffix_if, constant, signature_reference};
 ghost use Rattle.ir_text.specs.TextInstructions.{callee_reference, trap_code, flag, flags, offset_text, slot_address};
 ghost use Rattle.ir_text.specs.TextInstructions.{address};
-ghost use Rattle.clif_print.specs.Output.{Start, Puts};
+ghost use Rattle.text_output.specs.Output.{Start, Puts};
 
 use crate::lists::{Item, put_in_parentheses, put_list};
-use crate::output::{Output, put_number, put_numbered};
 use crate::words::type_word;
 use clif_numbers::FuncNumbers;
 use clk_num::{Bits, TrapCode};
 use debug_tags::Tag;
 use exn_tables::Entry;
 use ir_core::{Arg, Block, BlockCall, Flags, FuncRef, SigRef, Slot, Ty, Value};
+use text_output::{Output, put_number, put_numbered};
 
 /// Puts a value's word.
 pub(crate) fn put_value<O: Output>(out: &mut O, numbers: &FuncNumbers, number: Value)

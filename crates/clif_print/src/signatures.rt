@@ -4,13 +4,13 @@ ghost use Rattle.ir_text.specs.Numbering.{Numbering};
 ghost use Rattle.ir_text.specs.TextTree.{Text, spelled};
 ghost use Rattle.ir_text.specs.TextDeclarations.{function_name, extension, purpose_text, parameter, signature_results};
 ghost use Rattle.ir_text.specs.TextDeclarations.{signature};
-ghost use Rattle.clif_print.specs.Output.{Start, Puts};
+ghost use Rattle.text_output.specs.Output.{Start, Puts};
 
 use crate::lists::{Item, put_in_parentheses, put_list};
-use crate::output::{Output, put_number, put_numbered};
 use crate::words::{convention_word, type_word};
 use clif_numbers::FuncNumbers;
 use ir_core::{Ext, FuncName, Param, Purpose, Sig};
+use text_output::{Output, put_number, put_numbered};
 
 /// Puts the name of a function.
 pub(crate) fn put_name<O: Output>(out: &mut O, name: &FuncName)

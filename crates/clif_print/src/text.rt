@@ -5,16 +5,14 @@ ghost use Rattle.clk_flow.specs.Faults.{HasCause};
 ghost use Rattle.clk_flow.specs.Whole.{AppendsPrefix};
 ghost use Rattle.ir_text.specs.Numbering.{numberings_of};
 ghost use Rattle.ir_text.specs.Text.{text_of, function_text_of};
-ghost use Rattle.clif_print.specs.Output.{Start, Puts};
+ghost use Rattle.text_output.specs.Output.{Start, Puts};
 
 use crate::functions::put_function;
-use crate::output::Output;
-use crate::plain_outputs::{LengthOutput, MemoryOutput};
-use crate::sink_output::SinkOutput;
 use clif_numbers::Numbers;
 use clk_flow::{Failed, Sink};
 use ir_core::Module;
 use std::alloc::{AllocError, Global};
+use text_output::{LengthOutput, MemoryOutput, Output, SinkOutput};
 
 /// Appends the canonical text of the module, whose numbers these are. It takes no memory, and gives the sink a few
 /// kilobytes at a time. `Failed` comes only where the sink's count of faults rose; a beginning of the text was appended

@@ -7,9 +7,9 @@ use Rattle.std.specs.Prelude.{slice_index}
 use Rattle.ir_core.specs.Module.{Function, Module}
 use Rattle.ir_text.specs.TextTree.{spelled}
 use Rattle.ir_text.specs.Text.{more_functions, text_of, function_text_of}
-use Rattle.clif_print.specs.Output.{Start, Puts}
+use Rattle.text_output.specs.Output.{Start, Puts}
 use Rattle.print_workers.specs.Parts.{IsPart, PutsPart, before_function, AreCuts}
-use Rattle.clif_print.proofs.Puts.{nothing, ◌▸◌}
+use Rattle.text_output.proofs.Puts.{nothing, ◌▸◌}
 
 -- ---- one function more
 

@@ -2,7 +2,7 @@
 use Rattle.std.specs.Prelude.{◌≡◌, ℕ, zero, suc, ◌+◌, ◌<◌, ◌≤◌, List, [], ◌∷◌, ◌++◌, length, take, slice_index}
 use Rattle.ir_core.specs.Module.{Module}
 use Rattle.ir_text.specs.Text.{text_of}
-use Rattle.clif_print.specs.Output.{Start, Puts}
+use Rattle.text_output.specs.Output.{Start, Puts}
 
 -- The part of the module's text that begins with a function and ends before another: with the text of the functions
 -- before the part it is the text of the functions before its end.

@@ -6,17 +6,18 @@ ghost use Rattle.clk_flow.specs.Faults.{Rose, HasCause};
 ghost use Rattle.clk_flow.specs.Whole.{AppendsPrefix};
 ghost use Rattle.ir_core.specs.Sound.{IsWhole};
 ghost use Rattle.ir_text.specs.Text.{text_of, function_text_of};
-ghost use Rattle.clif_print.specs.Output.{Start, Puts};
+ghost use Rattle.text_output.specs.Output.{Start, Puts};
 ghost use Rattle.print_workers.specs.Parts.{AreCuts, IsPart, PutsPart, before_function};
 ghost use Rattle.print_workers.specs.declared.parts.PrintErr.TheVariants as why;
 
 use crate::cuts::even_cuts;
 use clif_numbers::func_numbers;
-use clif_print::{MemoryOutput, Output, SinkOutput, put_function};
+use clif_print::put_function;
 use clk_flow::{Failed, Sink};
 use ir_core::{Func, Module};
 use std::alloc::{AllocError, Global};
 use std::thread::{Threads, map_indices};
+use text_output::{MemoryOutput, Output, SinkOutput};
 use thiserror::Error;
 
 /// Why a module was not printed.

@@ -1,10 +1,10 @@
 //! Bytes in hexadecimal digits.
 ghost use Rattle.std.specs.Prelude.{◌≡◌, ◌<◌, ℕ, List};
 ghost use Rattle.ir_text.specs.TextTree.{Text, spelled};
-ghost use Rattle.clif_print.specs.Output.{Start, Puts};
+ghost use Rattle.text_output.specs.Output.{Start, Puts};
 ghost use Rattle.program_run.specs.RunText as text;
 
-use clif_print::Output;
+use text_output::Output;
 
 /// A hexadecimal digit.
 fn hex_digit(digit: u8) -> u8

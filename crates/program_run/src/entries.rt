@@ -1,12 +1,12 @@
 //! The entry of a run, by the spelling of its name.
 ghost use Rattle.std.specs.Prelude.{◌≡◌, ◌≢◌, ◌++◌, ℕ, List, Some, MatchOption};
 ghost use Rattle.std.specs.Bool.{Decides};
-ghost use Rattle.clif_print.specs.Output.{Start, Puts};
+ghost use Rattle.text_output.specs.Output.{Start, Puts};
 ghost use Rattle.program_run.specs.EntryName.{spelling, IsSpelledEntry, HasNoEntry};
 
 use crate::values::put_name;
-use clif_print::Output;
 use ir_core::{FuncName, Module};
+use text_output::Output;
 
 /// An output that compares what it takes with a text. `rest` is what it still expects, and `None` once it took
 /// something else. Contracts have the text as what the start says was written.

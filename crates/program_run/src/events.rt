@@ -4,14 +4,14 @@ ghost use Rattle.clk_num.specs.Views.{data_of, data_of_all};
 ghost use Rattle.interp.specs.Outcome.{shown_of, event_of, end_of};
 ghost use Rattle.ir_text.specs.TextTree.{Text, spelled, separated, in_parentheses};
 ghost use Rattle.ir_text.specs.TextInstructions.{constant};
-ghost use Rattle.clif_print.specs.Output.{Start, Puts};
+ghost use Rattle.text_output.specs.Output.{Start, Puts};
 ghost use Rattle.program_run.specs.RunText.{shown_text, tags_text, event_text, events_text, end_text};
 
 use crate::lists::put_list;
-use crate::values::{put_exception, put_name, put_number, put_trap_code};
-use clif_print::Output;
+use crate::values::{put_exception, put_name, put_trap_code};
 use clk_num::Bits;
 use interp::{End, Event, Shown};
+use text_output::{Output, put_number};
 
 /// Puts values with commas between them.
 fn put_values<O: Output>(out: &mut O, values: &[Bits])

@@ -4,14 +4,14 @@ ghost use Rattle.clk_num.specs.Views.{data_of};
 ghost use Rattle.interp.specs.Outcome.{shown_of};
 ghost use Rattle.ir_text.specs.TextTree.{Text, spelled, more, separated};
 ghost use Rattle.ir_text.specs.TextInstructions.{constant};
-ghost use Rattle.clif_print.specs.Output.{Start, Puts};
+ghost use Rattle.text_output.specs.Output.{Start, Puts};
 ghost use Rattle.program_run.specs.RunText.{shown_text};
 
 use crate::bytes::put_bytes;
-use crate::values::{put_number, put_value};
-use clif_print::Output;
+use crate::values::put_value;
 use clk_num::Bits;
 use interp::Shown;
+use text_output::{Output, put_number};
 
 /// What stands in lists.
 pub(crate) trait Item {

@@ -2,11 +2,11 @@
 ghost use Rattle.std.specs.Prelude.{◌≡◌, ◌==◌, ℕ, List};
 ghost use Rattle.std.specs.List.{list_all};
 ghost use Rattle.ir_text.specs.TextTree.{Text, spelled};
-ghost use Rattle.clif_print.specs.Output.{Start, Puts};
+ghost use Rattle.text_output.specs.Output.{Start, Puts};
 ghost use Rattle.program_run.specs.RunText.{address_text, group_line, memory_text};
 
 use crate::bytes::{put_byte, put_bytes};
-use clif_print::Output;
+use text_output::Output;
 
 /// How many bytes stand on a line.
 const GROUP: usize = 16;

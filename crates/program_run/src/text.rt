@@ -5,15 +5,15 @@ ghost use Rattle.clk_flow.specs.Faults.{HasCause};
 ghost use Rattle.clk_flow.specs.Whole.{AppendsPrefix};
 ghost use Rattle.interp.specs.Outcome.{event_of, end_of, outcome_of};
 ghost use Rattle.ir_text.specs.TextTree.{Text, spelled};
-ghost use Rattle.clif_print.specs.Output.{Start, Puts};
+ghost use Rattle.text_output.specs.Output.{Start, Puts};
 ghost use Rattle.program_run.specs.RunText as definition;
 
 use crate::events::{put_end, put_event, put_events};
 use crate::memory::put_memory;
-use clif_print::{MemoryOutput, Output, SinkOutput};
 use clk_flow::{Failed, Sink};
 use interp::{End, Event, Outcome};
 use std::alloc::{AllocError, Global};
+use text_output::{MemoryOutput, Output, SinkOutput};
 
 /// Puts the text of a run.
 fn put_run<O: Output>(out: &mut O, outcome: &Outcome)

@@ -1,33 +1,16 @@
 //! Numbers, names, trap codes and exceptions.
-ghost use Rattle.std.specs.Prelude.{ℕ, List, ◌++◌};
-ghost use Rattle.std.specs.Fmt.{decimal};
+ghost use Rattle.std.specs.Prelude.{ℕ, List};
 ghost use Rattle.clk_num.specs.Views.{data_of};
 ghost use Rattle.ir_semantics.specs.Values.{i64};
 ghost use Rattle.ir_text.specs.TextTree.{Text, spelled, comma, ◌▹◌};
 ghost use Rattle.ir_text.specs.TextDeclarations.{function_name};
 ghost use Rattle.ir_text.specs.TextInstructions.{constant, trap_code};
-ghost use Rattle.clif_print.specs.Output.{Start, Puts};
+ghost use Rattle.text_output.specs.Output.{Start, Puts};
 ghost use Rattle.program_run.specs.RunText.{exception_text};
 
-use clif_print::Output;
 use clk_num::{Bits, TrapCode, Width};
 use ir_core::FuncName;
-use itoa::Integer;
-
-/// Puts the number in decimal digits, with a sign where it is below 0.
-pub(crate) fn put_number<O: Output, I: Integer>(out: &mut O, number: I)
-    ensures { Puts O.holds out.old out.new (I.text number) }
-{
-    out.put(itoa::Buffer::new().format(number).as_bytes());
-}
-
-/// Puts a word that ends with a number.
-fn put_numbered<O: Output>(out: &mut O, word: &[u8], number: u32)
-    ensures { Puts O.holds out.old out.new (word.now ++ decimal number) }
-{
-    out.put(word);
-    out.put_digits(u64::from(number));
-}
+use text_output::{Output, put_number, put_numbered};
 
 /// Puts a value, as signed.
 pub(crate) fn put_value<O: Output>(out: &mut O, value: &Bits)

@@ -1,4 +1,4 @@
-use Rattle.clif_print.proofs.Puts.{◌▸◌}
+use Rattle.text_output.proofs.Puts.{◌▸◌}
 use Rattle.clif_print.proofs.control.put_br_table.Goals as goal
 
 pub returns : goal.returns

@@ -1,7 +1,7 @@
 use Rattle.std.proofs.Common.{◌∷◌, suc, ℕ, List, drop, ap, sym, ◌∙◌, drop-cons, add-one}
 use Rattle.ir_text.specs.TextTree.{spelled}
 use Rattle.ir_text.specs.TextDeclarations.{declarations}
-use Rattle.clif_print.proofs.Puts.{goes}
+use Rattle.text_output.proofs.Puts.{goes}
 use Rattle.clif_print.proofs.declarations.put_declarations.Goals as goal
 
 pub loop-i-preserved : goal.loop-i-preserved

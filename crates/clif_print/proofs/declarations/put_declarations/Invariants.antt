@@ -1,7 +1,7 @@
 use Rattle.std.proofs.Common.{drop}
 use Rattle.ir_text.specs.TextTree.{spelled}
 use Rattle.ir_text.specs.TextDeclarations.{declarations}
-use Rattle.clif_print.proofs.Puts.{Going}
+use Rattle.text_output.proofs.Puts.{Going}
 use Rattle.clif_print.proofs.declarations.put_declarations.Given as goal
 
 abbrev pub invariant-loop-i : goal.invariant-loop-i

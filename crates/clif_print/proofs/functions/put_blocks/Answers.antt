@@ -4,10 +4,10 @@ use Rattle.ir_core.specs.Lookup.{definitions, line_definitions}
 use Rattle.ir_core.specs.Module.{Block}
 use Rattle.ir_text.specs.TextTree.{spelled}
 use Rattle.ir_text.specs.Text.{blocks}
-use Rattle.clif_print.specs.Output.{Puts}
+use Rattle.text_output.specs.Output.{Puts}
 use Rattle.clif_numbers.specs.Walk.{blocks_at}
 use Rattle.clif_numbers.proofs.Blocks.{first_block}
-use Rattle.clif_print.proofs.Puts.{◌▸◌}
+use Rattle.text_output.proofs.Puts.{◌▸◌}
 use Rattle.clif_numbers.proofs.Ranges.{all_few}
 use Rattle.clif_print.proofs.functions.put_blocks.Goals as goal
 

@@ -2,8 +2,8 @@ use Rattle.std.proofs.Common.{subst}
 use Rattle.ir_text.specs.Numbering.{Numbering}
 use Rattle.ir_text.specs.TextTree.{spelled}
 use Rattle.ir_text.specs.Text.{blocks}
-use Rattle.clif_print.specs.Output.{Puts}
-use Rattle.clif_print.proofs.Puts.{◌▸◌}
+use Rattle.text_output.specs.Output.{Puts}
+use Rattle.text_output.proofs.Puts.{◌▸◌}
 use Rattle.clif_print.proofs.functions.put_function.Goals as goal
 
 pub returns : goal.returns

@@ -4,7 +4,7 @@ use Rattle.ir_core.specs.Module.{Line}
 use Rattle.ir_text.specs.TextTree.{spelled}
 use Rattle.ir_text.specs.Text.{lines}
 use Rattle.ir_core.specs.Viewed.{line_of}
-use Rattle.clif_print.proofs.Puts.{goes}
+use Rattle.text_output.proofs.Puts.{goes}
 use Rattle.clif_print.proofs.functions.put_lines.Goals as goal
 
 pub lines-preserved : goal.lines-preserved

@@ -3,7 +3,7 @@ use Rattle.ir_core.specs.Lookup.{line_definitions}
 use Rattle.ir_text.specs.TextTree.{spelled}
 use Rattle.ir_text.specs.Text.{lines}
 use Rattle.ir_core.specs.Viewed.{line_of}
-use Rattle.clif_print.proofs.Puts.{Going}
+use Rattle.text_output.proofs.Puts.{Going}
 use Rattle.clif_print.proofs.functions.put_lines.Given as goal
 
 abbrev pub invariant-lines : goal.invariant-lines

@@ -5,7 +5,7 @@ use Rattle.ir_text.specs.TextTree.{spelled}
 use Rattle.ir_text.specs.Text.{more_blocks}
 use Rattle.clif_numbers.specs.Walk.{blocks_at}
 use Rattle.clif_numbers.proofs.Blocks.{first_in, rest_in}
-use Rattle.clif_print.proofs.Puts.{begins, goes, ◌▸◌}
+use Rattle.text_output.proofs.Puts.{begins, goes, ◌▸◌}
 use Rattle.clif_print.proofs.functions.put_more_blocks.Goals as goal
 
 pub loop-number-init : goal.loop-number-init

@@ -4,7 +4,7 @@ use Rattle.ir_core.specs.Lookup.{definitions, block_numbers}
 use Rattle.ir_text.specs.TextTree.{spelled}
 use Rattle.ir_text.specs.Text.{more_blocks}
 use Rattle.clif_numbers.specs.Walk.{blocks_at}
-use Rattle.clif_print.proofs.Puts.{Going}
+use Rattle.text_output.proofs.Puts.{Going}
 use Rattle.clif_print.proofs.functions.put_more_blocks.Given as goal
 
 abbrev pub invariant-loop-number : goal.invariant-loop-number

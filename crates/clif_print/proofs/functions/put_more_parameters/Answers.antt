@@ -1,7 +1,7 @@
 use Rattle.std.proofs.Common.{List, ℕ, ap}
 use Rattle.ir_text.specs.TextTree.{spelled, more}
 use Rattle.ir_text.specs.Text.{block_parameter}
-use Rattle.clif_print.proofs.Puts.{goes, ◌▸◌}
+use Rattle.text_output.proofs.Puts.{goes, ◌▸◌}
 use Rattle.clif_print.proofs.functions.put_more_parameters.Goals as goal
 
 pub params-preserved : goal.params-preserved

@@ -1,7 +1,7 @@
 use Rattle.std.proofs.Common.{length}
 use Rattle.ir_text.specs.TextTree.{spelled, more}
 use Rattle.ir_text.specs.Text.{block_parameter}
-use Rattle.clif_print.proofs.Puts.{Going}
+use Rattle.text_output.proofs.Puts.{Going}
 use Rattle.clif_print.proofs.functions.put_more_parameters.Given as goal
 
 abbrev pub invariant-params : goal.invariant-params

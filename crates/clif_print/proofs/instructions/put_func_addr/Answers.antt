@@ -1,4 +1,4 @@
-use Rattle.clif_print.proofs.Puts.{◌▸◌}
+use Rattle.text_output.proofs.Puts.{◌▸◌}
 use Rattle.clif_print.proofs.instructions.put_func_addr.Goals as goal
 
 pub returns : goal.returns

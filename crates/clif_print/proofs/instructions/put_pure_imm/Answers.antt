@@ -1,4 +1,4 @@
-use Rattle.clif_print.proofs.Puts.{◌▸◌}
+use Rattle.text_output.proofs.Puts.{◌▸◌}
 use Rattle.clif_print.proofs.instructions.put_pure_imm.Goals as goal
 
 pub returns : goal.returns

@@ -1,4 +1,4 @@
-use Rattle.clif_print.proofs.Puts.{◌▸◌}
+use Rattle.text_output.proofs.Puts.{◌▸◌}
 use Rattle.std.proofs.lemmas.Int.{to_z-of_z}
 use Rattle.clif_print.proofs.instructions.put_stack_store.Goals as goal
 

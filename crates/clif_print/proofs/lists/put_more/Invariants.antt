@@ -1,6 +1,6 @@
 use Rattle.std.proofs.Common.{length}
 use Rattle.ir_text.specs.TextTree.{spelled, more}
-use Rattle.clif_print.proofs.Puts.{Going}
+use Rattle.text_output.proofs.Puts.{Going}
 use Rattle.clif_print.proofs.lists.put_more.Given as goal
 
 abbrev pub invariant-items : goal.invariant-items

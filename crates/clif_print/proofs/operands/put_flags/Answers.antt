@@ -1,4 +1,4 @@
-use Rattle.clif_print.proofs.Puts.{◌▸◌}
+use Rattle.text_output.proofs.Puts.{◌▸◌}
 use Rattle.clif_print.proofs.operands.put_flags.Goals as goal
 
 pub returns : goal.returns

@@ -1,5 +1,5 @@
 use Rattle.std.proofs.Common.{[], ◌∙◌}
-use Rattle.clif_print.proofs.Results.{if_ok, no_sink}
+use Rattle.text_output.proofs.Results.{if_ok, no_sink}
 use Rattle.clif_print.proofs.text.func_text.Goals as goal
 
 pub returns : goal.returns

@@ -3,7 +3,7 @@ use Rattle.ir_core.specs.Module.{Function}
 use Rattle.ir_text.specs.TextTree.{spelled}
 use Rattle.ir_text.specs.Text.{more_functions}
 use Rattle.clif_numbers.proofs.Left.{next_left}
-use Rattle.clif_print.proofs.Puts.{goes, ◌▸◌}
+use Rattle.text_output.proofs.Puts.{goes, ◌▸◌}
 use Rattle.clif_print.proofs.text.put_module.Goals as goal
 
 pub loop-i-preserved : goal.loop-i-preserved

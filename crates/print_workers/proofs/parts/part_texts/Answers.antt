@@ -1,7 +1,7 @@
 use Rattle.std.proofs.Common.{length}
 use Rattle.print_workers.specs.Parts.{AreCuts}
 use Rattle.print_workers.proofs.PartsLemmas.{whole_text}
-use Rattle.clif_print.proofs.Results.{if_ok}
+use Rattle.text_output.proofs.Results.{if_ok}
 use Rattle.print_workers.proofs.parts.part_texts.Goals as goal
 
 pub returns : goal.returns

@@ -1,6 +1,6 @@
 use Rattle.std.proofs.Common.{ap}
 use Rattle.std.specs.List.{flat_map}
-use Rattle.clif_print.proofs.Puts.{goes}
+use Rattle.text_output.proofs.Puts.{goes}
 use Rattle.print_workers.proofs.parts.put_all.Goals as goal
 
 pub texts-preserved : goal.texts-preserved

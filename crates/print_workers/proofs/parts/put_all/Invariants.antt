@@ -1,6 +1,6 @@
 use Rattle.std.proofs.Common.{length}
 use Rattle.std.specs.List.{flat_map}
-use Rattle.clif_print.proofs.Puts.{Going}
+use Rattle.text_output.proofs.Puts.{Going}
 use Rattle.print_workers.proofs.parts.put_all.Given as goal
 
 abbrev pub invariant-texts : goal.invariant-texts

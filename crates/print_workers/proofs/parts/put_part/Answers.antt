@@ -1,5 +1,5 @@
 use Rattle.print_workers.proofs.PartsLemmas.{part_goes}
-use Rattle.clif_print.proofs.Puts.{◌▸◌}
+use Rattle.text_output.proofs.Puts.{◌▸◌}
 use Rattle.print_workers.proofs.parts.put_part.Goals as goal
 
 pub loop-i-preserved : goal.loop-i-preserved

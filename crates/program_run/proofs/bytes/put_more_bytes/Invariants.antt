@@ -1,6 +1,6 @@
 use Rattle.std.proofs.Common.{length}
 use Rattle.ir_text.specs.TextTree.{spelled}
-use Rattle.clif_print.proofs.Puts.{Going}
+use Rattle.text_output.proofs.Puts.{Going}
 use Rattle.program_run.specs.RunText.{more_bytes}
 use Rattle.program_run.proofs.bytes.put_more_bytes.Given as goal
 

@@ -2,7 +2,7 @@ use Rattle.std.proofs.Common.{List, [], ◌∷◌, ap, sym, ◌∙◌, map, appe
 use Rattle.interp.specs.declared.outcome.Event.{Event}
 use Rattle.interp.specs.Outcome.{event_of}
 use Rattle.ir_text.specs.TextTree.{spelled}
-use Rattle.clif_print.proofs.Puts.{goes, ◌▸◌}
+use Rattle.text_output.proofs.Puts.{goes, ◌▸◌}
 use Rattle.program_run.specs.RunText.{event_text, events_text}
 use Rattle.program_run.proofs.events.put_events.Goals as goal
 

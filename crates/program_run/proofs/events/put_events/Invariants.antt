@@ -1,7 +1,7 @@
 use Rattle.std.proofs.Common.{length, map}
 use Rattle.interp.specs.Outcome.{event_of}
 use Rattle.ir_text.specs.TextTree.{spelled}
-use Rattle.clif_print.proofs.Puts.{Going}
+use Rattle.text_output.proofs.Puts.{Going}
 use Rattle.program_run.specs.RunText.{events_text}
 use Rattle.program_run.proofs.events.put_events.Given as goal
 

@@ -2,7 +2,7 @@ use Rattle.std.proofs.Common.{subst}
 use Rattle.interp.specs.Outcome.{shown_of}
 use Rattle.ir_text.specs.TextTree.{Text, spelled}
 use Rattle.program_run.specs.RunText.{shown_text}
-use Rattle.clif_print.specs.Output.{Puts}
+use Rattle.text_output.specs.Output.{Puts}
 use Rattle.program_run.proofs.Separated.{separated_map}
 use Rattle.program_run.proofs.events.put_shown.Goals as goal
 

@@ -2,7 +2,7 @@ use Rattle.std.proofs.Common.{subst}
 use Rattle.clk_num.specs.Views.{data_of}
 use Rattle.ir_text.specs.TextTree.{Text, spelled}
 use Rattle.ir_text.specs.TextInstructions.{constant}
-use Rattle.clif_print.specs.Output.{Puts}
+use Rattle.text_output.specs.Output.{Puts}
 use Rattle.program_run.proofs.Separated.{separated_map}
 use Rattle.program_run.proofs.events.put_values.Goals as goal
 

@@ -1,6 +1,6 @@
 use Rattle.std.proofs.Common.{List, ap}
 use Rattle.ir_text.specs.TextTree.{spelled, more}
-use Rattle.clif_print.proofs.Puts.{goes, ◌▸◌}
+use Rattle.text_output.proofs.Puts.{goes, ◌▸◌}
 use Rattle.program_run.proofs.lists.put_more.Goals as goal
 
 pub items-preserved : goal.items-preserved

@@ -1,7 +1,7 @@
 use Rattle.std.proofs.Common.{◌≤◌, ◌*◌, ℕ, List, length, subst, sym, add-one, arith}
 use Rattle.ir_text.specs.TextTree.{spelled}
-use Rattle.clif_print.specs.Output.{Puts}
-use Rattle.clif_print.proofs.Puts.{◌▸◌}
+use Rattle.text_output.specs.Output.{Puts}
+use Rattle.text_output.proofs.Puts.{◌▸◌}
 use Rattle.program_run.specs.RunText.{group_line, groups_text}
 use Rattle.program_run.proofs.Groups.{group_is}
 use Rattle.program_run.proofs.memory.put_memory.Goals as goal

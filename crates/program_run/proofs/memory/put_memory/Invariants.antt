@@ -1,5 +1,5 @@
 use Rattle.ir_text.specs.TextTree.{spelled}
-use Rattle.clif_print.specs.Output.{Puts}
+use Rattle.text_output.specs.Output.{Puts}
 use Rattle.program_run.specs.RunText.{groups_text}
 use Rattle.program_run.proofs.memory.put_memory.Given as goal
 

@@ -1,6 +1,6 @@
 -- What an answer says, weakened.
 use Rattle.std.proofs.Common.{Result, Ok, Err, IfOk, None}
-use Rattle.clif_print.specs.Output.{Start}
+use Rattle.text_output.specs.Output.{Start}
 
 pub if_ok : {T E : Type 0} (r : Result T E) (P Q : T → Type 0) → ((v : T) → P v → Q v) → IfOk r P → IfOk r Q
 if_ok (Ok v) P Q f h = f v h

@@ -1,7 +1,7 @@
 //! Where a text goes, and the pieces that every text is made of.
 ghost use Rattle.std.specs.Prelude.{ℕ, List, ◌++◌};
 ghost use Rattle.std.specs.Fmt.{decimal};
-ghost use Rattle.clif_print.specs.Output.{Start, Puts};
+ghost use Rattle.text_output.specs.Output.{Start, Puts};
 
 use itoa::Integer;
 
@@ -23,14 +23,14 @@ pub trait Output {
 }
 
 /// Puts the number in decimal digits, with a sign where it is below 0.
-pub(crate) fn put_number<O: Output, I: Integer>(out: &mut O, number: I)
+pub fn put_number<O: Output, I: Integer>(out: &mut O, number: I)
     ensures { Puts O.holds out.old out.new (I.text number) }
 {
     out.put(itoa::Buffer::new().format(number).as_bytes());
 }
 
 /// Puts a word that ends with a number.
-pub(crate) fn put_numbered<O: Output>(out: &mut O, word: &[u8], number: u32)
+pub fn put_numbered<O: Output>(out: &mut O, word: &[u8], number: u32)
     ensures { Puts O.holds out.old out.new (word.now ++ decimal number) }
 {
     out.put(word);

@@ -1,6 +1,6 @@
 //! Text into a sink, in large pieces.
 ghost use Rattle.std.specs.Prelude.{◌≡◌, ◌≤◌, ◌+◌, ℕ, length, List, []};
-ghost use Rattle.clif_print.specs.Output.{Start, HasText, Takes, Ends};
+ghost use Rattle.text_output.specs.Output.{Start, HasText, Takes, Ends};
 
 use crate::output::Output;
 use crate::waiting::{MOST_DIGITS, Waiting};

@@ -1,7 +1,7 @@
 use Rattle.std.proofs.Common.{[], sym, ◌∙◌}
 use Rattle.std.proofs.lemmas.List.{append-nil}
-use Rattle.clif_print.proofs.Sinks.{given, dropped}
-use Rattle.clif_print.proofs.sink_output.SinkOutput.flush.Goals as goal
+use Rattle.text_output.proofs.Sinks.{given, dropped}
+use Rattle.text_output.proofs.sink_output.SinkOutput.flush.Goals as goal
 
 pub returns-clause-takes : goal.returns-clause-takes
 returns-clause-takes g c =

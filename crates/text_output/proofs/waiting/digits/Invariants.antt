@@ -1,6 +1,6 @@
 use Rattle.std.proofs.Common.{◌+◌, ◌-◌, ◌≡◌, length}
 use Rattle.std.specs.Fmt.{decimal}
-use Rattle.clif_print.proofs.waiting.digits.Given as goal
+use Rattle.text_output.proofs.waiting.digits.Given as goal
 
 abbrev pub invariant-four : goal.invariant-four
 invariant-four l = record {

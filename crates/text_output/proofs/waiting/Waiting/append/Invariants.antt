@@ -1,5 +1,5 @@
 use Rattle.std.proofs.Common.{◌≡◌, ◌++◌, ◌+◌, take}
-use Rattle.clif_print.proofs.waiting.Waiting.append.Given as goal
+use Rattle.text_output.proofs.waiting.Waiting.append.Given as goal
 
 abbrev pub invariant-bytes : goal.invariant-bytes
 invariant-bytes l = record {

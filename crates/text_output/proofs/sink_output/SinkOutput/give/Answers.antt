@@ -1,6 +1,6 @@
 use Rattle.std.proofs.Common.{[], refl}
-use Rattle.clif_print.proofs.Sinks.{given}
-use Rattle.clif_print.proofs.sink_output.SinkOutput.give.Goals as goal
+use Rattle.text_output.proofs.Sinks.{given}
+use Rattle.text_output.proofs.sink_output.SinkOutput.give.Goals as goal
 
 pub returns-clause-takes : goal.returns-clause-takes
 returns-clause-takes g c =

@@ -1,7 +1,7 @@
 -- Text that grows at its end.
 use Rattle.std.proofs.Common.{◌≡◌, ℕ, List, [], ◌++◌, refl, sym, ap, subst, ◌∙◌, append_assoc}
 use Rattle.std.proofs.lemmas.List.{append-nil}
-use Rattle.clif_print.specs.Output.{Start, Puts}
+use Rattle.text_output.specs.Output.{Start, Puts}
 
 infixr 4 ◌▸◌
 -- nothing

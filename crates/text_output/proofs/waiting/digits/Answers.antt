@@ -1,6 +1,6 @@
 use Rattle.std.proofs.Common.{arith}
-use Rattle.clif_print.proofs.Digits.{length_one, length_two, length_three, length_four, length_more, length_most}
-use Rattle.clif_print.proofs.waiting.digits.Goals as goal
+use Rattle.text_output.proofs.Digits.{length_one, length_two, length_three, length_four, length_more, length_most}
+use Rattle.text_output.proofs.waiting.digits.Goals as goal
 
 pub overflow_add-count : goal.overflow_add-count
 overflow_add-count c = omega (arith, c.four.invariant.count, length_most c.args.number (omega (arith, c.ranges.number.fits)))

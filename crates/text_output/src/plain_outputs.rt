@@ -1,6 +1,6 @@
 //! Outputs without a sink: a text in memory, and the length of a text.
 ghost use Rattle.std.specs.Prelude.{◌≡◌, ◌^◌, ◌-◌, ◌++◌, ℕ, List, [], false, length, min, IfOk};
-ghost use Rattle.clif_print.specs.Output.{Start, Puts};
+ghost use Rattle.text_output.specs.Output.{Start, Puts};
 
 use crate::output::Output;
 use crate::waiting::{MOST_DIGITS, Waiting};
@@ -87,20 +87,20 @@ impl Output for MemoryOutput {
 
 /// The length of a text, and the greatest number of its type for a longer one.
 #[derive(Drop)]
-pub(crate) struct LengthOutput {
+pub struct LengthOutput {
     len: u64,
 }
 
 impl LengthOutput {
     /// The output that took nothing.
-    pub(crate) fn new() -> LengthOutput
+    pub fn new() -> LengthOutput
         ensures { result.len ≡ 0 }
     {
         LengthOutput { len: 0 }
     }
 
     /// The length of what it took.
-    pub(crate) fn len(&self) -> u64
+    pub fn len(&self) -> u64
         ensures { result ≡ self.now.len }
     {
         self.len

@@ -8,7 +8,7 @@ use Rattle.std.specs.declared.option.Option.{Option}
 use Rattle.std.specs.Io.KnownBytes.{Appends}
 use Rattle.clk_flow.specs.Faults.{Rose, HasCause}
 use Rattle.clk_flow.specs.Whole.{AppendsPrefix}
-use Rattle.clif_print.specs.Output.{Start, SinkState, HasPart, HasAll, HasText, Takes, Ends}
+use Rattle.text_output.specs.Output.{Start, SinkState, HasPart, HasAll, HasText, Takes, Ends}
 
 rose_before : (a b c : ℕ) → a ≤ b → Rose b c → Rose a c
 rose_before a b c h r = elim r [ inl up ↦ inl (omega arith) | inr last ↦ inr last ]

@@ -1,0 +1,4 @@
+pub mod Digits
+pub mod Puts
+pub mod Results
+pub mod Sinks

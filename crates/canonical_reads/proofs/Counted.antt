@@ -6,7 +6,7 @@ use Rattle.ir_core.specs.Lookup.{definitions as defined_values, block_numbers}
 use Rattle.ir_core.specs.Module.{Block, Function}
 use Rattle.ir_core.specs.Size.{size_of}
 use Rattle.ir_core.specs.WellFormed.{WellFormed}
-use Rattle.clif_names.specs.Definitions.{Kind, Slots, Sigs, Callees, Blocks, Values, definitions}
+use Rattle.name_tables.specs.Definitions.{Kind, Slots, Sigs, Callees, Blocks, Values, definitions}
 use Rattle.clif_meaning.proofs.WholeLaws.{sigs_count, blocks_count, values_count}
 use Rattle.text_read_back.specs.Defining.{number_of}
 use Rattle.text_read_back.specs.RawOf as raws

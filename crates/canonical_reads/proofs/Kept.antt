@@ -38,9 +38,9 @@ use Rattle.clif_insts.specs.declared.raw.RawTarget.{RawTarget}
 use Rattle.clif_read.specs.declared.raw.RawDecl.{RawDecl}
 use Rattle.clif_read.specs.declared.raw.RawLine.{RawLine}
 use Rattle.clif_names.specs.declared.limits.Limit.TheVariants.{Entity, Alignment, Offset, Constant}
-use Rattle.clif_names.specs.Definitions.{lines}
+use Rattle.name_tables.specs.Definitions.{lines}
 use Rattle.clif_names.specs.Limits.{keeps, name_limits, maybe_number, decl_limits, arg_limits, target_limits, entry_limits, trap_limits, operand_limits, tag_limits, line_limits}
-use Rattle.clif_names.specs.Uses.{operand_targets}
+use Rattle.name_tables.specs.Uses.{operand_targets}
 use Rattle.text_read_back.specs.RawOf as raws
 use Rattle.clif_meaning.proofs.LimitLaws.{Kept, AllKept}
 use Rattle.canonical_reads.proofs.Shapes.{by_operands, by_immediate}

@@ -25,14 +25,14 @@ use Rattle.clif_read.specs.declared.raw.RawLine.{RawLine}
 use Rattle.clif_read.specs.declared.raw.RawLine.TheVariants as raw_lines
 use Rattle.clif_read.specs.declared.raw.RawTag.{RawTag}
 use Rattle.clif_read.specs.declared.raw.RawTag.TheVariants as tags
-use Rattle.clif_names.specs.declared.firsts.Def.{Def}
+use Rattle.name_tables.specs.declared.firsts.Def.{Def}
 use Rattle.clif_names.specs.declared.limits.Limit.{Limit}
 use Rattle.clif_names.specs.declared.limits.Limit.TheVariants.{Offset}
 use Rattle.clif_names.specs.declared.limits.Limited.{Limited}
-use Rattle.clif_names.specs.Definitions.{Kind, Slots, Sigs, Callees, Blocks, Values, slot_names, sig_names, callee_names, value_defs, definitions, lines}
+use Rattle.name_tables.specs.Definitions.{Kind, Slots, Sigs, Callees, Blocks, Values, slot_names, sig_names, callee_names, value_defs, definitions, lines}
 use Rattle.clif_names.specs.Limits.{name_limits, maybe_number, decl_limits, arg_limits, target_limits, entry_limits, trap_limits, constant_limits, operand_limits, tag_limits, line_limits}
 use Rattle.clif_names.specs.Typing.{gives_type, asks}
-use Rattle.clif_names.specs.Uses.{operand_values, operand_targets, operand_slots, operand_callees, operand_sigs, arg_values, target_values, tag_slots, line_uses, decl_uses, uses}
+use Rattle.name_tables.specs.Uses.{operand_values, operand_targets, operand_slots, operand_callees, operand_sigs, arg_values, target_values, tag_slots, line_uses, decl_uses, uses}
 use Rattle.text_read_back.specs.Bare as bare
 use Rattle.text_read_back.proofs.Lists.{flat_bare, map_bare}
 use Rattle.names_read_back.proofs.TextMeans.{bare_def, defs_bare}

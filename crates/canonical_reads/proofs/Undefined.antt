@@ -9,10 +9,10 @@ use Rattle.ir_text.specs.Writable.{FunctionWritable}
 use Rattle.clif_lex.specs.declared.faults.TextKind.TheVariants.{Undefined}
 use Rattle.clif_insts.specs.declared.raw.RawName.{RawName}
 use Rattle.clif_read.specs.declared.raw.RawFunction.{RawFunction}
-use Rattle.clif_names.specs.Definitions.{Kind, definitions}
+use Rattle.name_tables.specs.Definitions.{Kind, definitions}
 use Rattle.clif_names.specs.Faults.{FunctionFault}
-use Rattle.clif_names.specs.Uses.{uses}
-use Rattle.clif_names.specs.Words.{IsMissing}
+use Rattle.name_tables.specs.Uses.{uses}
+use Rattle.name_tables.specs.Words.{IsMissing}
 use Rattle.clif_meaning.proofs.Lists.{each_got}
 use Rattle.clif_meaning.proofs.WholeLaws.{word_in}
 use Rattle.text_read_back.specs.Bare as bare

@@ -17,9 +17,9 @@ use Rattle.clif_insts.specs.declared.raw.RawInst.{RawInst}
 use Rattle.clif_insts.specs.declared.raw.RawName.{RawName}
 use Rattle.clif_read.specs.declared.raw.RawFunction.{RawFunction}
 use Rattle.clif_read.specs.declared.raw.RawLine.TheVariants as raw_lines
-use Rattle.clif_names.specs.declared.firsts.Def.{Def}
-use Rattle.clif_names.specs.Chains.{onward, Ends, chain, or_lost, look}
-use Rattle.clif_names.specs.Definitions.{Values, Step, Param, Line, value_def, step_defs, block_steps, steps, defs_of, value_defs, names_of}
+use Rattle.name_tables.specs.declared.firsts.Def.{Def}
+use Rattle.name_tables.specs.Chains.{onward, Ends, chain, or_lost, look}
+use Rattle.name_tables.specs.Definitions.{Values, Step, Param, Line, value_def, step_defs, block_steps, steps, defs_of, value_defs, names_of}
 use Rattle.clif_names.specs.Faults.{FunctionFault}
 use Rattle.clif_names.specs.Typing.{asks, step_inst}
 use Rattle.text_read_back.specs.Bare as bare

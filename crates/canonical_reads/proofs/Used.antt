@@ -28,8 +28,8 @@ use Rattle.clif_insts.specs.declared.raw.RawEntry.{RawEntry}
 use Rattle.clif_read.specs.declared.raw.RawBlock.{RawBlock}
 use Rattle.clif_read.specs.declared.raw.RawDecl.{RawDecl}
 use Rattle.clif_read.specs.declared.raw.RawLine.{RawLine}
-use Rattle.clif_names.specs.Definitions.{Kind, Slots, Sigs, Callees, Blocks, Values, lines}
-use Rattle.clif_names.specs.Uses.{operand_values, operand_targets, operand_slots, operand_callees, operand_sigs, target_values, arg_values, tag_slots, line_uses, decl_uses, uses}
+use Rattle.name_tables.specs.Definitions.{Kind, Slots, Sigs, Callees, Blocks, Values, lines}
+use Rattle.name_tables.specs.Uses.{operand_values, operand_targets, operand_slots, operand_callees, operand_sigs, target_values, arg_values, tag_slots, line_uses, decl_uses, uses}
 use Rattle.text_read_back.specs.RawOf as raws
 use Rattle.text_read_back.proofs.Lists.{below_length}
 use Rattle.inline_acceptance.proofs.KeptLists.{each_map}

@@ -17,11 +17,11 @@ use Rattle.clif_read.specs.declared.raw.RawModule.{RawModule}
 use Rattle.clif_read.specs.Stretches.{IsModuleText}
 use Rattle.clif_names.specs.declared.limits.Limit.TheVariants.{Entity}
 use Rattle.clif_names.specs.declared.limits.Limited.{Limited}
-use Rattle.clif_names.specs.Definitions.{Kind, all_kinds, definitions, lines}
+use Rattle.name_tables.specs.Definitions.{Kind, all_kinds, definitions, lines}
 use Rattle.clif_names.specs.Faults.{FunctionFault, NoFault}
 use Rattle.clif_names.specs.Limits.{of_word, name_limits, decl_limits, line_limits, words, all_words, limits}
 use Rattle.clif_names.specs.Sizes.{raw_size}
-use Rattle.clif_names.specs.Uses.{uses}
+use Rattle.name_tables.specs.Uses.{uses}
 use Rattle.clif_meaning.specs.Meaning.{FunctionsMean, Means, SameSize}
 use Rattle.clif_meaning.specs.Reads.{Reads}
 use Rattle.inline_numbering.specs.Renamed.{CanonicalIsSame, SameIsRenamed, RenamedKeepsSize, NumberingKeepsText}

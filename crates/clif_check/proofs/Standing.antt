@@ -21,7 +21,7 @@ use Rattle.clif_read.specs.declared.raw.RawLine.TheVariants as line
 use Rattle.clif_read.specs.declared.raw.RawBlock.{RawBlock}
 use Rattle.clif_read.specs.declared.raw.RawFunction.{RawFunction}
 use Rattle.clif_read.specs.declared.raw.RawModule.{RawModule}
-use Rattle.clif_names.specs.Definitions.{Callees, Blocks, definitions, callee_names}
+use Rattle.name_tables.specs.Definitions.{Callees, Blocks, definitions, callee_names}
 use Rattle.clif_meaning.specs.Meaning.{numbers, lines_with, block_with, callees_from, FunctionMeans, FunctionsMean, Means}
 use Rattle.clif_meaning.specs.Spots.{line_spots, word_spots, function_spots, spots, item_spot, spot_of}
 use Rattle.clif_meaning.proofs.BoundLaws.{callees_long}

@@ -6,7 +6,7 @@ use Rattle.clif_read.specs.declared.raw.RawDecl.{RawDecl}
 use Rattle.clif_read.specs.declared.raw.RawDecl.TheVariants as decl
 use Rattle.clif_names.specs.declared.function.FunctionNames.{FunctionNames}
 use Rattle.clif_names.specs.FunctionNames.{value_number}
-use Rattle.clif_names.specs.Taking.{place_or_count}
+use Rattle.name_tables.specs.Taking.{place_or_count}
 
 -- where `sigs` has the number of each declared signature, and at last how many signatures there are
 abbrev pub numbers_in : FunctionNames → List ℕ → Renaming

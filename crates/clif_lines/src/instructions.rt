@@ -4,7 +4,7 @@ ghost use Rattle.ir_core.specs.Lists.{Each};
 ghost use Rattle.ir_core.specs.Module.{Plain};
 ghost use Rattle.ir_core.specs.Viewed as viewed;
 ghost use Rattle.clif_names.specs.Limits.{operand_limits, target_limits};
-ghost use Rattle.clif_names.specs.Uses.{operand_targets};
+ghost use Rattle.name_tables.specs.Uses.{operand_targets};
 ghost use Rattle.clif_lines.specs.WordRenaming.{renaming};
 ghost use Rattle.clif_lines.specs.Keeping.{AllKeep};
 ghost use Rattle.clif_meaning.specs.Instructions as spec;

@@ -48,7 +48,7 @@ fn with_attribute(param: Param, attribute: RawAttribute) -> Param
 }
 
 /// A parameter or a result.
-#[tactic(auto, using(clif_names::proofs::Folds::fold_one))]
+#[tactic(auto, using(name_tables::proofs::Folds::fold_one))]
 fn param(written: &RawParam) -> Param
     ensures { result ≡ spec.param_of written.now }
 {
@@ -65,7 +65,7 @@ fn param(written: &RawParam) -> Param
 }
 
 /// The parameters or the results.
-#[tactic(auto, using(clif_names::proofs::Folds::map_more))]
+#[tactic(auto, using(name_tables::proofs::Folds::map_more))]
 fn params(alloc: Global, written: &[RawParam]) -> Result<List<Param>, AllocError>
     ensures { IfOk result (λ list. list ≡ map spec.param_of written.now) }
 {

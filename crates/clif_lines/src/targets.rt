@@ -59,7 +59,7 @@ fn arg(words: &WordNumbers<'_>, written: RawArg) -> Arg
 }
 
 /// The arguments of a target.
-#[tactic(auto, using(clif_names::proofs::Folds::map_more))]
+#[tactic(auto, using(name_tables::proofs::Folds::map_more))]
 fn args(alloc: Global, words: &WordNumbers<'_>, written: &[RawArg]) -> Result<List<Arg>, AllocError>
     requires { AllKeep (flat_map arg_limits written.now) }
     ensures { IfOk result (λ list. list ≡ map (spec.arg_of (renaming words.now)) written.now) }
@@ -87,7 +87,7 @@ pub fn target(
 }
 
 /// The targets of a `br_table`.
-#[tactic(auto, using(clif_names::proofs::Folds::map_more))]
+#[tactic(auto, using(name_tables::proofs::Folds::map_more))]
 pub fn targets(
     alloc: Global,
     words: &WordNumbers<'_>,
@@ -124,7 +124,7 @@ fn entry(
 }
 
 /// An exception table.
-#[tactic(auto, using(clif_names::proofs::Folds::map_more))]
+#[tactic(auto, using(name_tables::proofs::Folds::map_more))]
 pub fn table(
     alloc: Global,
     words: &WordNumbers<'_>,
@@ -183,7 +183,7 @@ fn with_flag(flags: Flags, flag: RawFlag) -> Flags
 }
 
 /// The flags of an access.
-#[tactic(auto, using(clif_names::proofs::Folds::fold_one))]
+#[tactic(auto, using(name_tables::proofs::Folds::fold_one))]
 pub fn flags(written: &[RawFlag]) -> Flags
     ensures { result ≡ spec.flags_of written.now }
 {
@@ -216,7 +216,7 @@ fn tag(words: &WordNumbers<'_>, written: RawTag) -> Tag
 }
 
 /// The debug tags of an instruction.
-#[tactic(auto, using(clif_names::proofs::Folds::map_more))]
+#[tactic(auto, using(name_tables::proofs::Folds::map_more))]
 pub fn tags(alloc: Global, words: &WordNumbers<'_>, written: &[RawTag]) -> Result<Tags, AllocError>
     requires { AllKeep (flat_map tag_limits written.now) }
     ensures { IfOk result (λ list. list ≡ map (spec.tag_of (renaming words.now)) written.now) }

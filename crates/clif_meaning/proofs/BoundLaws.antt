@@ -19,15 +19,15 @@ use Rattle.clif_read.specs.declared.raw.RawLine.{RawLine}
 use Rattle.clif_read.specs.declared.raw.RawLine.TheVariants as line
 use Rattle.clif_read.specs.declared.raw.RawBlock.{RawBlock}
 use Rattle.clif_read.specs.declared.raw.RawFunction.{RawFunction}
-use Rattle.clif_names.specs.declared.firsts.Def.{Def}
-use Rattle.clif_names.specs.Definitions.{Sigs, Step, Param, Line, value_def, step_defs, block_steps, defs_of, names_of, slot_names, sig_names, callee_names}
-use Rattle.clif_names.specs.Uses.{decl_uses}
-use Rattle.clif_names.specs.Words.{IsDefined, place_in}
-use Rattle.clif_names.specs.Chains.{Ends, look, chain, HasNumber, IsNumbering, numbered, own_name}
+use Rattle.name_tables.specs.declared.firsts.Def.{Def}
+use Rattle.name_tables.specs.Definitions.{Sigs, Step, Param, Line, value_def, step_defs, block_steps, defs_of, names_of, slot_names, sig_names, callee_names}
+use Rattle.name_tables.specs.Uses.{decl_uses}
+use Rattle.name_tables.specs.Words.{IsDefined, place_in}
+use Rattle.name_tables.specs.Chains.{Ends, look, chain, HasNumber, IsNumbering, numbered, own_name}
 use Rattle.clif_meaning.specs.Meaning.{decl_slots, decl_sigs, sig_place, callees_from, block_with, lines_with}
-use Rattle.clif_names.proofs.ListedLaws.{one_end}
+use Rattle.name_tables.proofs.ChainLaws.{one_end, end_first}
+use Rattle.name_tables.proofs.DefinedWords.{place_here, place_there, place_front, not_first, look_defined, NoRepeats, look_own}
 use Rattle.clif_meaning.proofs.OneMeaning.{map_names}
-use Rattle.clif_names.proofs.Numberings.{end_first, place_here, place_there, place_front, not_first, look_defined, NoRepeats, look_own}
 
 -- ---- places
 

@@ -1,8 +1,8 @@
 -- The worked texts have these meanings and spots: each is computed.
 use Rattle.std.proofs.Common.{◌≡◌, true, refl}
 use Rattle.clk_num.specs.Numbers.{signed, wrapped, fits}
-use Rattle.clif_names.specs.Definitions.{value_defs}
-use Rattle.clif_names.specs.Chains.{chain}
+use Rattle.name_tables.specs.Definitions.{value_defs}
+use Rattle.name_tables.specs.Chains.{chain}
 use Rattle.clif_names.specs.Listed.{value_of, chains_end}
 use Rattle.clif_meaning.specs.Meaning.{FunctionMeans, function_with, value_types}
 use Rattle.clif_read.specs.declared.raw.RawFunction.{RawFunction}

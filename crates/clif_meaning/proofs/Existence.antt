@@ -4,7 +4,7 @@ use Rattle.std.specs.List.{enumerate_from}
 use Rattle.ir_core.specs.Module.{Function}
 use Rattle.clif_lex.specs.declared.faults.TextKind.TheVariants.{Untyped}
 use Rattle.clif_read.specs.declared.raw.RawFunction.{RawFunction}
-use Rattle.clif_names.specs.Definitions.{steps, value_defs}
+use Rattle.name_tables.specs.Definitions.{steps, value_defs}
 use Rattle.clif_meaning.specs.Meaning.{function_with, FunctionMeans, FunctionsMean, HasMeaning}
 use Rattle.clif_names.specs.Listed as listed
 use Rattle.clif_meaning.proofs.OneMeaning.{types_from}

@@ -7,10 +7,10 @@ use Rattle.clif_lex.specs.declared.faults.TextKind.TheVariants.{NumberRange}
 use Rattle.clif_read.specs.declared.raw.RawFunction.{RawFunction}
 use Rattle.clif_names.specs.declared.limits.Limit.TheVariants.{Entity}
 use Rattle.clif_names.specs.declared.limits.Limited.{Limited}
-use Rattle.clif_names.specs.Definitions.{lines}
+use Rattle.name_tables.specs.Definitions.{lines}
 use Rattle.clif_names.specs.FunctionNames.{NoFunctionFault}
 use Rattle.clif_names.specs.Limits.{keeps, of_word, all_words, name_limits, decl_limits, line_limits, limits}
-use Rattle.clif_names.proofs.Numberings.{in_place}
+use Rattle.name_tables.proofs.DefinedWords.{in_place}
 use Rattle.clif_meaning.proofs.Lists.{each_in}
 
 -- it keeps its limit

@@ -11,9 +11,9 @@ use Rattle.clif_insts.specs.declared.raw.RawName.{RawName}
 use Rattle.clif_read.specs.declared.raw.RawFuncName.{RawFuncName}
 use Rattle.clif_read.specs.declared.raw.RawFuncName.TheVariants as func_name
 use Rattle.clif_read.specs.declared.raw.RawFunction.{RawFunction}
-use Rattle.clif_names.specs.Definitions.{Kind, Values, definitions}
-use Rattle.clif_names.specs.Uses.{uses}
-use Rattle.clif_names.specs.Words.{IsDefined}
+use Rattle.name_tables.specs.Definitions.{Kind, Values, definitions}
+use Rattle.name_tables.specs.Uses.{uses}
+use Rattle.name_tables.specs.Words.{IsDefined}
 use Rattle.clif_names.specs.declared.limits.Limit.TheVariants.{Entity}
 use Rattle.clif_names.specs.Limits.{keeps, name_limits}
 use Rattle.clif_names.specs.Sizes.{raw_size}
@@ -24,7 +24,7 @@ use Rattle.clif_names.specs.Listed as listed
 use Rattle.clif_names.proofs.ListedLaws.{defined, undefined}
 use Rattle.clif_meaning.proofs.LimitLaws.{AllKept, name_kept}
 use Rattle.clif_meaning.proofs.WholeLaws.{meant_whole}
-use Rattle.clif_names.proofs.Numberings.{in_place}
+use Rattle.name_tables.proofs.DefinedWords.{in_place}
 use Rattle.clif_names.specs.FunctionNames.{NoFunctionFault}
 use Rattle.clif_read.specs.Marks.{name_spot}
 

@@ -17,18 +17,19 @@ use Rattle.clif_insts.specs.declared.raw.RawInst.{RawInst}
 use Rattle.clif_read.specs.declared.raw.RawLine.TheVariants as line
 use Rattle.clif_read.specs.declared.raw.RawFunction.{RawFunction}
 use Rattle.clif_lex.specs.declared.faults.TextKind.TheVariants.{Untyped}
-use Rattle.clif_names.specs.declared.firsts.Def.{Def}
-use Rattle.clif_names.specs.Definitions.{Step, Param, Line, steps, step_defs, value_def, defs_of, value_defs, names_of}
-use Rattle.clif_names.specs.Words.{place_in}
-use Rattle.clif_names.specs.Chains.{Ends, look, HasNumber, IsNumbering, numbered, own_name}
+use Rattle.name_tables.specs.declared.firsts.Def.{Def}
+use Rattle.name_tables.specs.Definitions.{Step, Param, Line, steps, step_defs, value_def, defs_of, value_defs, names_of}
+use Rattle.name_tables.specs.Words.{place_in}
+use Rattle.name_tables.specs.Chains.{Ends, look, HasNumber, IsNumbering, numbered, own_name}
 use Rattle.clif_names.specs.Typing.{asks, gives_type, step_inst, IsUntyped}
 use Rattle.clif_meaning.specs.Instructions.{operand_type, known, line_of, value_at}
 use Rattle.clif_meaning.specs.Meaning.{numbers, function_with, inst_type, step_types, value_types, types_for, form_types, FunctionMeans, FunctionsMean}
 use Rattle.clif_meaning.specs.Meaning.{OneMeaning}
 use Rattle.clif_meaning.proofs.Lists.{get_left, get_seam}
 use Rattle.clif_names.specs.Listed as listed
-use Rattle.clif_names.proofs.ListedLaws.{one_end, undefined}
-use Rattle.clif_names.proofs.Numberings.{end_first, place_front}
+use Rattle.clif_names.proofs.ListedLaws.{undefined}
+use Rattle.name_tables.proofs.ChainLaws.{one_end, end_first}
+use Rattle.name_tables.proofs.DefinedWords.{place_front}
 
 -- ---- numbers of words are one
 

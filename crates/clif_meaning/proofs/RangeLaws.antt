@@ -25,8 +25,8 @@ use Rattle.clif_read.specs.declared.raw.RawTag.{RawTag}
 use Rattle.clif_read.specs.declared.raw.RawTag.TheVariants as tag
 use Rattle.clif_read.specs.declared.raw.RawLine.{RawLine}
 use Rattle.clif_read.specs.declared.raw.RawLine.TheVariants as line
-use Rattle.clif_names.specs.Definitions.{Slots, Sigs, Callees, Blocks, Values}
-use Rattle.clif_names.specs.Uses.{operand_values, operand_targets, operand_slots, operand_callees, operand_sigs, arg_values, target_values, tag_slots, line_uses}
+use Rattle.name_tables.specs.Definitions.{Slots, Sigs, Callees, Blocks, Values}
+use Rattle.name_tables.specs.Uses.{operand_values, operand_targets, operand_slots, operand_callees, operand_sigs, arg_values, target_values, tag_slots, line_uses}
 use Rattle.clif_meaning.specs.Instructions.{instruction_of, nullary, trap_if, call, value_at, values_at, target_of, entry_of, tag_of, line_of, arg_of}
 
 -- ---- what the instruction uses is what is written, under its numbers

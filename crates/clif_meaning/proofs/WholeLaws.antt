@@ -9,7 +9,7 @@ use Rattle.ir_core.specs.declared.signatures.Sig.{Sig}
 use Rattle.ir_core.specs.Lists.{In, Different, Below, Each}
 use Rattle.ir_core.specs.Module.{Line, Block, Function}
 use Rattle.ir_core.specs.Lookup.{definitions as defined_values, line_definitions, block_numbers}
-use Rattle.clif_names.specs.Words.{place_among}
+use Rattle.name_tables.specs.Words.{place_among}
 use Rattle.ir_core.specs.Size.{total, sig_size, block_size, line_size, size_of}
 use Rattle.ir_core.specs.Sound.{Counts, counts_of, LineInRange, BlockInRange, instruction_count, IsSmall, IsSound, IsWhole}
 use Rattle.ir_core.specs.WellFormed.{WellFormed}
@@ -22,11 +22,11 @@ use Rattle.clif_read.specs.declared.raw.RawLine.{RawLine}
 use Rattle.clif_read.specs.declared.raw.RawLine.TheVariants as line
 use Rattle.clif_read.specs.declared.raw.RawBlock.{RawBlock}
 use Rattle.clif_read.specs.declared.raw.RawFunction.{RawFunction}
-use Rattle.clif_names.specs.declared.firsts.Def.{Def}
-use Rattle.clif_names.specs.Definitions.{Kind, Slots, Sigs, Callees, Blocks, Values, Step, Param, Line as Written, value_def, line_defs, step_defs, block_steps, steps, value_defs, names_of, definitions, lines}
-use Rattle.clif_names.specs.Uses.{line_uses, decl_uses, uses}
-use Rattle.clif_names.specs.Words.{IsDefined, place_in}
-use Rattle.clif_names.specs.Chains.{numbered}
+use Rattle.name_tables.specs.declared.firsts.Def.{Def}
+use Rattle.name_tables.specs.Definitions.{Kind, Slots, Sigs, Callees, Blocks, Values, Step, Param, Line as Written, value_def, line_defs, step_defs, block_steps, steps, value_defs, names_of, definitions, lines}
+use Rattle.name_tables.specs.Uses.{line_uses, decl_uses, uses}
+use Rattle.name_tables.specs.Words.{IsDefined, place_in}
+use Rattle.name_tables.specs.Chains.{numbered}
 use Rattle.clif_names.specs.Sizes.{raw_size}
 use Rattle.clif_names.specs.Typing.{IsUntyped}
 use Rattle.clif_meaning.specs.Meaning.{numbers, inst_type, decl_sigs, block_with, lines_with, function_with, value_types, FunctionMeans}
@@ -35,7 +35,7 @@ use Rattle.clif_meaning.proofs.OneMeaning.{counts}
 use Rattle.clif_meaning.proofs.SizeLaws.{same_size}
 use Rattle.clif_meaning.proofs.RangeLaws.{WordsInRange, line_in_range}
 use Rattle.clif_meaning.proofs.BoundLaws.{place_below, value_below, slots_long, callees_long, sig_below, callees_below, blocks_define, own_place}
-use Rattle.clif_names.proofs.Numberings.{NoRepeats, no_repeats_behind, not_behind}
+use Rattle.name_tables.proofs.DefinedWords.{NoRepeats, no_repeats_behind, not_behind}
 
 -- ---- lists
 

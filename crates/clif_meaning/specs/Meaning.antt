@@ -46,11 +46,11 @@ use Rattle.clif_read.specs.declared.raw.RawLine.TheVariants as line
 use Rattle.clif_read.specs.declared.raw.RawBlock.{RawBlock}
 use Rattle.clif_read.specs.declared.raw.RawFunction.{RawFunction}
 use Rattle.clif_read.specs.declared.raw.RawModule.{RawModule}
-use Rattle.clif_names.specs.Definitions.{Slots, Callees, Blocks, Step, Param as Parameter, Line as Written, steps}
-use Rattle.clif_names.specs.Definitions.{definitions, value_defs}
-use Rattle.clif_names.specs.Words.{place_in}
+use Rattle.name_tables.specs.Definitions.{Slots, Callees, Blocks, Step, Param as Parameter, Line as Written, steps}
+use Rattle.name_tables.specs.Definitions.{definitions, value_defs}
+use Rattle.name_tables.specs.Words.{place_in}
 use Rattle.clif_names.specs.Sizes.{raw_size}
-use Rattle.clif_names.specs.Chains.{IsNumbering}
+use Rattle.name_tables.specs.Chains.{IsNumbering}
 use Rattle.clif_names.specs.Faults.{NoFault}
 use Rattle.clif_meaning.specs.Instructions.{natural, type_for, known, line_of}
 

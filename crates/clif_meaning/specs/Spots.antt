@@ -9,7 +9,7 @@ use Rattle.clif_read.specs.declared.raw.RawLine.{RawLine}
 use Rattle.clif_read.specs.declared.raw.RawLine.TheVariants as line
 use Rattle.clif_read.specs.declared.raw.RawFunction.{RawFunction}
 use Rattle.clif_read.specs.declared.raw.RawModule.{RawModule}
-use Rattle.clif_names.specs.Definitions.{Callees, Blocks, definitions}
+use Rattle.name_tables.specs.Definitions.{Callees, Blocks, definitions}
 use Rattle.clif_read.specs.Marks.{name_spot}
 
 -- the spots of a function and of its items by their numbers

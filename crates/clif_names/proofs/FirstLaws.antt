@@ -10,9 +10,9 @@ use Rattle.clif_names.specs.declared.first.NamesFault.{NamesFault}
 use Rattle.clif_names.specs.declared.least.LeastSpots.{LeastSpots}
 use Rattle.clif_names.specs.Faults.{FunctionFault, IsFault, IsOneTooMany, ListFault, InSomeFunction, RepeatsName, rank, Before}
 use Rattle.clif_names.specs.FirstOf.{IsFirstFault, or_earlier, first_of}
-use Rattle.clif_names.specs.Least.{IsLeast}
+use Rattle.name_tables.specs.Least.{IsLeast}
 use Rattle.clif_names.specs.LeastSpots.{AreLeast, joined, no_spots}
-use Rattle.clif_names.proofs.LeastLaws.{get_push, get_front, get_last, least_along, least_of_both}
+use Rattle.name_tables.proofs.LeastLaws.{get_push, get_front, get_last, least_along, least_of_both}
 
 -- two sets of faults together
 pub joined_least : (P Q : TextKind → ℕ → Type 0) (a b : LeastSpots) → AreLeast P a → AreLeast Q b → AreLeast (λ k s. P k s ⊎ Q k s) (joined a b)

@@ -12,32 +12,32 @@ use Rattle.clif_read.specs.declared.raw.RawDecl.TheVariants as decl
 use Rattle.clif_read.specs.declared.raw.RawFunction.{RawFunction}
 use Rattle.clif_names.specs.declared.limits.Limit.TheVariants.{Entity}
 use Rattle.clif_names.specs.declared.limits.Limited.{Limited}
-use Rattle.clif_names.specs.declared.links.End.{End}
-use Rattle.clif_names.specs.declared.names.Names.{Names}
+use Rattle.name_tables.specs.declared.links.End.{End}
+use Rattle.name_tables.specs.declared.names.Names.{Names}
 use Rattle.clif_names.specs.declared.uses.Uses.{Uses}
-use Rattle.clif_names.specs.Aliases.{link_of, least_endless}
-use Rattle.clif_names.specs.Chains.{IsEndless}
-use Rattle.clif_names.specs.Defining.{no_tables, define_value, defined}
-use Rattle.clif_names.specs.Definitions.{Kind, Slots, Sigs, Callees, Blocks, Values, all_kinds, definitions, steps, value_defs, lines}
+use Rattle.name_tables.specs.Aliases.{link_of, least_endless}
+use Rattle.name_tables.specs.Chains.{IsEndless}
+use Rattle.name_tables.specs.Defining.{no_tables, define_value, defined}
+use Rattle.name_tables.specs.Definitions.{Kind, Slots, Sigs, Callees, Blocks, Values, all_kinds, definitions, steps, value_defs, lines}
 use Rattle.clif_read.specs.Marks.{name_spot}
 use Rattle.clif_names.specs.Faults.{FunctionFault}
-use Rattle.clif_names.specs.Least.{IsLeast, earlier_of, earlier_spot}
+use Rattle.name_tables.specs.Least.{IsLeast, earlier_of, earlier_spot}
 use Rattle.clif_names.specs.LeastSpots.{AreLeast, earliest, least_of, too_large_of}
 use Rattle.clif_names.specs.Limits.{of_word, keeps, words, all_words, limits, name_limits, decl_limits, line_limits, IsOutside}
-use Rattle.clif_names.specs.Links as places
+use Rattle.name_tables.specs.Links as places
 use Rattle.clif_names.specs.Noting.{note}
 use Rattle.clif_names.specs.Sizes.{raw_size, greatest_size}
-use Rattle.clif_names.specs.Taking.{no_names, declare, refer}
+use Rattle.name_tables.specs.Taking.{no_names, declare, refer}
 use Rattle.clif_names.specs.Typing.{IsUntyped}
-use Rattle.clif_names.specs.Uses.{uses}
+use Rattle.name_tables.specs.Uses.{uses}
 use Rattle.clif_names.specs.Using.{table_at, note_name, use_decl, use_function, uses_of}
-use Rattle.clif_names.specs.Words.{Repeats, IsMissing}
-use Rattle.clif_names.proofs.ChainPlaces.{number, Firsts, firsts}
-use Rattle.clif_names.proofs.DefiningLaws.{names_at, defined_names, defined_values}
-use Rattle.clif_names.proofs.EndlessLaws.{endless_least}
+use Rattle.name_tables.specs.Words.{Repeats, IsMissing}
+use Rattle.name_tables.proofs.ChainPlaces.{number, Firsts, firsts}
+use Rattle.name_tables.proofs.DefiningLaws.{names_at, defined_names, defined_values}
+use Rattle.name_tables.proofs.EndlessLaws.{endless_least}
 use Rattle.clif_names.proofs.LateLaws.{use_step, steps_used, UntypedAt, late}
-use Rattle.clif_names.proofs.LeastLaws.{least_of_both, least_along, SomeBad, least_of_list, add_spot, add_none}
-use Rattle.clif_names.proofs.TakingLaws.{IsAbove, declared, taken}
+use Rattle.name_tables.proofs.LeastLaws.{least_of_both, least_along, SomeBad, least_of_list, add_spot, add_none}
+use Rattle.name_tables.proofs.TakingLaws.{IsAbove, declared, taken}
 use Rattle.clif_names.proofs.UntypedLaws.{untyped_up, untyped_down}
 use Rattle.clif_names.proofs.UsingLaws.{each_kind, Adds, adds_function}
 

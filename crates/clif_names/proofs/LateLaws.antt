@@ -15,33 +15,24 @@ use Rattle.clif_read.specs.declared.raw.RawTag.{RawTag}
 use Rattle.clif_read.specs.declared.raw.RawTag.TheVariants as tag
 use Rattle.clif_read.specs.declared.raw.RawLine.TheVariants as line
 use Rattle.clif_read.specs.declared.raw.RawBlock.{RawBlock}
-use Rattle.clif_names.specs.declared.firsts.Def.{Def}
-use Rattle.clif_names.specs.declared.links.End.{End}
-use Rattle.clif_names.specs.declared.links.End.TheVariants.{At, Nowhere, Endless}
-use Rattle.clif_names.specs.declared.names.Names.{Names}
+use Rattle.name_tables.specs.declared.firsts.Def.{Def}
+use Rattle.name_tables.specs.declared.links.End.{End}
+use Rattle.name_tables.specs.declared.links.End.TheVariants.{At, Nowhere, Endless}
+use Rattle.name_tables.specs.declared.names.Names.{Names}
 use Rattle.clif_names.specs.declared.uses.Uses.{Uses}
-use Rattle.clif_names.specs.Definitions.{Step, Param, Line, step_defs, defs_of, names_of, block_steps}
-use Rattle.clif_names.specs.Least.{IsLeast, earlier_spot}
-use Rattle.clif_names.specs.Taking.{no_names, declare, refer}
+use Rattle.name_tables.specs.Definitions.{Step, Param, Line, step_defs, defs_of, names_of, block_steps}
+use Rattle.name_tables.specs.Least.{IsLeast, earlier_spot}
+use Rattle.name_tables.specs.Taking.{no_names, declare, refer}
 use Rattle.clif_names.specs.Typing.{asks, step_inst}
-use Rattle.clif_names.specs.Uses.{operand_values, operand_targets}
+use Rattle.name_tables.specs.Uses.{operand_values, operand_targets}
 use Rattle.clif_names.specs.Using.{use_tag, use_arg, use_target, note_operands, use_operands, is_late_at, ask_operand, ask_type, next_count, define, use_line, define_param, use_block}
-use Rattle.clif_names.proofs.LeastLaws.{get_push, get_front, get_last, least_add, least_same}
-use Rattle.clif_names.proofs.ListParts.{fold_map}
-use Rattle.clif_names.proofs.WordPlaces.{at, at_end, position_new, position_kept}
-use Rattle.clif_names.proofs.LateWords.{IsLate}
+use Rattle.name_tables.proofs.LeastLaws.{get_push, get_front, get_last, least_add, least_same}
+use Rattle.name_tables.proofs.ListParts.{fold_map}
+use Rattle.name_tables.proofs.TakingLaws.{declared_more}
+use Rattle.name_tables.proofs.WordPlaces.{at, at_end, position_new, position_within, position_front}
+use Rattle.name_tables.proofs.LateWords.{IsLate}
 
--- ---- places of words
-
-pub position_within : (p : ℕ → Bool) (ws : List ℕ) (i : ℕ) → position p ws ≡ Some i → (i ≡ at p ws) × (at p ws < length ws)
-position_within p ws i h = elim (leb_tells (suc (at p ws)) (length ws)) [
-  | inl t ↦ (let k = rw t.0 at h in let e : at p ws ≡ i = cc in (sym e, t.1))
-  | inr f ↦ absurd (let k = rw f.0 at h in cc)
-]
-
-pub position_front : (p : ℕ → Bool) (more ws : List ℕ) (i : ℕ) → position p ws ≡ Some i → position p (ws ++ more) ≡ Some i
-position_front p [] ws i h = rw append-nil h
-position_front p (y ∷ more) ws i h = rw (← append_assoc ws (y ∷ []) more) (position_front p more (ws ++ y ∷ []) i (position_kept p ws y (position_within p ws i h).1 ∙ h))
+-- ---- the count of words
 
 -- the count of the words that are defined so far
 count_next : (k : ℕ) (t : Names) (n : RawName) (more : List ℕ) → k ≡ length t.words → next_count k (position (nat_eq n.number) ((declare t n).words ++ more)) ≡ length (declare t n).words
@@ -59,17 +50,6 @@ count_next k t n more h = by (position (nat_eq n.number) t.words) refl
           | inl s ↦ rw s.0 (sym (length-append t.words (n.number ∷ [])))
           | inr d ↦ absurd (d.1 (sym h))
         ])
-
--- the words so far are the first ones of all
-pub declared_more : (names : List RawName) (t : Names) → (more : List ℕ) × ((fold declare t names).words ≡ t.words ++ more)
-unfolding declare
-declared_more [] t = ([], sym (append-nil t.words))
-declared_more (n ∷ names) t = by (position (nat_eq n.number) t.words) refl (declared_more names (declare t n))
-  where
-    by : (o : Option ℕ) → position (nat_eq n.number) t.words ≡ o → (more : List ℕ) × ((fold declare (declare t n) names).words ≡ (declare t n).words ++ more)
-        → (more : List ℕ) × ((fold declare (declare t n) names).words ≡ t.words ++ more)
-    by (Some p) e q = (q.0, q.1 ∙ rw e refl)
-    by None e q = (n.number ∷ q.0, q.1 ∙ rw e (append_assoc t.words (n.number ∷ []) q.0))
 
 record Defines (u v : Uses) (count : ℕ) : Type 0 where
   defined : v.defined ≡ count

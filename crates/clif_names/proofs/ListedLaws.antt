@@ -13,11 +13,11 @@ use Rattle.clif_lex.specs.declared.faults.TextKind.TheVariants.{BadChar, BadNumb
 use Rattle.clif_insts.specs.declared.raw.RawName.{RawName}
 use Rattle.clif_read.specs.declared.raw.RawFunction.{RawFunction}
 use Rattle.clif_read.specs.declared.raw.RawModule.{RawModule}
-use Rattle.clif_names.specs.declared.firsts.Def.{Def}
-use Rattle.clif_names.specs.Definitions.{Kind, all_kinds, Slots, Sigs, Callees, Blocks, Values, Step, definitions, steps, defs_of, value_defs, names_of}
-use Rattle.clif_names.specs.Uses.{uses}
-use Rattle.clif_names.specs.Words.{IsDefined, Repeats, IsMissing}
-use Rattle.clif_names.specs.Chains.{Ending, Ends, Lost, look, chain, or_lost, onward, IsEndless, HasNumber}
+use Rattle.name_tables.specs.declared.firsts.Def.{Def}
+use Rattle.name_tables.specs.Definitions.{Kind, all_kinds, Slots, Sigs, Callees, Blocks, Values, Step, definitions, steps, defs_of, value_defs, names_of}
+use Rattle.name_tables.specs.Uses.{uses}
+use Rattle.name_tables.specs.Words.{IsDefined, Repeats, IsMissing}
+use Rattle.name_tables.specs.Chains.{Ending, Ends, Lost, look, chain, IsEndless, HasNumber}
 use Rattle.clif_names.specs.declared.limits.Limited.{Limited}
 use Rattle.clif_names.specs.Limits.{limits, keeps, IsOutside}
 use Rattle.clif_names.specs.Sizes.{raw_size, greatest_size, most_functions}
@@ -25,6 +25,7 @@ use Rattle.clif_names.specs.Typing.{step_inst, IsUntyped}
 use Rattle.clif_read.specs.Marks.{name_spot}
 use Rattle.clif_names.specs.Faults.{FunctionFault, ListFault, Before, rank, SameName}
 use Rattle.clif_names.specs.Listed
+use Rattle.name_tables.proofs.ChainLaws.{found_at, in_found, one_end}
 
 -- ---- lists
 
@@ -86,37 +87,12 @@ outside_listed : (ns : List Limited) (spot : ℕ) → IsOutside ns spot → In s
 outside_listed ns spot (i, n, at, here, out) =
     rw (sym here) (in_flat Listed.outside_at ns i n n.spot at (when_false (keeps n.limit n.value) n.spot (λ e. let f = sym out ∙ e in cc)))
 
--- a definition that is found stands somewhere
-pub found_at : (ds : List Def) (n : ℕ) (d : Def) → look ds n ≡ Some d → (i : ℕ) × (slice_get ds i ≡ Some d)
-found_at [] n d h = absurd cc
-found_at (x ∷ xs) n d h = elim (eqb_tells n x.name.number) [
-  | inl t ↦ (zero, let g = rw t.0 at h in g)
-  | inr f ↦ (let g = rw f.0 at h in let p = found_at xs n d g in (suc p.0, p.1))
-]
-
 endless_listed : (ds : List Def) (spot : ℕ) → IsEndless ds spot → In spot (Listed.endless ds)
 endless_listed ds spot (n, d, found, here, never) =
     let p = found_at ds n d found in
     rw (sym here) (in_flat (Listed.endless_at ds) ds p.0 d d.name.spot p.1 (rw (never (length ds)) (inl refl)))
 
 -- ---- late operands
-
--- a chain has one end
-pub one_end : (ds : List Def) (k j : ℕ) (d : Def) (a b : Ending) → chain ds k d ≡ Some a → chain ds j d ≡ Some b → a ≡ b
-unfolding chain
-one_end ds zero j d a b h g = absurd cc
-one_end ds (suc k) zero d a b h g = absurd cc
-one_end ds (suc k) (suc j) d a b h g = by d.target h g (λ e. one_end ds k j e a b)
-  where
-    next : (o : Option Def) → or_lost o (chain ds k) ≡ Some a → or_lost o (chain ds j) ≡ Some b
-        → ((e : Def) → chain ds k e ≡ Some a → chain ds j e ≡ Some b → a ≡ b) → a ≡ b
-    next None h g more = cc
-    next (Some e) h g more = more e h g
-
-    by : (t : Option RawName) → onward t d (λ m. or_lost (look ds m.number) (chain ds k)) ≡ Some a → onward t d (λ m. or_lost (look ds m.number) (chain ds j)) ≡ Some b
-        → ((e : Def) → chain ds k e ≡ Some a → chain ds j e ≡ Some b → a ≡ b) → a ≡ b
-    by None h g more = cc
-    by (Some m) h g more = next (look ds m.number) h g more
 
 late_listed : (ds : List Def) (before rest : List Step) (i : ℕ) (s : Step) (spot : ℕ) → slice_get rest i ≡ Some s
     → In spot (Listed.late_inst ds (before ++ take i rest) (step_inst s)) → In spot (Listed.late_from ds before rest)
@@ -287,11 +263,6 @@ ends_by : (ds : List Def) (d : Def) (o : Option Ending) → chain ds (length ds)
 ends_by ds d None c h = absurd cc
 ends_by ds d (Some Lost) c h = absurd cc
 ends_by ds d (Some (Ends e)) c h = (e, (length ds, c), refl)
-
-pub in_found : (ds : List Def) (i : ℕ) (d : Def) → slice_get ds i ≡ Some d → In d ds
-in_found [] i d at = absurd cc
-in_found (x ∷ xs) zero d at = inl (let e : x ≡ d = cc in sym e)
-in_found (x ∷ xs) (suc i) d at = inr (in_found xs i d at)
 
 word_number : (ds : List Def) (n : ℕ) → Listed.chains_end ds ≡ true → (o : Option Def) → look ds n ≡ o → HasNumber ds o (Listed.word_place ds o)
 word_number ds n ends None found = refl

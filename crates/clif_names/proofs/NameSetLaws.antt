@@ -15,11 +15,11 @@ use Rattle.clif_read.specs.declared.raw.RawFuncName.TheVariants as func_name
 use Rattle.clif_read.specs.declared.raw.RawFunction.{RawFunction}
 use Rattle.clif_read.specs.Marks.{name_spot}
 use Rattle.clif_names.specs.Faults.{SameName, RepeatsName, IsOneTooMany}
-use Rattle.clif_names.specs.Least.{IsLeast, earlier_spot}
+use Rattle.name_tables.specs.Least.{IsLeast, earlier_spot}
 use Rattle.indexmap.specs.IndexSet.{keys}
 use Rattle.clif_names.specs.declared.repeated.NameSet.{NameSet}
 use Rattle.clif_names.specs.NameSets.{Holds, Has, IsEmptySet, AddsName, inserted, same_pair}
-use Rattle.clif_names.proofs.LeastLaws.{get_push, get_front, get_last, least_add, least_same}
+use Rattle.name_tables.proofs.LeastLaws.{get_push, get_front, get_last, least_add, least_same}
 
 -- ---- keys
 

@@ -4,17 +4,17 @@ use Rattle.std.specs.Prelude.{nat_eq}
 use Rattle.std.proofs.lemmas.Bool.{eq-eqb}
 use Rattle.std.proofs.lemmas.Bool.Decides.{eqb_tells, leb_tells}
 use Rattle.clif_lex.specs.declared.faults.TextKind.TheVariants.{Duplicate}
-use Rattle.clif_names.specs.declared.names.Names.{Names}
+use Rattle.name_tables.specs.declared.names.Names.{Names}
 use Rattle.clif_names.specs.declared.uses.Uses.{Uses}
-use Rattle.clif_names.specs.Definitions.{definitions}
+use Rattle.name_tables.specs.Definitions.{definitions}
 use Rattle.clif_names.specs.FunctionNames.{WordsPlaced}
-use Rattle.clif_names.specs.Taking.{place_or_count}
-use Rattle.clif_names.specs.Uses.{uses}
+use Rattle.name_tables.specs.Taking.{place_or_count}
+use Rattle.name_tables.specs.Uses.{uses}
 use Rattle.clif_names.specs.Using.{table_at}
-use Rattle.clif_names.specs.Words.{place_among}
+use Rattle.name_tables.specs.Words.{place_among}
 use Rattle.clif_names.proofs.FunctionLaws.{table_is}
-use Rattle.clif_names.proofs.TakingLaws.{taken, words_are, numbers_of}
-use Rattle.clif_names.proofs.WordPlaces.{at, le_length}
+use Rattle.name_tables.proofs.TakingLaws.{taken, words_are, numbers_of}
+use Rattle.name_tables.proofs.WordPlaces.{at, le_length}
 
 among : (ws : List ℕ) (n : ℕ) → at (nat_eq n) ws ≡ place_among ws n
 among [] n = refl

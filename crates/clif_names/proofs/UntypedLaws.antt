@@ -4,18 +4,18 @@ use Rattle.std.specs.Prelude.{nat_eq, fold, position}
 use Rattle.std.proofs.lemmas.Bool.Decides.{eqb_tells}
 use Rattle.std.proofs.lemmas.List.{take-append-drop}
 use Rattle.clif_read.specs.declared.raw.RawFunction.{RawFunction}
-use Rattle.clif_names.specs.declared.links.End.{End}
-use Rattle.clif_names.specs.declared.tables.Tables.{Tables}
-use Rattle.clif_names.specs.Aliases.{link_of}
-use Rattle.clif_names.specs.Definitions.{Values, definitions, steps, defs_of, names_of, value_defs}
-use Rattle.clif_names.specs.Links as places
-use Rattle.clif_names.specs.Taking.{no_names, declare}
+use Rattle.name_tables.specs.declared.links.End.{End}
+use Rattle.name_tables.specs.declared.tables.Tables.{Tables}
+use Rattle.name_tables.specs.Aliases.{link_of}
+use Rattle.name_tables.specs.Definitions.{Values, definitions, steps, defs_of, names_of, value_defs}
+use Rattle.name_tables.specs.Links as places
+use Rattle.name_tables.specs.Taking.{no_names, declare}
 use Rattle.clif_names.specs.Typing.{IsUntyped, DefinedBefore}
-use Rattle.clif_names.proofs.ChainPlaces.{number, place, Firsts, chain_same}
-use Rattle.clif_names.proofs.ChainWords.{late_words, words_late}
-use Rattle.clif_names.proofs.LateLaws.{UntypedAt, words_of, words_split, position_within, position_front}
-use Rattle.clif_names.proofs.TakingLaws.{declared}
-use Rattle.clif_names.proofs.WordPlaces.{at_end}
+use Rattle.name_tables.proofs.ChainPlaces.{number, place, Firsts, chain_same}
+use Rattle.name_tables.proofs.ChainWords.{late_words, words_late}
+use Rattle.clif_names.proofs.LateLaws.{UntypedAt, words_of, words_split}
+use Rattle.name_tables.proofs.TakingLaws.{declared}
+use Rattle.name_tables.proofs.WordPlaces.{at_end, position_within, position_front}
 
 one_more : (n : ℕ) → 1 + n ≡ suc n
 one_more n = omega arith

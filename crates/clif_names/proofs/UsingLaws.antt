@@ -21,17 +21,17 @@ use Rattle.clif_read.specs.declared.raw.RawBlockParam.{RawBlockParam}
 use Rattle.clif_read.specs.declared.raw.RawBlock.{RawBlock}
 use Rattle.clif_read.specs.declared.raw.RawFunction.{RawFunction}
 use Rattle.clif_names.specs.declared.limits.Limited.{Limited}
-use Rattle.clif_names.specs.declared.links.End.{End}
-use Rattle.clif_names.specs.declared.names.Names.{Names}
+use Rattle.name_tables.specs.declared.links.End.{End}
+use Rattle.name_tables.specs.declared.names.Names.{Names}
 use Rattle.clif_names.specs.declared.uses.Uses.{Uses}
-use Rattle.clif_names.specs.Definitions.{Kind, Slots, Sigs, Callees, Blocks, Values, lines}
+use Rattle.name_tables.specs.Definitions.{Kind, Slots, Sigs, Callees, Blocks, Values, lines}
 use Rattle.clif_names.specs.Limits.{name_limits, decl_limits, tag_limits, arg_limits, target_limits, operand_limits, line_limits}
 use Rattle.clif_names.specs.Noting.{note}
-use Rattle.clif_names.specs.Taking.{refer}
+use Rattle.name_tables.specs.Taking.{refer}
 use Rattle.clif_names.specs.Typing.{asks}
-use Rattle.clif_names.specs.Uses.{decl_uses, line_uses, uses, tag_slots, arg_values, target_values, operand_values, operand_slots, operand_callees, operand_sigs, operand_targets}
+use Rattle.name_tables.specs.Uses.{decl_uses, line_uses, uses, tag_slots, arg_values, target_values, operand_values, operand_slots, operand_callees, operand_sigs, operand_targets}
 use Rattle.clif_names.specs.Using.{table_at, note_name, use_decl, use_tag, use_arg, use_target, note_operands, use_operands, ask_operand, ask_type, define, use_line, define_param, use_block, use_function}
-use Rattle.clif_names.proofs.ListParts.{flat_none, flat_one, flat_flat}
+use Rattle.name_tables.proofs.ListParts.{flat_none, flat_one, flat_flat}
 
 -- these words of each kind are used, and these numbers are seen
 pub record Adds (u v : Uses) (words : Kind → List RawName) (numbers : List Limited) : Type 0 where

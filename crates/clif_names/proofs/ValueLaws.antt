@@ -6,26 +6,28 @@ use Rattle.std.proofs.lemmas.List.{append-nil, length-map, map-append, take_all}
 use Rattle.std.proofs.lemmas.Option.{slice_get-get_or, slice_get_within}
 use Rattle.ir_core.specs.Size.{total}
 use Rattle.clif_insts.specs.declared.raw.RawName.{RawName}
-use Rattle.clif_names.specs.declared.firsts.Def.{Def}
-use Rattle.clif_names.specs.declared.links.End.{End}
-use Rattle.clif_names.specs.declared.names.Names.{Names}
-use Rattle.clif_names.specs.declared.tables.Tables.{Tables}
+use Rattle.name_tables.specs.declared.firsts.Def.{Def}
+use Rattle.name_tables.specs.declared.links.End.{End}
+use Rattle.name_tables.specs.declared.names.Names.{Names}
+use Rattle.name_tables.specs.declared.tables.Tables.{Tables}
 use Rattle.clif_names.specs.declared.uses.Uses.{Uses}
-use Rattle.clif_names.specs.Aliases.{AreCounts, link_of, value_count}
-use Rattle.clif_names.specs.Chains.{Ending, Ends, Lost, look, chain, own_name, numbered, HasNumber, IsNumbering}
-use Rattle.clif_names.specs.Defining.{no_tables, define_value}
-use Rattle.clif_names.specs.Definitions.{Values, definitions, value_defs, names_of}
+use Rattle.name_tables.specs.Aliases.{AreCounts, link_of, value_count}
+use Rattle.name_tables.specs.Chains.{Ending, Ends, Lost, look, chain, own_name, numbered, HasNumber, IsNumbering}
+use Rattle.name_tables.specs.Defining.{no_tables, define_value}
+use Rattle.name_tables.specs.Definitions.{Values, definitions, value_defs, names_of}
 use Rattle.clif_names.specs.FunctionNames.{value_at, ValuesNumbered}
-use Rattle.clif_names.specs.Links as places
+use Rattle.name_tables.specs.Links as places
 use Rattle.clif_names.specs.Listed.{has_end, chains_end}
-use Rattle.clif_names.specs.Uses.{uses}
-use Rattle.clif_names.specs.Words.{place_in}
-use Rattle.clif_names.proofs.ChainPlaces.{number, place, look_place}
-use Rattle.clif_names.proofs.ChainWords.{word_place, end_kept}
+use Rattle.name_tables.specs.Uses.{uses}
+use Rattle.name_tables.specs.Words.{place_in}
+use Rattle.name_tables.proofs.ChainPlaces.{number, place, look_place}
+use Rattle.name_tables.proofs.ChainWords.{word_place, end_kept}
 use Rattle.clif_names.proofs.FunctionLaws.{table_is, same_firsts, right_firsts, same_late}
-use Rattle.clif_names.proofs.ListedLaws.{found_at, in_found, all_in}
-use Rattle.clif_names.proofs.Numberings.{NoRepeats, end_first, place_here, place_there, no_repeats, all_end}
-use Rattle.clif_names.proofs.TakingLaws.{Holds, holds_none, holds_next, fresh, taken}
+use Rattle.clif_names.proofs.ListedLaws.{all_in}
+use Rattle.name_tables.proofs.ChainLaws.{found_at, in_found, end_first}
+use Rattle.name_tables.proofs.DefinedWords.{NoRepeats, place_here, place_there}
+use Rattle.clif_names.proofs.Numberings.{no_repeats, all_end}
+use Rattle.name_tables.proofs.TakingLaws.{Holds, holds_none, holds_next, fresh, taken}
 
 -- ---- counts
 

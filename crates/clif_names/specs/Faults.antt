@@ -14,10 +14,10 @@ use Rattle.clif_read.specs.declared.raw.RawFuncName.TheVariants as func_name
 use Rattle.clif_read.specs.declared.raw.RawFunction.{RawFunction}
 use Rattle.clif_read.specs.declared.raw.RawModule.{RawModule}
 use Rattle.clif_read.specs.Marks.{name_spot}
-use Rattle.clif_names.specs.Definitions.{Kind, definitions, value_defs}
-use Rattle.clif_names.specs.Uses.{uses}
-use Rattle.clif_names.specs.Words.{Repeats, IsMissing}
-use Rattle.clif_names.specs.Chains.{IsEndless}
+use Rattle.name_tables.specs.Definitions.{Kind, definitions, value_defs}
+use Rattle.name_tables.specs.Uses.{uses}
+use Rattle.name_tables.specs.Words.{Repeats, IsMissing}
+use Rattle.name_tables.specs.Chains.{IsEndless}
 use Rattle.clif_names.specs.Limits.{limits, IsOutside}
 use Rattle.clif_names.specs.Sizes.{raw_size, greatest_size, most_functions}
 use Rattle.clif_names.specs.Typing.{IsUntyped}

@@ -3,17 +3,17 @@ use Rattle.std.specs.Prelude.{◌≡◌, ℕ, nat_eq, List, length, get_or, Opti
 use Rattle.clif_read.specs.declared.raw.RawFunction.{RawFunction}
 use Rattle.clif_lex.specs.declared.faults.TextKind.{TextKind}
 use Rattle.clif_names.specs.declared.function.FunctionNames.{FunctionNames}
-use Rattle.clif_names.specs.declared.links.End.{End}
-use Rattle.clif_names.specs.declared.links.End.TheVariants.{At, Nowhere, Endless}
-use Rattle.clif_names.specs.Aliases.{AreCounts, link_of, least_endless}
-use Rattle.clif_names.specs.Chains.{IsNumbering}
-use Rattle.clif_names.specs.Defining.{defined}
-use Rattle.clif_names.specs.Definitions.{Kind, definitions, value_defs}
+use Rattle.name_tables.specs.declared.links.End.{End}
+use Rattle.name_tables.specs.declared.links.End.TheVariants.{At, Nowhere, Endless}
+use Rattle.name_tables.specs.Aliases.{AreCounts, link_of, least_endless}
+use Rattle.name_tables.specs.Chains.{IsNumbering}
+use Rattle.name_tables.specs.Defining.{defined}
+use Rattle.name_tables.specs.Definitions.{Kind, definitions, value_defs}
 use Rattle.clif_names.specs.Faults.{FunctionFault}
-use Rattle.clif_names.specs.Links.{AreEnds}
-use Rattle.clif_names.specs.Taking.{place_or_count}
+use Rattle.name_tables.specs.Links.{AreEnds}
+use Rattle.name_tables.specs.Taking.{place_or_count}
 use Rattle.clif_names.specs.Using.{table_at, uses_of, use_function}
-use Rattle.clif_names.specs.Words.{place_in}
+use Rattle.name_tables.specs.Words.{place_in}
 
 -- The words are those that the function defines and uses, the ends those of the chains of its alias lines, and the
 -- counts those of the values before each definition.

@@ -7,7 +7,7 @@ use Rattle.clif_read.specs.declared.raw.RawFunction.{RawFunction}
 use Rattle.clif_names.specs.declared.least.LeastSpots.{LeastSpots}
 use Rattle.clif_names.specs.declared.uses.Uses.{Uses}
 use Rattle.clif_read.specs.Marks.{name_spot}
-use Rattle.clif_names.specs.Least.{IsLeast, earlier_of}
+use Rattle.name_tables.specs.Least.{IsLeast, earlier_of}
 use Rattle.clif_names.specs.Sizes.{raw_size, greatest_size}
 
 -- of each kind of fault the least spot, or there is no fault of the kind

@@ -1,7 +1,3 @@
-pub mod Definitions
-pub mod Uses
-pub mod Words
-pub mod Chains
 pub mod Limits
 pub mod Sizes
 pub mod Typing
@@ -9,12 +5,6 @@ pub mod Faults
 pub mod Listed
 pub mod Rows
 pub mod Examples
-pub mod Dense
-pub mod Least
-pub mod Taking
-pub mod Defining
-pub mod Links
-pub mod Aliases
 pub mod Noting
 pub mod Using
 pub mod LeastSpots

@@ -29,8 +29,8 @@ use Rattle.clif_read.specs.declared.raw.RawFunction.{RawFunction}
 use Rattle.clif_names.specs.declared.limits.Limit.{Limit}
 use Rattle.clif_names.specs.declared.limits.Limit.TheVariants.{Entity, SlotSize, Alignment, UserTrap, Offset, Constant}
 use Rattle.clif_names.specs.declared.limits.Limited.{Limited}
-use Rattle.clif_names.specs.Definitions.{Kind, all_kinds, definitions, lines}
-use Rattle.clif_names.specs.Uses.{uses, operand_targets}
+use Rattle.name_tables.specs.Definitions.{Kind, all_kinds, definitions, lines}
+use Rattle.name_tables.specs.Uses.{uses, operand_targets}
 
 abbrev pub within : ℤ → ℤ → ℤ → Bool
 within low high z = int_le low z && int_le z high

@@ -12,11 +12,11 @@ use Rattle.clif_read.specs.declared.raw.RawFuncName.{RawFuncName}
 use Rattle.clif_read.specs.declared.raw.RawFuncName.TheVariants as func_name
 use Rattle.clif_read.specs.declared.raw.RawFunction.{RawFunction}
 use Rattle.clif_read.specs.declared.raw.RawModule.{RawModule}
-use Rattle.clif_names.specs.declared.firsts.Def.{Def}
-use Rattle.clif_names.specs.Definitions.{Kind, all_kinds, Step, definitions, steps, defs_of, value_defs, names_of}
-use Rattle.clif_names.specs.Uses.{uses}
-use Rattle.clif_names.specs.Words.{place_in}
-use Rattle.clif_names.specs.Chains.{Ending, Ends, Lost, look, chain, numbered, IsNumbering}
+use Rattle.name_tables.specs.declared.firsts.Def.{Def}
+use Rattle.name_tables.specs.Definitions.{Kind, all_kinds, Step, definitions, steps, defs_of, value_defs, names_of}
+use Rattle.name_tables.specs.Uses.{uses}
+use Rattle.name_tables.specs.Words.{place_in}
+use Rattle.name_tables.specs.Chains.{Ending, Ends, Lost, look, chain, numbered, IsNumbering}
 use Rattle.clif_names.specs.declared.limits.Limited.{Limited}
 use Rattle.clif_names.specs.Limits.{limits, keeps}
 use Rattle.clif_names.specs.Sizes.{raw_size, greatest_size, most_functions}

@@ -3,7 +3,7 @@ use Rattle.std.specs.Prelude.{ℕ, Option, None, Some, if◌then◌else◌}
 use Rattle.clif_insts.specs.declared.raw.RawNumber.{RawNumber}
 use Rattle.clif_names.specs.declared.limits.Limit.{Limit}
 use Rattle.clif_names.specs.declared.limits.Limited.{Limited}
-use Rattle.clif_names.specs.Least.{earlier_spot}
+use Rattle.name_tables.specs.Least.{earlier_spot}
 use Rattle.clif_names.specs.Limits.{keeps, of_number}
 
 unfoldable pub note : Option ℕ → Limited → Option ℕ

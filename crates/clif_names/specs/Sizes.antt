@@ -14,7 +14,7 @@ use Rattle.clif_read.specs.declared.raw.RawLine.{RawLine}
 use Rattle.clif_read.specs.declared.raw.RawLine.TheVariants as line
 use Rattle.clif_read.specs.declared.raw.RawBlock.{RawBlock}
 use Rattle.clif_read.specs.declared.raw.RawFunction.{RawFunction}
-use Rattle.clif_names.specs.Uses.{operand_values, operand_targets}
+use Rattle.name_tables.specs.Uses.{operand_values, operand_targets}
 
 abbrev pub signature_size : RawSignature → ℕ
 signature_size s = (1 + length s.params) + length s.results

@@ -7,10 +7,10 @@ use Rattle.clif_insts.specs.declared.raw.RawOperands.TheVariants as form
 use Rattle.clif_read.specs.declared.raw.RawLine.{RawLine}
 use Rattle.clif_read.specs.declared.raw.RawLine.TheVariants as line
 use Rattle.clif_read.specs.declared.raw.RawFunction.{RawFunction}
-use Rattle.clif_names.specs.declared.firsts.Def.{Def}
-use Rattle.clif_names.specs.Definitions.{Step, Param, Line, steps, defs_of, value_defs, names_of}
-use Rattle.clif_names.specs.Words.{IsDefined}
-use Rattle.clif_names.specs.Chains.{StandsFor}
+use Rattle.name_tables.specs.declared.firsts.Def.{Def}
+use Rattle.name_tables.specs.Definitions.{Step, Param, Line, steps, defs_of, value_defs, names_of}
+use Rattle.name_tables.specs.Words.{IsDefined}
+use Rattle.name_tables.specs.Chains.{StandsFor}
 
 -- the operand marked x in the forms `op[.T]`
 abbrev pub gives_type : RawOperands → Option RawName

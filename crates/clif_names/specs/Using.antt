@@ -21,20 +21,20 @@ use Rattle.clif_read.specs.declared.raw.RawBlockParam.{RawBlockParam}
 use Rattle.clif_read.specs.declared.raw.RawBlock.{RawBlock}
 use Rattle.clif_read.specs.declared.raw.RawFunction.{RawFunction}
 use Rattle.clif_names.specs.declared.limits.Limit.TheVariants.{Entity, Offset}
-use Rattle.clif_names.specs.declared.links.End.{End}
-use Rattle.clif_names.specs.declared.links.End.TheVariants.{At, Nowhere, Endless}
-use Rattle.clif_names.specs.declared.names.Names.{Names}
-use Rattle.clif_names.specs.declared.tables.Tables.{Tables}
+use Rattle.name_tables.specs.declared.links.End.{End}
+use Rattle.name_tables.specs.declared.links.End.TheVariants.{At, Nowhere, Endless}
+use Rattle.name_tables.specs.declared.names.Names.{Names}
+use Rattle.name_tables.specs.declared.tables.Tables.{Tables}
 use Rattle.clif_names.specs.declared.uses.Uses.{Uses}
-use Rattle.clif_names.specs.Least.{earlier_spot}
+use Rattle.name_tables.specs.Least.{earlier_spot}
 use Rattle.clif_names.specs.Limits.{of_word, of_number, name_limits, decl_limits, maybe_number, trap_limits}
 use Rattle.clif_names.specs.Limits.{entry_limits, operand_limits}
 use Rattle.clif_names.specs.Noting.{note}
-use Rattle.clif_names.specs.Taking.{refer}
+use Rattle.name_tables.specs.Taking.{refer}
 use Rattle.clif_names.specs.Typing.{asks}
-use Rattle.clif_names.specs.Definitions.{Kind, Slots, Sigs, Callees, Blocks, Values}
-use Rattle.clif_names.specs.Uses.{decl_uses, operand_values, operand_slots, operand_callees, operand_sigs}
-use Rattle.clif_names.specs.Uses.{operand_targets}
+use Rattle.name_tables.specs.Definitions.{Kind, Slots, Sigs, Callees, Blocks, Values}
+use Rattle.name_tables.specs.Uses.{decl_uses, operand_values, operand_slots, operand_callees, operand_sigs}
+use Rattle.name_tables.specs.Uses.{operand_targets}
 
 -- the words of a kind
 abbrev pub table_at : Uses → Kind → Names

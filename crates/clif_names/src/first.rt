@@ -1,16 +1,16 @@
 //! The first fault of names of a raw module.
 ghost use Rattle.std.specs.Prelude.{◌≡◌, IfOk};
 ghost use Rattle.clif_names.specs.Faults.{InSomeFunction, IsOneTooMany, ListFault};
-ghost use Rattle.clif_names.specs.Least.{IsLeast};
+ghost use Rattle.name_tables.specs.Least.{IsLeast};
 ghost use Rattle.clif_names.specs.FirstOf as spec;
 ghost use Rattle.clif_names.specs.LeastSpots.{AreLeast};
 
 use crate::function::FunctionNames;
 use crate::least::LeastSpots;
 use crate::repeated::repeated_name;
-use crate::spots::earlier_spot;
 use clif_lex::TextKind;
 use clif_read::{RawFunction, RawModule};
+use name_tables::earlier_spot;
 use std::alloc::{AllocError, Global};
 
 /// The most functions that a module may have.

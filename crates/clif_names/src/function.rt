@@ -3,15 +3,14 @@ ghost use Rattle.std.specs.Prelude.{◌≡◌, IfOk};
 ghost use Rattle.clif_names.specs.Faults.{FunctionFault};
 ghost use Rattle.clif_names.specs.FunctionNames.{AreNamesOf, end_of, value_number};
 ghost use Rattle.clif_names.specs.LeastSpots.{AreLeast};
-ghost use Rattle.clif_names.specs.Taking.{place_or_count};
+ghost use Rattle.name_tables.specs.Taking.{place_or_count};
 ghost use Rattle.clif_names.specs.Using.{uses_of};
 
-use crate::aliases::{endless, links, values_before};
 use crate::least::LeastSpots;
-use crate::links::{End, ends};
-use crate::tables::Tables;
 use crate::uses::Uses;
 use clif_read::RawFunction;
+use name_tables::aliases::{endless, links, values_before};
+use name_tables::{End, Tables, ends};
 use std::alloc::{AllocError, Global};
 
 /// The names of a function: its words by kind, and what its alias lines stand for.

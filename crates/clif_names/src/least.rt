@@ -3,9 +3,9 @@ ghost use Rattle.std.specs.Prelude.{◌≡◌};
 ghost use Rattle.clif_names.specs.LeastSpots as spec;
 
 use crate::sizes::function_size;
-use crate::spots::earlier_of;
 use crate::uses::Uses;
 use clif_read::RawFunction;
+use name_tables::earlier_of;
 
 /// The greatest size of a function.
 const GREATEST_SIZE: usize = 262_144;

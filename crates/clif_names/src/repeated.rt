@@ -1,15 +1,15 @@
 //! Names of functions that an earlier function has.
 ghost use Rattle.std.specs.Prelude.{◌≡◌, IfOk, OnOk, MatchBool, not};
 ghost use Rattle.clif_names.specs.Faults.{RepeatsName};
-ghost use Rattle.clif_names.specs.Least.{IsLeast};
+ghost use Rattle.name_tables.specs.Least.{IsLeast};
 ghost use Rattle.clif_names.specs.NameSets.{AddsName, Has, IsEmptySet, inserted, same_pair};
 ghost use Rattle.indexmap.specs.IndexSet.{keys};
 ghost use Rattle.std.specs.List.{list_any};
 
-use crate::spots::earlier_spot;
 use clif_insts::RawNumber;
 use clif_read::{RawFuncName, RawFunction};
 use indexmap::IndexSet;
+use name_tables::earlier_spot;
 use std::alloc::{AllocError, Global};
 
 /// The names of the functions so far.

@@ -1,18 +1,16 @@
 //! What a function uses: its words by kind, the numbers that it writes, and the operands whose types it asks for.
 ghost use Rattle.std.specs.Prelude.{◌≡◌, fold, map};
-ghost use Rattle.clif_names.specs.Uses as text;
+ghost use Rattle.name_tables.specs.Uses as text;
 ghost use Rattle.clif_names.specs.Using as spec;
 
 use crate::limits::{Limit, note, note_maybe, of_number, of_word};
-use crate::links::End;
-use crate::names::Names;
-use crate::operands::asks;
-use crate::spots::earlier_spot;
+use crate::typing::asks;
 use clif_insts::{RawArg, RawEntry, RawInst, RawName, RawNumber, RawOperands, RawTarget, RawTrap};
 use clif_read::{
     RawBlock, RawBlockParam, RawCalleeSig, RawDecl, RawFuncName, RawFunction, RawLine, RawTag,
 };
 use ir_core::{Boxed, Ty};
+use name_tables::{End, Names, earlier_spot};
 
 /// The words of a function by kind, with the first faults of its uses.
 #[derive(Drop)]
@@ -61,7 +59,7 @@ impl Uses {
         }
     }
 
-    #[tactic(auto, using(crate::proofs::Folds::fold_one))]
+    #[tactic(auto, using(name_tables::proofs::Folds::fold_one))]
     fn use_decls(&mut self, decls: &[RawDecl])
         ensures { self.new ≡ fold spec.use_decl self.old decls.now }
     {
@@ -81,7 +79,7 @@ impl Uses {
         }
     }
 
-    #[tactic(auto, using(crate::proofs::Folds::fold_one))]
+    #[tactic(auto, using(name_tables::proofs::Folds::fold_one))]
     fn use_tags(&mut self, tags: &[RawTag])
         ensures { self.new ≡ fold spec.use_tag self.old tags.now }
     {
@@ -101,7 +99,7 @@ impl Uses {
         }
     }
 
-    #[tactic(auto, using(crate::proofs::Folds::fold_one))]
+    #[tactic(auto, using(name_tables::proofs::Folds::fold_one))]
     fn use_target(&mut self, target: &RawTarget)
         ensures { self.new ≡ spec.use_target self.old target.now }
     {
@@ -111,7 +109,7 @@ impl Uses {
         }
     }
 
-    #[tactic(auto, using(crate::proofs::Folds::fold_one))]
+    #[tactic(auto, using(name_tables::proofs::Folds::fold_one))]
     fn use_targets(&mut self, targets: &[RawTarget])
         ensures { self.new ≡ fold spec.use_target self.old targets.now }
     {
@@ -120,7 +118,7 @@ impl Uses {
         }
     }
 
-    #[tactic(auto, using(crate::proofs::Folds::fold_map_more))]
+    #[tactic(auto, using(name_tables::proofs::Folds::fold_map_more))]
     fn use_table(&mut self, table: &[RawEntry])
         ensures { self.new ≡ fold spec.use_target self.old (map (λ e. e.target) table.now) }
     {
@@ -179,7 +177,7 @@ impl Uses {
         }
     }
 
-    #[tactic(auto, using(crate::proofs::Folds::fold_more))]
+    #[tactic(auto, using(name_tables::proofs::Folds::fold_more))]
     fn note_table(&mut self, table: &[RawEntry])
         ensures { self.new ≡ spec.note_table self.old table.now }
     {
@@ -253,7 +251,7 @@ impl Uses {
         }
     }
 
-    #[tactic(auto, using(crate::proofs::Folds::fold_one))]
+    #[tactic(auto, using(name_tables::proofs::Folds::fold_one))]
     fn define_all(&mut self, names: &[RawName])
         ensures { self.new ≡ fold spec.define self.old names.now }
     {
@@ -286,7 +284,7 @@ impl Uses {
         }
     }
 
-    #[tactic(auto, using(crate::proofs::Folds::fold_one))]
+    #[tactic(auto, using(name_tables::proofs::Folds::fold_one))]
     fn use_lines(&mut self, ends: &[End], lines: &[RawLine])
         ensures { self.new ≡ fold (spec.use_line ends.now) self.old lines.now }
     {
@@ -295,7 +293,7 @@ impl Uses {
         }
     }
 
-    #[tactic(auto, using(crate::proofs::Folds::fold_one))]
+    #[tactic(auto, using(name_tables::proofs::Folds::fold_one))]
     fn define_params(&mut self, params: &[RawBlockParam])
         ensures { self.new ≡ fold spec.define_param self.old params.now }
     {
@@ -311,7 +309,7 @@ impl Uses {
         self.use_lines(ends, block.lines.as_slice());
     }
 
-    #[tactic(auto, using(crate::proofs::Folds::fold_one))]
+    #[tactic(auto, using(name_tables::proofs::Folds::fold_one))]
     fn use_blocks(&mut self, ends: &[End], blocks: &[RawBlock])
         ensures { self.new ≡ fold (spec.use_block ends.now) self.old blocks.now }
     {

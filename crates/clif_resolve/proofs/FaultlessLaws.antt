@@ -9,7 +9,7 @@ use Rattle.clif_read.specs.declared.raw.RawModule.{RawModule}
 use Rattle.clif_names.specs.declared.least.LeastSpots.{LeastSpots}
 use Rattle.clif_names.specs.Faults.{FunctionFault, ListFault, NoFault}
 use Rattle.clif_names.specs.FunctionNames.{NoFunctionFault}
-use Rattle.clif_names.specs.Least.{IsLeast}
+use Rattle.name_tables.specs.Least.{IsLeast}
 use Rattle.clif_names.specs.LeastSpots.{AreLeast, has_none}
 use Rattle.clif_lines.proofs.Parting.{each_at}
 

@@ -25,7 +25,7 @@ use Rattle.clif_read.specs.declared.raw.RawLine.{RawLine}
 use Rattle.clif_read.specs.declared.raw.RawLine.TheVariants as line
 use Rattle.clif_read.specs.declared.raw.RawTag.{RawTag}
 use Rattle.clif_names.specs.declared.limits.Limit.TheVariants.{Entity}
-use Rattle.clif_names.specs.Definitions.{lines}
+use Rattle.name_tables.specs.Definitions.{lines}
 use Rattle.clif_names.specs.Limits.{all_words, decl_limits, line_limits, name_limits, of_word}
 use Rattle.clif_lines.specs.Keeping.{AllKeep, Keeps}
 use Rattle.clif_meaning.specs.Instructions.{known, line_of, type_for}

@@ -3,8 +3,8 @@ use Rattle.std.proofs.Common.{◌≡◌, ◌≢◌, ℕ, List, [], ◌∷◌, �
 use Rattle.std.specs.Prelude.{flat_map}
 use Rattle.clif_read.specs.declared.raw.RawFunction.{RawFunction}
 use Rattle.clif_names.specs.declared.function.FunctionNames.{FunctionNames}
-use Rattle.clif_names.specs.Chains.{IsNumbering}
-use Rattle.clif_names.specs.Definitions.{value_defs}
+use Rattle.name_tables.specs.Chains.{IsNumbering}
+use Rattle.name_tables.specs.Definitions.{value_defs}
 use Rattle.clif_names.specs.FunctionNames.{AreNamesOf, NoFunctionFault, value_number}
 use Rattle.clif_names.proofs.PlaceLaws.{words_placed}
 use Rattle.clif_names.proofs.ValueLaws.{values_numbered}

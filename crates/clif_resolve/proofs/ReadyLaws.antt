@@ -12,10 +12,10 @@ use Rattle.ir_semantics.specs.Renaming.{Renaming}
 use Rattle.clif_lex.specs.declared.faults.TextKind.TheVariants.{Duplicate, Untyped}
 use Rattle.clif_read.specs.declared.raw.RawBlock.{RawBlock}
 use Rattle.clif_read.specs.declared.raw.RawFunction.{RawFunction}
-use Rattle.clif_names.specs.Chains.{IsNumbering, look, numbered}
-use Rattle.clif_names.specs.Definitions.{Blocks, Callees, Sigs, Slots, Values, definitions, lines, steps, value_defs}
+use Rattle.name_tables.specs.Chains.{IsNumbering, look, numbered}
+use Rattle.name_tables.specs.Definitions.{Blocks, Callees, Sigs, Slots, Values, definitions, lines, steps, value_defs}
 use Rattle.clif_names.specs.FunctionNames.{NoFunctionFault}
-use Rattle.clif_names.specs.Uses.{decl_uses, line_uses}
+use Rattle.name_tables.specs.Uses.{decl_uses, line_uses}
 use Rattle.clif_resolve.specs.Declaring.{AreFew, declared, sigs_of}
 use Rattle.clif_resolve.specs.Filling.{IsReady, meant}
 use Rattle.clif_resolve.specs.FormTypes.{types_along}

@@ -17,8 +17,8 @@ use Rattle.clif_read.specs.declared.raw.RawBlock.{RawBlock}
 use Rattle.clif_read.specs.declared.raw.RawBlockParam.{RawBlockParam}
 use Rattle.clif_read.specs.declared.raw.RawLine.TheVariants as line
 use Rattle.clif_read.specs.declared.raw.RawFunction.{RawFunction}
-use Rattle.clif_names.specs.Definitions.{Step, Param, Line, block_steps, steps, value_defs}
-use Rattle.clif_names.specs.Chains.{IsNumbering}
+use Rattle.name_tables.specs.Definitions.{Step, Param, Line, block_steps, steps, value_defs}
+use Rattle.name_tables.specs.Chains.{IsNumbering}
 use Rattle.clif_names.specs.Typing.{gives_type, IsUntyped}
 use Rattle.clif_resolve.specs.Declaring.{declared}
 use Rattle.clif_resolve.specs.FormTypes.{type_after, with_step, step_types_after, types_along}

@@ -10,14 +10,14 @@ use Rattle.clif_read.specs.declared.raw.RawCalleeSig.TheVariants as callee_sig
 use Rattle.clif_read.specs.declared.raw.RawDecl.{RawDecl}
 use Rattle.clif_read.specs.declared.raw.RawDecl.TheVariants as decl
 use Rattle.clif_read.specs.declared.raw.RawFunction.{RawFunction}
-use Rattle.clif_names.specs.declared.firsts.Def.{Def}
+use Rattle.name_tables.specs.declared.firsts.Def.{Def}
 use Rattle.clif_names.specs.declared.function.FunctionNames.{FunctionNames}
-use Rattle.clif_names.specs.Chains.{HasNumber, numbered}
-use Rattle.clif_names.specs.Definitions.{Blocks, Callees, Sigs, Slots, definitions, sig_names}
+use Rattle.name_tables.specs.Chains.{HasNumber, numbered}
+use Rattle.name_tables.specs.Definitions.{Blocks, Callees, Sigs, Slots, definitions, sig_names}
 use Rattle.clif_names.specs.FunctionNames.{AreNamesOf, NoFunctionFault, WordsPlaced, value_number}
-use Rattle.clif_names.specs.Taking.{place_or_count}
-use Rattle.clif_names.specs.Words.{place_in}
-use Rattle.clif_names.proofs.Numberings.{place_here, place_there}
+use Rattle.name_tables.specs.Taking.{place_or_count}
+use Rattle.name_tables.specs.Words.{place_in}
+use Rattle.name_tables.proofs.DefinedWords.{place_here, place_there}
 use Rattle.clif_meaning.specs.Meaning.{decl_sigs, numbers, sig_place}
 use Rattle.clif_resolve.specs.Parts.{own_sigs}
 use Rattle.clif_lines.specs.WordNumbers.{numbers_in, sig_numbers}

@@ -10,7 +10,7 @@ use Rattle.clif_words.specs.declared.opcodes.Opcode.TheVariants as opcode
 use Rattle.clif_insts.specs.declared.raw.RawInst.{RawInst}
 use Rattle.clif_read.specs.declared.raw.RawLine.{RawLine}
 use Rattle.clif_read.specs.declared.raw.RawLine.TheVariants as line
-use Rattle.clif_names.specs.Definitions.{Step, Param as Parameter, Line as Written}
+use Rattle.name_tables.specs.Definitions.{Step, Param as Parameter, Line as Written}
 use Rattle.clif_resolve.specs.declared.forms.FormTypes.{FormTypes}
 use Rattle.clif_resolve.specs.declared.forms.FormTypes.TheVariants as form
 use Rattle.clif_meaning.specs.Instructions.{instruction_of, known, type_for}

@@ -2,8 +2,8 @@
 ghost use Rattle.std.specs.Prelude.{◌≡◌, ◌≢◌, [], ◌-◌, ◌<◌, ◌^◌, length, map, IfOk, IfSome, MatchOption, OnOk};
 ghost use Rattle.std.specs.List.{enumerate_from};
 ghost use Rattle.ir_core.specs.Sound.{IsWhole};
-ghost use Rattle.clif_names.specs.Chains.{IsNumbering};
-ghost use Rattle.clif_names.specs.Definitions.{value_defs};
+ghost use Rattle.name_tables.specs.Chains.{IsNumbering};
+ghost use Rattle.name_tables.specs.Definitions.{value_defs};
 ghost use Rattle.clif_names.specs.FunctionNames.{AreNamesOf, NoFunctionFault};
 ghost use Rattle.clif_lines.specs.WordRenaming.{renaming};
 ghost use Rattle.clif_resolve.specs.Declaring as declaring;

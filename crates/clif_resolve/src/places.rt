@@ -1,6 +1,6 @@
 //! Where the items of a module stand in its text.
 ghost use Rattle.std.specs.Prelude.{◌≡◌, IfOk, IsSome, Some, flat_map, map};
-ghost use Rattle.clif_names.specs.Definitions.{callee_names};
+ghost use Rattle.name_tables.specs.Definitions.{callee_names};
 ghost use Rattle.clif_resolve.specs.Places.{spots_of};
 ghost use Rattle.clif_read.specs.Marks as marks;
 ghost use Rattle.clif_meaning.specs.Spots as spec;
@@ -59,7 +59,7 @@ fn callee_spots(alloc: Global, decls: &[RawDecl]) -> Result<List<usize>, AllocEr
 }
 
 /// The spots of the words of blocks.
-#[tactic(auto, using(clif_names::proofs::Folds::map_more))]
+#[tactic(auto, using(name_tables::proofs::Folds::map_more))]
 fn block_spots(alloc: Global, blocks: &[RawBlock]) -> Result<List<usize>, AllocError>
     ensures { IfOk result (λ spots. spots ≡ map (λ b. b.block.spot) blocks.now) }
 {
@@ -84,7 +84,7 @@ fn line_spots(alloc: Global, lines: &[RawLine]) -> Result<List<usize>, AllocErro
 }
 
 /// The spots of the instructions of each block.
-#[tactic(auto, using(clif_names::proofs::Folds::map_more))]
+#[tactic(auto, using(name_tables::proofs::Folds::map_more))]
 fn inst_spots(alloc: Global, blocks: &[RawBlock]) -> Result<List<List<usize>>, AllocError>
     ensures { IfOk result (λ spots. spots ≡ map (λ b. flat_map spec.line_spots b.lines) blocks.now) }
 {

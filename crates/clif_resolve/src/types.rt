@@ -1,6 +1,6 @@
 //! The types of a function's values, in order of definition.
 ghost use Rattle.std.specs.Prelude.{◌≡◌, ◌++◌, fold, flat_map, map, slice_get, IfOk, OnOk};
-ghost use Rattle.clif_names.specs.Definitions.{block_steps, Line, Param};
+ghost use Rattle.name_tables.specs.Definitions.{block_steps, Line, Param};
 ghost use Rattle.clif_lines.specs.WordRenaming.{renaming};
 ghost use Rattle.clif_resolve.specs.FormTypes as spec;
 ghost use Rattle.clif_meaning.specs.Instructions.{known};
@@ -74,7 +74,7 @@ fn push_line(
 }
 
 /// Appends the types of a block's parameters.
-#[tactic(auto, using(clif_names::proofs::Folds::map_more))]
+#[tactic(auto, using(name_tables::proofs::Folds::map_more))]
 fn push_params(types: &mut Vec<Ty>, params: &[RawBlockParam]) -> Result<(), AllocError>
     ensures { OnOk result (types.new.items ≡ types.old.items ++ map (λ p. p.ty) params.now) }
 {
@@ -85,7 +85,7 @@ fn push_params(types: &mut Vec<Ty>, params: &[RawBlockParam]) -> Result<(), Allo
 }
 
 /// Appends the types of the results of lines.
-#[tactic(auto, using(clif_names::proofs::Folds::fold_map_more))]
+#[tactic(auto, using(name_tables::proofs::Folds::fold_map_more))]
 fn push_lines(
     types: &mut Vec<Ty>,
     func: &Func,
@@ -119,7 +119,7 @@ fn push_block(
 }
 
 /// The types of all values of a function that has its declarations.
-#[tactic(auto, using(clif_names::proofs::Folds::fold_more))]
+#[tactic(auto, using(name_tables::proofs::Folds::fold_more))]
 pub(crate) fn value_types(
     alloc: Global,
     func: &Func,

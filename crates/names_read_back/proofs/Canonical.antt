@@ -21,7 +21,7 @@ use Rattle.ir_text.specs.TextInstructions.{next_after}
 use Rattle.ir_text.specs.Writable.{ResultTypes, LineWritable, FunctionWritable}
 use Rattle.clif_insts.specs.declared.raw.RawInst.{RawInst}
 use Rattle.clif_read.specs.declared.raw.RawFunction.{RawFunction}
-use Rattle.clif_names.specs.Definitions.{Step, Param, Line as Written, block_steps}
+use Rattle.name_tables.specs.Definitions.{Step, Param, Line as Written, block_steps}
 use Rattle.clif_meaning.specs.Instructions.{may_leave_out, line_of}
 use Rattle.clif_meaning.specs.Meaning as says
 use Rattle.text_read_back.specs.RawOf as raws

@@ -22,7 +22,7 @@ use Rattle.ir_core.specs.Lists.{Each}
 use Rattle.ir_core.specs.Module.{Function}
 use Rattle.clif_insts.specs.declared.raw.RawName.{RawName}
 use Rattle.clif_read.specs.declared.raw.RawDecl.{RawDecl}
-use Rattle.clif_names.specs.Definitions.{slot_names, sig_names, callee_names}
+use Rattle.name_tables.specs.Definitions.{slot_names, sig_names, callee_names}
 use Rattle.clif_meaning.specs.Meaning as says
 use Rattle.text_read_back.specs.Defining.{number_of}
 use Rattle.text_read_back.specs.RawOf as raws

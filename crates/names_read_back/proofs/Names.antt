@@ -4,9 +4,9 @@ use Rattle.std.specs.List.{range_with_len}
 use Rattle.std.proofs.lemmas.Bool.{eqb-true}
 use Rattle.std.proofs.lemmas.Bool.Decides.{nat_tests}
 use Rattle.ir_core.specs.Lists.{Each}
-use Rattle.clif_names.specs.declared.firsts.Def.{Def}
-use Rattle.clif_names.specs.Words.{place_among, place_in}
-use Rattle.clif_names.specs.Chains.{look, chain, Ends, ComesTo, numbered, HasNumber, IsNumbering}
+use Rattle.name_tables.specs.declared.firsts.Def.{Def}
+use Rattle.name_tables.specs.Words.{place_among, place_in}
+use Rattle.name_tables.specs.Chains.{look, chain, Ends, ComesTo, numbered, HasNumber, IsNumbering}
 
 equal_either : (a b : ℕ) → nat_eq a b ≡ nat_eq b a
 equal_either a b = go (nat_eq a b) refl

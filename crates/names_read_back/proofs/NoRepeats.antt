@@ -15,11 +15,11 @@ use Rattle.clif_read.specs.declared.raw.RawFuncName.{RawFuncName}
 use Rattle.clif_read.specs.declared.raw.RawFuncName.TheVariants as func_names
 use Rattle.clif_read.specs.declared.raw.RawFunction.{RawFunction}
 use Rattle.clif_lex.specs.declared.faults.TextKind.TheVariants.{Duplicate}
-use Rattle.clif_names.specs.declared.firsts.Def.{Def}
-use Rattle.clif_names.specs.Chains.{IsEndless}
-use Rattle.clif_names.specs.Definitions.{Kind, Slots, Sigs, Callees, Blocks, Values, slot_names, sig_names, callee_names, definitions, value_defs}
+use Rattle.name_tables.specs.declared.firsts.Def.{Def}
+use Rattle.name_tables.specs.Chains.{IsEndless}
+use Rattle.name_tables.specs.Definitions.{Kind, Slots, Sigs, Callees, Blocks, Values, slot_names, sig_names, callee_names, definitions, value_defs}
 use Rattle.clif_names.specs.Faults.{SameName, FunctionFault, IsFault}
-use Rattle.clif_names.specs.Words.{Repeats}
+use Rattle.name_tables.specs.Words.{Repeats}
 use Rattle.clif_meaning.specs.Instructions.{natural}
 use Rattle.clif_meaning.specs.Meaning.{name_of}
 use Rattle.text_read_back.specs.Bare as bare

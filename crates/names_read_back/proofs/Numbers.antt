@@ -16,10 +16,10 @@ use Rattle.ir_core.specs.declared.signatures.Sig.{Sig}
 use Rattle.ir_core.specs.Uses.{values_used, blocks_used, slots_used, slots_shown, sigs_used, callees_used}
 use Rattle.ir_core.specs.WellFormed.{declared, LineWellFormed, WellFormed}
 use Rattle.clif_insts.specs.declared.raw.RawName.{RawName}
-use Rattle.clif_names.specs.declared.firsts.Def.{Def}
-use Rattle.clif_names.specs.Definitions.{Param, Line as Written, value_def, step_defs, block_steps, value_defs, slot_names, sig_names, callee_names}
-use Rattle.clif_names.specs.Words.{place_among, place_in}
-use Rattle.clif_names.specs.Chains.{numbered, IsNumbering}
+use Rattle.name_tables.specs.declared.firsts.Def.{Def}
+use Rattle.name_tables.specs.Definitions.{Param, Line as Written, value_def, step_defs, block_steps, value_defs, slot_names, sig_names, callee_names}
+use Rattle.name_tables.specs.Words.{place_among, place_in}
+use Rattle.name_tables.specs.Chains.{numbered, IsNumbering}
 use Rattle.clif_meaning.specs.Meaning.{numbers, decl_sigs, sig_place, callees_from}
 use Rattle.text_read_back.specs.Defining.{number_of}
 use Rattle.text_read_back.specs.RawOf as raws

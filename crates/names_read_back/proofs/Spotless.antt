@@ -43,9 +43,9 @@ use Rattle.clif_read.specs.declared.raw.RawLine.{RawLine}
 use Rattle.clif_read.specs.declared.raw.RawLine.TheVariants as lines
 use Rattle.clif_read.specs.declared.raw.RawTag.{RawTag}
 use Rattle.clif_read.specs.declared.raw.RawTag.TheVariants as tags
-use Rattle.clif_names.specs.Definitions.{Step, Param, Line as Written, block_steps, slot_names, sig_names, callee_names}
+use Rattle.name_tables.specs.Definitions.{Step, Param, Line as Written, block_steps, slot_names, sig_names, callee_names}
 use Rattle.clif_names.specs.Typing.{gives_type}
-use Rattle.clif_names.specs.Words.{place_among}
+use Rattle.name_tables.specs.Words.{place_among}
 use Rattle.clif_meaning.specs.Operations.{access_of, stored_bytes}
 use Rattle.clif_meaning.specs.Instructions as says
 use Rattle.clif_meaning.specs.Meaning as means

@@ -13,10 +13,10 @@ use Rattle.clif_insts.specs.declared.raw.RawName.{RawName}
 use Rattle.clif_read.specs.declared.raw.RawBlock.{RawBlock}
 use Rattle.clif_read.specs.declared.raw.RawFunction.{RawFunction}
 use Rattle.clif_read.specs.declared.raw.RawLine.TheVariants as lines
-use Rattle.clif_names.specs.declared.firsts.Def.{Def}
-use Rattle.clif_names.specs.Chains.{own_name, numbered, IsNumbering}
-use Rattle.clif_names.specs.Definitions.{Step, Param, Line as Written, value_def, step_defs, block_steps, steps, value_defs}
-use Rattle.clif_names.specs.Words.{place_among, place_in}
+use Rattle.name_tables.specs.declared.firsts.Def.{Def}
+use Rattle.name_tables.specs.Chains.{own_name, numbered, IsNumbering}
+use Rattle.name_tables.specs.Definitions.{Step, Param, Line as Written, value_def, step_defs, block_steps, steps, value_defs}
+use Rattle.name_tables.specs.Words.{place_among, place_in}
 use Rattle.clif_meaning.specs.Meaning.{FunctionMeans, FunctionsMean, Means, OneMeaning, function_with, value_types}
 use Rattle.clif_meaning.specs.Reads.{Reads}
 use Rattle.text_read_back.specs.Bare as bare

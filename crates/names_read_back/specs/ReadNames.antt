@@ -15,9 +15,9 @@ use Rattle.ir_text.specs.Numbering.{Numbering, numbering_of}
 use Rattle.ir_text.specs.TextInstructions.{shown_suffix, typing_operand}
 use Rattle.ir_text.specs.Writable.{conversion, InstructionForm}
 use Rattle.clif_insts.specs.declared.raw.RawInst.{RawInst}
-use Rattle.clif_names.specs.Chains.{numbered, IsNumbering}
-use Rattle.clif_names.specs.Definitions.{value_defs}
-use Rattle.clif_names.specs.Words.{place_in}
+use Rattle.name_tables.specs.Chains.{numbered, IsNumbering}
+use Rattle.name_tables.specs.Definitions.{value_defs}
+use Rattle.name_tables.specs.Words.{place_in}
 use Rattle.clif_meaning.specs.Instructions.{instruction_of, type_for, known, line_of}
 use Rattle.clif_meaning.specs.Meaning.{numbers, name_of, sig_of, decl_slots, decl_sigs, callees_from}
 use Rattle.text_read_back.specs.RawOf.{instruction, debug_tag, values, raw_function}

@@ -29,7 +29,7 @@ use Rattle.clif_insts.specs.Marks.{MarkFormed, operand_marks}
 use Rattle.clif_insts.specs.OfForm.{IsOfForm, ArgumentsFit}
 use Rattle.clif_names.specs.Limits.{target_limits, operand_limits}
 use Rattle.clif_names.specs.Typing.{gives_type}
-use Rattle.clif_names.specs.Uses.{operand_targets}
+use Rattle.name_tables.specs.Uses.{operand_targets}
 use Rattle.clif_meaning.specs.Instructions.{may_leave_out, kept_type, nullary, trap_if, call, code_of, instruction_of}
 use Rattle.clif_meaning.specs.Meaning.{operation_types, form_types}
 use Rattle.clif_meaning.specs.Operations.{operation, access_of, stored_bytes}

@@ -15,10 +15,10 @@ use Rattle.clif_insts.specs.declared.raw.RawName.{RawName}
 use Rattle.clif_read.specs.declared.raw.RawTag.{RawTag}
 use Rattle.clif_read.specs.declared.raw.RawLine.TheVariants as line
 use Rattle.clif_read.specs.declared.raw.RawFunction.{RawFunction}
-use Rattle.clif_names.specs.Chains.{IsNumbering, numbered, own_name}
-use Rattle.clif_names.specs.Definitions.{Step, Line, step_defs, steps, defs_of, value_defs, names_of}
-use Rattle.clif_names.specs.Words.{place_in}
-use Rattle.clif_names.proofs.Numberings.{NoRepeats, place_here, place_there}
+use Rattle.name_tables.specs.Chains.{IsNumbering, numbered, own_name}
+use Rattle.name_tables.specs.Definitions.{Step, Line, step_defs, steps, defs_of, value_defs, names_of}
+use Rattle.name_tables.specs.Words.{place_in}
+use Rattle.name_tables.proofs.DefinedWords.{NoRepeats, place_here, place_there}
 use Rattle.clif_meaning.specs.Instructions.{line_of}
 use Rattle.clif_meaning.specs.Meaning.{numbers, inst_type, function_with, step_types, value_types, types_for, form_types}
 use Rattle.clif_meaning.proofs.BoundLaws.{own_place}

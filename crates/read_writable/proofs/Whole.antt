@@ -22,11 +22,11 @@ use Rattle.clif_read.specs.declared.raw.RawBlock.{RawBlock}
 use Rattle.clif_read.specs.declared.raw.RawFunction.{RawFunction}
 use Rattle.clif_read.specs.Formed.{LineFormed, BlockFormed, FunctionFormed}
 use Rattle.clif_read.specs.Marks.{name_spot, func_name_marks, decl_marks, tag_marks, location_marks, line_marks, block_param_marks, block_marks, function_marks}
-use Rattle.clif_names.specs.Chains.{numbered}
-use Rattle.clif_names.specs.Definitions.{Values, Param, Line as Written, block_steps, value_defs, lines}
+use Rattle.name_tables.specs.Chains.{numbered}
+use Rattle.name_tables.specs.Definitions.{Values, Param, Line as Written, block_steps, value_defs, lines}
 use Rattle.clif_names.specs.FunctionNames.{NoFunctionFault}
 use Rattle.clif_names.specs.Limits.{target_limits, operand_limits, tag_limits, line_limits}
-use Rattle.clif_names.specs.Uses.{operand_targets}
+use Rattle.name_tables.specs.Uses.{operand_targets}
 use Rattle.clif_meaning.specs.Instructions.{line_of}
 use Rattle.clif_meaning.specs.Meaning.{numbers, inst_type, function_with, block_with, lines_with, FunctionMeans, FunctionsMean}
 use Rattle.clif_meaning.specs.Reads.{ReadIsModule}

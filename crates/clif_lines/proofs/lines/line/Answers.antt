@@ -2,7 +2,7 @@ use Rattle.std.proofs.Common.{◌++◌}
 use Rattle.std.specs.Prelude.{flat_map}
 use Rattle.ir_core.proofs.Members.{each_left, each_right}
 use Rattle.clif_names.specs.Limits.{operand_limits, tag_limits, target_limits}
-use Rattle.clif_names.specs.Uses.{operand_targets}
+use Rattle.name_tables.specs.Uses.{operand_targets}
 use Rattle.clif_lines.specs.Keeping.{Keeps}
 use Rattle.clif_lines.proofs.Parting.{each_all}
 use Rattle.clif_lines.proofs.lines.line.Goals as goal

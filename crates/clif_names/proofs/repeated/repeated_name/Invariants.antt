@@ -1,6 +1,6 @@
 use Rattle.std.proofs.Common.{take}
 use Rattle.clif_names.specs.Faults.{RepeatsName}
-use Rattle.clif_names.specs.Least.{IsLeast}
+use Rattle.name_tables.specs.Least.{IsLeast}
 use Rattle.clif_names.proofs.NameSetLaws.{AreNames}
 use Rattle.clif_names.proofs.repeated.repeated_name.Given as goal
 

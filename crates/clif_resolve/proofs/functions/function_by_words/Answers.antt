@@ -2,7 +2,7 @@ use Rattle.std.proofs.Common.{List, ap, ◌∙◌}
 use Rattle.std.specs.Prelude.{flat_map}
 use Rattle.ir_core.specs.Module.{Function}
 use Rattle.clif_read.specs.declared.raw.RawBlock.{RawBlock}
-use Rattle.clif_names.specs.Definitions.{block_steps}
+use Rattle.name_tables.specs.Definitions.{block_steps}
 use Rattle.clif_lines.specs.WordRenaming.{renaming}
 use Rattle.clif_resolve.specs.Declaring.{declared}
 use Rattle.clif_resolve.specs.FormTypes.{types_along}

@@ -1,6 +1,6 @@
 use Rattle.std.proofs.Common.{◌≡◌, take}
 use Rattle.std.specs.Prelude.{flat_map}
-use Rattle.clif_names.specs.Definitions.{callee_names}
+use Rattle.name_tables.specs.Definitions.{callee_names}
 use Rattle.clif_meaning.specs.Spots.{word_spots}
 use Rattle.clif_resolve.proofs.places.callee_spots.Given as goal
 

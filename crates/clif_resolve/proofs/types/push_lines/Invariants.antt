@@ -1,6 +1,6 @@
 use Rattle.std.proofs.Common.{◌≡◌, take, map}
 use Rattle.std.specs.Prelude.{fold}
-use Rattle.clif_names.specs.Definitions.{Line}
+use Rattle.name_tables.specs.Definitions.{Line}
 use Rattle.clif_resolve.specs.FormTypes.{with_step}
 use Rattle.clif_lines.specs.WordRenaming.{renaming}
 use Rattle.clif_resolve.proofs.types.push_lines.Given as goal

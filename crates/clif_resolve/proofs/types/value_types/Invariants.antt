@@ -1,6 +1,6 @@
 use Rattle.std.proofs.Common.{◌≡◌, take}
 use Rattle.std.specs.Prelude.{flat_map}
-use Rattle.clif_names.specs.Definitions.{block_steps}
+use Rattle.name_tables.specs.Definitions.{block_steps}
 use Rattle.clif_lines.specs.WordRenaming.{renaming}
 use Rattle.clif_resolve.specs.FormTypes.{types_along}
 use Rattle.clif_resolve.proofs.types.value_types.Given as goal

@@ -1,9 +1,9 @@
 use Rattle.std.proofs.Common.{◌≡◌, map, refl, sym, ap, subst, ◌∙◌}
-use Rattle.clif_names.specs.declared.tables.Tables.{Tables}
-use Rattle.clif_names.specs.Aliases.{link_of}
-use Rattle.clif_names.specs.Defining.{defined}
-use Rattle.clif_names.specs.Links.{InRange}
-use Rattle.clif_names.proofs.LinkLaws.{links_in_range}
+use Rattle.name_tables.specs.declared.tables.Tables.{Tables}
+use Rattle.name_tables.specs.Aliases.{link_of}
+use Rattle.name_tables.specs.Defining.{defined}
+use Rattle.name_tables.specs.Links.{InRange}
+use Rattle.name_tables.proofs.LinkLaws.{links_in_range}
 use Rattle.clif_names.proofs.function.FunctionNames.of.Goals as goal
 
 pub ends-requires : goal.ends-requires

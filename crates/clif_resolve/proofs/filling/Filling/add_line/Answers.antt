@@ -10,7 +10,7 @@ use Rattle.clif_read.specs.declared.raw.RawLine.{RawLine}
 use Rattle.clif_read.specs.declared.raw.RawLine.TheVariants as line
 use Rattle.clif_read.specs.declared.raw.RawTag.{RawTag}
 use Rattle.clif_names.specs.Limits.{operand_limits, tag_limits, target_limits}
-use Rattle.clif_names.specs.Uses.{operand_targets}
+use Rattle.name_tables.specs.Uses.{operand_targets}
 use Rattle.clif_lines.specs.Keeping.{AllKeep}
 use Rattle.clif_lines.specs.WordRenaming.{renaming}
 use Rattle.clif_resolve.proofs.FillingLaws.{added_is, line_differs, line_few, line_fresh, line_keeps, line_ranges, line_step, none_step, read_item, stands}

@@ -1,6 +1,0 @@
-use Rattle.std.proofs.Common.{◌≡◌, take, map}
-use Rattle.clif_names.specs.Aliases.{link_of}
-use Rattle.clif_names.proofs.aliases.links.Given as goal
-
-abbrev pub invariant-loop-first : goal.invariant-loop-first
-invariant-loop-first l = l.links.items ≡ map (link_of l.words) (take l.first-index l.firsts)

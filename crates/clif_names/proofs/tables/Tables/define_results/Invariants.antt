@@ -1,8 +1,0 @@
-use Rattle.std.proofs.Common.{◌≡◌, take}
-use Rattle.std.specs.Prelude.{fold, map}
-use Rattle.clif_names.specs.Definitions as text
-use Rattle.clif_names.specs.Defining.{define_value}
-use Rattle.clif_names.proofs.tables.Tables.define_results.Given as goal
-
-abbrev pub invariant-loop-name : goal.invariant-loop-name
-invariant-loop-name l = l.self ≡ fold define_value l.initial.self (map text.value_def (take l.name-index l.results))

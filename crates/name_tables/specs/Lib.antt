@@ -1,0 +1,10 @@
+pub mod Definitions
+pub mod Uses
+pub mod Words
+pub mod Chains
+pub mod Dense
+pub mod Least
+pub mod Taking
+pub mod Defining
+pub mod Links
+pub mod Aliases

@@ -1,4 +1,4 @@
-//! The names of a raw module: the words that it uses, the numbers of its words, and the first fault of names and numbers.
+//! The names of a raw module: the words that it uses, its numbers, and the first fault of these.
 #![tactic(auto)]
 
 mod first;

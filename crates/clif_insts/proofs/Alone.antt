@@ -13,8 +13,8 @@ use Rattle.clif_insts.specs.declared.raw.RawOperands.TheVariants as operands
 use Rattle.clif_words.specs.Classes.{code}
 use Rattle.clif_words.specs.Terminals.{◌then◌, ◌or◌, arrow, comma, equals, value}
 use Rattle.clif_insts.specs.Grammar.{return_alone}
-use Rattle.clif_insts.specs.Reading.{next_is, name, opcode, opcode_at, name_at}
-use Rattle.clif_insts.specs.Arguments.{more_values_at, values_at}
+use Rattle.clif_insts.specs.Reading.{next_is, name, opcode, opcode_at, name_at, commas_at}
+use Rattle.clif_insts.specs.Arguments.{more_values_at}
 use Rattle.clif_insts.specs.Values.{◌otherwise◌, seen}
 use Rattle.clif_insts.specs.InstValues.{raw}
 use Rattle.clif_insts.specs.Forms.{inst_by, inst_at, return_inst_at, opt_values_at, return_values_at, whole_at, own_values_at, return_line_at, one_at}
@@ -89,7 +89,7 @@ with_arrow ts v h e a =
 
 with_values : (ts : List Lexeme) (v : RawName × List Lexeme) → next_is classes.Value ts ≡ true → name_at classes.Value ts ≡ Ok v → next_is classes.Arrow v.1 ≡ false
     → (o : Out (List RawName)) → more_values_at (v.0 ∷ []) v.1 ≡ o → Decided ts
-unfolding own_values_at opt_values_at values_at
+unfolding own_values_at opt_values_at commas_at
 with_values ts v h e a (Err x) m = inr (x, rw (e, a, m) refl, rw (h, e, a, m) refl)
 with_values ts v h e a (Ok vs) m = go (next_is classes.Equals vs.1) refl
   where

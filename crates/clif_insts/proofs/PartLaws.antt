@@ -1,5 +1,5 @@
 -- Each part of an instruction is read as its rule of the grammar says.
-use Rattle.std.proofs.Common.{cond, List, [], ◌∷◌, ◌++◌, length, map, Option, Some, None, Ok}
+use Rattle.std.proofs.Common.{cond, List, [], ◌∷◌, ◌++◌, map, Option, Some, None, Ok}
 use Rattle.grammar.specs.Rules.{Lexeme, Rule, Opt, Many, Tree, Unsupported, Out, heads, firsts, ◌>>=◌}
 use Rattle.ir_core.specs.declared.signatures.Ty.TheVariants as ty_words
 use Rattle.clif_words.specs.declared.class.Class.{Class}
@@ -12,25 +12,29 @@ use Rattle.clif_insts.specs.declared.raw.RawArg.TheVariants as raw_args
 use Rattle.clif_insts.specs.declared.raw.RawTarget.{RawTarget}
 use Rattle.clif_insts.specs.declared.raw.RawEntry.{RawEntry}
 use Rattle.clif_insts.specs.declared.raw.RawTrap.TheVariants as traps
-use Rattle.clif_words.specs.Classes.{code}
 use Rattle.clif_words.specs.Terminals.{◌then◌, ◌or◌, one, value, comma, colon, ret, exn, ty_i64, left_paren, right_paren, condition, signed}
 use Rattle.clif_insts.specs.Grammar.{commas, number, refused_type, any_type, suffix, suffix_i64, any_trap, call_to, target, normal_target, handler, entry_name, entry, table, args, target_list}
-use Rattle.clif_insts.specs.Reading.{name, name_at, each, with_front}
+use Rattle.clif_insts.specs.Reading.{name, name_at, comma_at, more_at, commas_at}
 use Rattle.clif_insts.specs.Types.{type_of, type_at, suffix_at, opt_suffix_at, i64_at, suffix_i64_at, opt_suffix_i64_at}
 use Rattle.clif_insts.specs.Codes.{condition_of, condition_at, trap_of, trap_at}
-use Rattle.clif_insts.specs.Arguments.{comma_name_at, more_values_at, values_at, args_at}
-use Rattle.clif_insts.specs.Targets.{arg_at, comma_arg_at, more_args_at, some_args_at, target_args_at, opt_target_args_at, target_at, comma_target_at, more_targets_at, targets_at, target_list_at}
-use Rattle.clif_insts.specs.Tables.{entry_tag_at, entry_at, comma_entry_at, more_entries_at, entries_at, table_at}
+use Rattle.clif_insts.specs.Arguments.{more_values_at, values_at, args_at}
+use Rattle.clif_insts.specs.Targets.{arg_at, target_args_at, opt_target_args_at, target_at, target_list_at}
+use Rattle.clif_insts.specs.Tables.{entry_tag_at, entry_at, table_at}
 use Rattle.clif_insts.specs.Numbers.{number_at, offset_at}
 use Rattle.clif_insts.specs.Values.{◌otherwise◌, perhaps, never, commas_value, any_type_value, suffix_value, opt_suffix_value, number_value, offset_value, condition_value, trap_value, args_value, value_arg, target_value, branch_value, normal_value, handler_value, target_list_value, entry_name_value, entry_value, table_value}
 use Rattle.clif_insts.proofs.Seen.{Is, then_is, map_is, opt_is, alt_is, many_is, refuse_is, name_is, amount_is}
 
+-- { "," a }, after items in front
+more_is : {A : Type 0} {a : Rule} {f : Tree a → A} {p : List Lexeme → Out A} → Is a f p → (front : List A)
+    → Is (Many (comma then a)) (λ vs. front ++ map (λ v. f v.1) vs) (more_at p front)
+unfolding more_at comma_at
+more_is {A} {a} {f} {p} e front = map_is (many_is (then_is (name_is classes.Comma) a (λ c v. f v) (λ c. p) (λ c. e))) (λ xs. front ++ xs)
+
 -- a { "," a }
 pub commas_is : {A : Type 0} {a : Rule} {f : Tree a → A} {p : List Lexeme → Out A} → Is a f p
-    → Is (commas a) (commas_value a f) (λ ts. p ts >>= λ x. with_front (x.0 ∷ []) (each (λ us. name_at classes.Comma us >>= λ c. p c.1) (code classes.Comma ∷ []) (length x.1) x.1))
-commas_is {A} {a} {f} {p} e =
-    then_is e (Many (comma then a)) (λ x vs. x ∷ map (λ v. f v.1) vs) (λ x ts. with_front (x ∷ []) (each (λ us. name_at classes.Comma us >>= λ c. p c.1) (code classes.Comma ∷ []) (length ts) ts))
-    (λ x. map_is (many_is (then_is (name_is classes.Comma) a (λ c v. f v) (λ c. p) (λ c. e))) (λ xs. (x ∷ []) ++ xs))
+    → Is (commas a) (commas_value a f) (commas_at p)
+unfolding commas_at
+commas_is {A} {a} {f} {p} e = then_is e (Many (comma then a)) (λ x vs. x ∷ map (λ v. f v.1) vs) (λ x. more_at p (x ∷ [])) (λ x. more_is e (x ∷ []))
 
 -- a list between two tokens, which may be empty
 pub within_is : {A : Type 0} {r : Rule} {f : Tree r → List A} {p : List Lexeme → Out (List A)} (left right : Class) → Is r f p
@@ -95,12 +99,10 @@ offset_is = opt_is (map_is (amount_is classes.Signed) Some) None
 -- ---- values
 
 pub values_is : Is (commas value) (commas_value value name) values_at
-unfolding values_at more_values_at comma_name_at
 values_is = commas_is (name_is classes.Value)
 
 pub more_values_is : (front : List RawName) → Is (Many (comma then value)) (λ vs. front ++ map (λ v. name v.1) vs) (more_values_at front)
-unfolding more_values_at comma_name_at
-more_values_is front = map_is (many_is (then_is (name_is classes.Comma) value (λ c v. name v) (λ c. name_at classes.Value) (λ c. name_is classes.Value))) (λ vs. front ++ vs)
+more_values_is = more_is (name_is classes.Value)
 
 pub args_is : Is args args_value args_at
 unfolding args_at
@@ -120,10 +122,6 @@ handler_arg_is : Is (value or exn) (value_arg otherwise (λ x. raw_args.Exn (nam
 unfolding arg_at
 handler_arg_is = alt_is (map_is (name_is classes.Value) raw_args.Value) (map_is (name_is classes.Exn) raw_args.Exn)
 
-some_args_is : {arg : Rule} {f : Tree arg → RawArg} (role : TargetRole) → Is arg f (arg_at role) → Is (commas arg) (commas_value arg f) (some_args_at role)
-unfolding some_args_at more_args_at comma_arg_at
-some_args_is role e = commas_is e
-
 abbrev Arguments : Rule → Rule
 Arguments arg = left_paren then Opt (commas arg) then right_paren
 
@@ -142,15 +140,15 @@ target_is arg f role e =
 
 branch_args_is : Is (Arguments value) (arguments_value value value_arg) (target_args_at roles.Branch)
 unfolding target_args_at
-branch_args_is = within_is classes.LeftParen classes.RightParen (some_args_is roles.Branch branch_arg_is)
+branch_args_is = within_is classes.LeftParen classes.RightParen (commas_is branch_arg_is)
 
 normal_args_is : Is (Arguments (value or ret)) (arguments_value (value or ret) (value_arg otherwise (λ x. raw_args.Ret (name x)))) (target_args_at roles.Normal)
 unfolding target_args_at
-normal_args_is = within_is classes.LeftParen classes.RightParen (some_args_is roles.Normal normal_arg_is)
+normal_args_is = within_is classes.LeftParen classes.RightParen (commas_is normal_arg_is)
 
 handler_args_is : Is (Arguments (value or exn)) (arguments_value (value or exn) (value_arg otherwise (λ x. raw_args.Exn (name x)))) (target_args_at roles.Handler)
 unfolding target_args_at
-handler_args_is = within_is classes.LeftParen classes.RightParen (some_args_is roles.Handler handler_arg_is)
+handler_args_is = within_is classes.LeftParen classes.RightParen (commas_is handler_arg_is)
 
 pub branch_is : Is target branch_value (target_at roles.Branch)
 branch_is = target_is value value_arg roles.Branch branch_args_is
@@ -161,13 +159,9 @@ normal_is = target_is (value or ret) (value_arg otherwise (λ x. raw_args.Ret (n
 handler_is : Is handler handler_value (target_at roles.Handler)
 handler_is = target_is (value or exn) (value_arg otherwise (λ x. raw_args.Exn (name x))) roles.Handler handler_args_is
 
-targets_is : Is (commas target) (commas_value target branch_value) targets_at
-unfolding targets_at more_targets_at comma_target_at
-targets_is = commas_is branch_is
-
 pub target_list_is : Is target_list target_list_value target_list_at
 unfolding target_list_at
-target_list_is = within_is classes.LeftBracket classes.RightBracket targets_is
+target_list_is = within_is classes.LeftBracket classes.RightBracket (commas_is branch_is)
 
 -- ---- exception tables
 
@@ -186,10 +180,6 @@ entry_is =
     (λ t. then_is (name_is classes.Colon) handler (λ c v. raw_entry t (handler_value v)) (λ c ts. target_at roles.Handler ts >>= λ b. Ok (raw_entry t b.0, b.1))
     (λ c. map_is handler_is (λ b. raw_entry t b)))
 
-entries_is : Is (commas entry) (commas_value entry entry_value) entries_at
-unfolding entries_at more_entries_at comma_entry_at
-entries_is = commas_is entry_is
-
 pub table_is : Is table table_value table_at
 unfolding table_at
-table_is = within_is classes.LeftBracket classes.RightBracket entries_is
+table_is = within_is classes.LeftBracket classes.RightBracket (commas_is entry_is)

@@ -1,7 +1,8 @@
 -- Reading from left to right: a value and the tokens behind it, or why reading stopped and the tokens from there on.
-use Rattle.std.specs.Prelude.{◌≡◌, ℕ, zero, suc, Bool, if◌then◌else◌, List, [], ◌∷◌, ◌++◌, Result, Ok, Err}
+use Rattle.std.specs.Prelude.{◌≡◌, ℕ, zero, suc, Bool, if◌then◌else◌, List, [], ◌∷◌, ◌++◌, length, Result, Ok, Err}
 use Rattle.grammar.specs.Rules.{Lexeme, Kind, Syntax, UnknownOpcode, Unsupported, Out, heads, token, ◌>>=◌}
 use Rattle.clif_words.specs.declared.class.Class.{Class}
+use Rattle.clif_words.specs.declared.class.Class.TheVariants.{Comma}
 use Rattle.clif_insts.specs.declared.raw.RawName.{RawName}
 use Rattle.clif_insts.specs.declared.raw.RawNumber.{RawNumber}
 use Rattle.clif_insts.specs.declared.raw.RawOpcode.{RawOpcode}
@@ -66,6 +67,22 @@ unfoldable pub amount_at : Class → List Lexeme → Out RawNumber
 amount_at class ts = do
   x ← token (code class) ts
   Ok (amount x.0, x.1)
+
+-- a comma, and an item behind it
+unfoldable pub comma_at : {A : Type 0} → (List Lexeme → Out A) → List Lexeme → Out A
+comma_at p ts = do
+  c ← name_at Comma ts
+  p c.1
+
+-- items behind commas, after those in front
+unfoldable pub more_at : {A : Type 0} → (List Lexeme → Out A) → List A → List Lexeme → Out (List A)
+more_at p front ts = with_front front (each (comma_at p) (code Comma ∷ []) (length ts) ts)
+
+-- items joined by commas, one at least
+unfoldable pub commas_at : {A : Type 0} → (List Lexeme → Out A) → List Lexeme → Out (List A)
+commas_at p ts = do
+  x ← p ts
+  more_at p (x.0 ∷ []) x.1
 
 -- no token fits here; those of the classes are refused as this kind
 abbrev pub refuse_codes : {A : Type 0} → List ℕ → Kind → List Lexeme → Out A

@@ -1,5 +1,5 @@
 -- Targets of branches, read from left to right.
-use Rattle.std.specs.Prelude.{Bool, if◌then◌else◌, List, [], ◌∷◌, length, Ok}
+use Rattle.std.specs.Prelude.{Bool, if◌then◌else◌, List, [], ◌∷◌, Ok}
 use Rattle.grammar.specs.Rules.{Lexeme, Out, heads, ◌>>=◌}
 use Rattle.clif_words.specs.declared.class.Class.TheVariants as classes
 use Rattle.clif_insts.specs.declared.targets.TargetRole.{TargetRole}
@@ -7,9 +7,8 @@ use Rattle.clif_insts.specs.declared.targets.TargetRole.TheVariants as roles
 use Rattle.clif_insts.specs.declared.raw.RawArg.{RawArg}
 use Rattle.clif_insts.specs.declared.raw.RawArg.TheVariants as raw_args
 use Rattle.clif_insts.specs.declared.raw.RawTarget.{RawTarget}
-use Rattle.clif_words.specs.Classes.{code}
 use Rattle.clif_words.specs.Terminals.{codes_of}
-use Rattle.clif_insts.specs.Reading.{next_is, name_at, each, with_front}
+use Rattle.clif_insts.specs.Reading.{next_is, name_at, commas_at}
 
 -- an argument of a target, by the target's role
 unfoldable pub arg_at : TargetRole → List Lexeme → Out RawArg
@@ -21,19 +20,6 @@ arg_at roles.Handler ts =
     if next_is classes.Value ts then (name_at classes.Value ts >>= λ x. Ok (raw_args.Value x.0, x.1))
     else (name_at classes.Exn ts >>= λ x. Ok (raw_args.Exn x.0, x.1))
 
-unfoldable pub comma_arg_at : TargetRole → List Lexeme → Out RawArg
-comma_arg_at role ts = do
-  c ← name_at classes.Comma ts
-  arg_at role c.1
-
-unfoldable pub more_args_at : TargetRole → List RawArg → List Lexeme → Out (List RawArg)
-more_args_at role front ts = with_front front (each (comma_arg_at role) (code classes.Comma ∷ []) (length ts) ts)
-
-unfoldable pub some_args_at : TargetRole → List Lexeme → Out (List RawArg)
-some_args_at role ts = do
-  a ← arg_at role ts
-  more_args_at role (a.0 ∷ []) a.1
-
 -- whether an argument begins here
 abbrev pub begins_arg : TargetRole → List Lexeme → Bool
 begins_arg roles.Branch ts = next_is classes.Value ts
@@ -43,7 +29,7 @@ begins_arg roles.Handler ts = heads (codes_of (classes.Value ∷ classes.Exn ∷
 unfoldable pub target_args_at : TargetRole → List Lexeme → Out (List RawArg)
 target_args_at role ts = do
   l ← name_at classes.LeftParen ts
-  vs ← (if begins_arg role l.1 then some_args_at role l.1 else Ok ([], l.1))
+  vs ← (if begins_arg role l.1 then commas_at (arg_at role) l.1 else Ok ([], l.1))
   r ← name_at classes.RightParen vs.1
   Ok (vs.0, r.1)
 
@@ -56,23 +42,10 @@ target_at role ts = do
   vs ← opt_target_args_at role b.1
   Ok (record { block = b.0; args = vs.0 }, vs.1)
 
-unfoldable pub comma_target_at : List Lexeme → Out RawTarget
-comma_target_at ts = do
-  c ← name_at classes.Comma ts
-  target_at roles.Branch c.1
-
-unfoldable pub more_targets_at : List RawTarget → List Lexeme → Out (List RawTarget)
-more_targets_at front ts = with_front front (each comma_target_at (code classes.Comma ∷ []) (length ts) ts)
-
-unfoldable pub targets_at : List Lexeme → Out (List RawTarget)
-targets_at ts = do
-  t ← target_at roles.Branch ts
-  more_targets_at (t.0 ∷ []) t.1
-
 -- the list of a `br_table`
 unfoldable pub target_list_at : List Lexeme → Out (List RawTarget)
 target_list_at ts = do
   l ← name_at classes.LeftBracket ts
-  vs ← (if next_is classes.Block l.1 then targets_at l.1 else Ok ([], l.1))
+  vs ← (if next_is classes.Block l.1 then commas_at (target_at roles.Branch) l.1 else Ok ([], l.1))
   r ← name_at classes.RightBracket vs.1
   Ok (vs.0, r.1)

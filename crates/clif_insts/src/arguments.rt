@@ -1,11 +1,11 @@
 //! Values behind one another, and the arguments of a call.
 
-ghost use Rattle.std.specs.Prelude.{◌≢◌, ◌∷◌, [], ◌<◌, ◌≤◌, length, IfOk, IfErr};
-ghost use Rattle.clif_insts.specs.declared.stop.Stop.TheVariants.{NoMemory};
+ghost use Rattle.std.specs.Prelude.{◌∷◌, [], ◌<◌, ◌≤◌, length, IfOk};
 ghost use Rattle.clif_words.specs.declared.class.Class.TheVariants as classes;
-ghost use Rattle.clif_insts.specs.Reading.{Gives, same};
+ghost use Rattle.clif_insts.specs.Reading.{Gives, same, name_at};
 ghost use Rattle.clif_insts.specs.Arguments as spec;
 
+use crate::commas::{Items, behind_commas, joined_by_commas};
 use crate::lists::{RawNames, one_item};
 use crate::raw::RawName;
 use crate::reader::Reader;
@@ -13,27 +13,26 @@ use crate::stop::Stop;
 use clif_words::Class;
 use std::alloc::Global;
 
-#[tactic(auto, unfolding(crate::specs::Arguments::comma_name_at))]
-pub fn comma_value(reader: &mut Reader<'_>) -> Result<RawName, Stop>
-    ensures is { Gives same reader.new result (spec.comma_name_at classes.Value reader.old) }
-    ensures no_memory { IfErr result (λ e. e ≢ NoMemory) }
-    ensures shorter { IfOk result (λ _. length reader.new < length reader.old) }
-{
-    reader.take(Class::Comma)?;
-    reader.take(Class::Value)
+struct ValueItems;
+
+impl Items<RawName> for ValueItems {
+    ghost item_at = { λ _. name_at classes.Value };
+
+    fn item(&self, _alloc: Global, reader: &mut Reader<'_>) -> Result<RawName, Stop> {
+        reader.take(Class::Value)
+    }
 }
 
 /// Those behind commas, after those in front.
-pub fn more_values(reader: &mut Reader<'_>, front: Vec<RawName>) -> Result<Vec<RawName>, Stop>
+pub fn more_values(
+    alloc: Global,
+    reader: &mut Reader<'_>,
+    front: Vec<RawName>,
+) -> Result<Vec<RawName>, Stop>
     ensures is { Gives (λ x. x.items) reader.new result (spec.more_values_at front.items reader.old) }
     ensures shorter { IfOk result (λ _. length reader.new ≤ length reader.old) }
 {
-    let mut list = front;
-    'list: while reader.next_is(Class::Comma) {
-        let item = comma_value(reader)?;
-        list.push(item)?;
-    }
-    Ok(list)
+    behind_commas(alloc, reader, &ValueItems, front)
 }
 
 /// This value and those behind commas after it.
@@ -43,21 +42,18 @@ pub fn more_names(alloc: Global, reader: &mut Reader<'_>, first: RawName) -> Res
 {
     if reader.next_is(Class::Comma) {
         let front = one_item(alloc, first)?;
-        Ok(RawNames::from_vec(more_values(reader, front)?))
+        Ok(RawNames::from_vec(more_values(alloc, reader, front)?))
     } else {
         Ok(RawNames::one(first))
     }
 }
 
 /// Values.
-#[tactic(auto, unfolding(crate::specs::Arguments::values_at))]
 pub fn values(alloc: Global, reader: &mut Reader<'_>) -> Result<Vec<RawName>, Stop>
     ensures is { Gives (λ x. x.items) reader.new result (spec.values_at reader.old) }
     ensures shorter { IfOk result (λ _. length reader.new < length reader.old) }
 {
-    let value = reader.take(Class::Value)?;
-    let front = one_item(alloc, value)?;
-    more_values(reader, front)
+    joined_by_commas(alloc, reader, &ValueItems)
 }
 
 #[tactic(auto, unfolding(crate::specs::Arguments::args_at))]

@@ -81,7 +81,7 @@ fn own_values(alloc: Global, reader: &mut Reader<'_>) -> Result<Vec<RawName>, St
         return Ok(Vec::new(alloc));
     }
     let front = one_item(alloc, value)?;
-    let values = more_values(reader, front)?;
+    let values = more_values(alloc, reader, front)?;
     if reader.next_is(Class::Equals) {
         *reader = behind;
         return Ok(Vec::new(alloc));

@@ -4,6 +4,7 @@
 mod arguments;
 mod calls;
 mod codes;
+mod commas;
 mod control;
 mod flags;
 mod forms;
@@ -21,7 +22,8 @@ mod tables;
 mod targets;
 mod types;
 
-pub use arguments::{comma_value, more_names, more_values, values};
+pub use arguments::{more_names, more_values, values};
+pub use commas::{Items, behind_commas, joined_by_commas};
 pub use forms::any_inst;
 pub use insts::{SyntaxErr, inst};
 pub use lists::{RawNames, one_item};

@@ -8,7 +8,6 @@ ghost use Rattle.clif_words.specs.Classes.{code};
 ghost use Rattle.clif_words.specs.Lexemes.{lexemes};
 ghost use Rattle.clif_words.specs.Lexemes as lexeme_specs;
 ghost use Rattle.clif_insts.specs.declared.stop.Stop.TheVariants.{NoMemory};
-ghost use Rattle.clif_insts.specs.Grammar.{excepted, words_but};
 ghost use Rattle.clif_insts.specs.Names as names;
 ghost use Rattle.clif_insts.specs.Next.{is_among};
 ghost use Rattle.clif_insts.specs.Next as next;
@@ -16,7 +15,6 @@ ghost use Rattle.clif_insts.specs.Reading as spec;
 ghost use Rattle.clif_insts.specs.Reading.{Gives, same};
 ghost use Rattle.clif_insts.specs.Shown.{IsOf, Shows};
 
-use crate::opening::Opening;
 use crate::raw::{RawName, RawNumber, RawOpcode, RawText};
 use crate::stop::Stop;
 use clif_lex::{TokenKind, Tokens};
@@ -277,14 +275,6 @@ impl<'a> Reader<'a> {
         let value = self.front_amount();
         let spot = self.front().spot;
         RawNumber { value, spot }
-    }
-
-    /// Whether the next token is an unknown opcode, if an instruction is to begin here.
-    #[inline]
-    pub fn next_is_refused(&self, opening: Opening) -> bool
-        ensures { result ≡ heads (words_but (excepted opening)) self.now }
-    {
-        self.is_left() && opening.refuses(self.next.class)
     }
 
     /// What the next token spells as a name.

@@ -5,7 +5,7 @@ ghost use Rattle.clif_insts.specs.declared.stop.Stop.TheVariants.{NoMemory};
 ghost use Rattle.clif_insts.specs.Reading.{Gives, same};
 ghost use Rattle.clif_insts.specs.Tables as spec;
 
-use crate::lists::one_item;
+use crate::commas::{Items, joined_by_commas};
 use crate::raw::{RawEntry, RawName};
 use crate::reader::Reader;
 use crate::stop::Stop;
@@ -47,40 +47,14 @@ pub(crate) fn entry(alloc: Global, reader: &mut Reader<'_>) -> Result<RawEntry, 
     Ok(RawEntry { tag, target })
 }
 
-#[tactic(auto, unfolding(crate::specs::Tables::comma_entry_at))]
-pub(crate) fn comma_entry(alloc: Global, reader: &mut Reader<'_>) -> Result<RawEntry, Stop>
-    ensures is { Gives same reader.new result (spec.comma_entry_at reader.old) }
-    ensures shorter { IfOk result (λ _. length reader.new < length reader.old) }
-{
-    reader.take(Class::Comma)?;
-    entry(alloc, reader)
-}
+struct EntryItems;
 
-/// Those behind commas, after those in front.
-pub(crate) fn more_entries(
-    alloc: Global,
-    reader: &mut Reader<'_>,
-    front: Vec<RawEntry>,
-) -> Result<Vec<RawEntry>, Stop>
-    ensures is { Gives (λ x. x.items) reader.new result (spec.more_entries_at front.items reader.old) }
-    ensures shorter { IfOk result (λ _. length reader.new ≤ length reader.old) }
-{
-    let mut list = front;
-    'list: while reader.next_is(Class::Comma) {
-        let item = comma_entry(alloc, reader)?;
-        list.push(item)?;
+impl Items<RawEntry> for EntryItems {
+    ghost item_at = { λ _. spec.entry_at };
+
+    fn item(&self, alloc: Global, reader: &mut Reader<'_>) -> Result<RawEntry, Stop> {
+        entry(alloc, reader)
     }
-    Ok(list)
-}
-
-#[tactic(auto, unfolding(crate::specs::Tables::entries_at))]
-pub(crate) fn entries(alloc: Global, reader: &mut Reader<'_>) -> Result<Vec<RawEntry>, Stop>
-    ensures is { Gives (λ x. x.items) reader.new result (spec.entries_at reader.old) }
-    ensures shorter { IfOk result (λ _. length reader.new < length reader.old) }
-{
-    let first = entry(alloc, reader)?;
-    let front = one_item(alloc, first)?;
-    more_entries(alloc, reader, front)
 }
 
 #[tactic(auto, unfolding(crate::specs::Tables::table_at))]
@@ -90,7 +64,7 @@ pub(crate) fn table(alloc: Global, reader: &mut Reader<'_>) -> Result<Vec<RawEnt
 {
     reader.take(Class::LeftBracket)?;
     let list = if reader.next_is_one_of(Class::Tag, Class::Default, Class::Context) {
-        entries(alloc, reader)?
+        joined_by_commas(alloc, reader, &EntryItems)?
     } else {
         Vec::new(alloc)
     };

@@ -2,10 +2,11 @@
 
 ghost use Rattle.std.specs.Prelude.{◌≡◌, ◌≢◌, ◌<◌, ◌≤◌, length, IfOk, IfErr};
 ghost use Rattle.clif_insts.specs.declared.stop.Stop.TheVariants.{NoMemory};
+ghost use Rattle.clif_insts.specs.declared.targets.TargetRole.TheVariants.{Branch};
 ghost use Rattle.clif_insts.specs.Reading.{Gives, same};
 ghost use Rattle.clif_insts.specs.Targets as spec;
 
-use crate::lists::one_item;
+use crate::commas::{Items, joined_by_commas};
 use crate::raw::{RawArg, RawTarget};
 use crate::reader::Reader;
 use crate::stop::Stop;
@@ -48,45 +49,12 @@ pub(crate) fn arg(reader: &mut Reader<'_>, role: TargetRole) -> Result<RawArg, S
     }
 }
 
-#[tactic(auto, unfolding(crate::specs::Targets::comma_arg_at))]
-pub(crate) fn comma_arg(reader: &mut Reader<'_>, role: TargetRole) -> Result<RawArg, Stop>
-    ensures is { Gives same reader.new result (spec.comma_arg_at role reader.old) }
-    ensures no_memory { IfErr result (λ e. e ≢ NoMemory) }
-    ensures shorter { IfOk result (λ _. length reader.new < length reader.old) }
-{
-    reader.take(Class::Comma)?;
-    arg(reader, role)
-}
+impl Items<RawArg> for TargetRole {
+    ghost item_at = { spec.arg_at };
 
-/// Those behind commas, after those in front.
-pub(crate) fn more_args(
-    reader: &mut Reader<'_>,
-    role: TargetRole,
-    front: Vec<RawArg>,
-) -> Result<Vec<RawArg>, Stop>
-    ensures is { Gives (λ x. x.items) reader.new result (spec.more_args_at role front.items reader.old) }
-    ensures shorter { IfOk result (λ _. length reader.new ≤ length reader.old) }
-{
-    let mut list = front;
-    'list: while reader.next_is(Class::Comma) {
-        let item = comma_arg(reader, role)?;
-        list.push(item)?;
+    fn item(&self, _alloc: Global, reader: &mut Reader<'_>) -> Result<RawArg, Stop> {
+        arg(reader, *self)
     }
-    Ok(list)
-}
-
-#[tactic(auto, unfolding(crate::specs::Targets::some_args_at))]
-pub(crate) fn some_args(
-    alloc: Global,
-    reader: &mut Reader<'_>,
-    role: TargetRole,
-) -> Result<Vec<RawArg>, Stop>
-    ensures is { Gives (λ x. x.items) reader.new result (spec.some_args_at role reader.old) }
-    ensures shorter { IfOk result (λ _. length reader.new < length reader.old) }
-{
-    let first = arg(reader, role)?;
-    let front = one_item(alloc, first)?;
-    more_args(reader, role, front)
 }
 
 /// Whether an argument begins here.
@@ -111,7 +79,7 @@ pub(crate) fn target_args(
 {
     reader.take(Class::LeftParen)?;
     let list = if begins_arg(reader, role) {
-        some_args(alloc, reader, role)?
+        joined_by_commas(alloc, reader, &role)?
     } else {
         Vec::new(alloc)
     };
@@ -166,40 +134,15 @@ pub(crate) fn boxed_target(
     Ok(Boxed::new(alloc, target)?)
 }
 
-#[tactic(auto, unfolding(crate::specs::Targets::comma_target_at))]
-pub(crate) fn comma_target(alloc: Global, reader: &mut Reader<'_>) -> Result<RawTarget, Stop>
-    ensures is { Gives same reader.new result (spec.comma_target_at reader.old) }
-    ensures shorter { IfOk result (λ _. length reader.new < length reader.old) }
-{
-    reader.take(Class::Comma)?;
-    target(alloc, reader, TargetRole::Branch)
-}
+/// The targets of a `br_table`.
+struct TargetItems;
 
-/// Those behind commas, after those in front.
-pub(crate) fn more_targets(
-    alloc: Global,
-    reader: &mut Reader<'_>,
-    front: Vec<RawTarget>,
-) -> Result<Vec<RawTarget>, Stop>
-    ensures is { Gives (λ x. x.items) reader.new result (spec.more_targets_at front.items reader.old) }
-    ensures shorter { IfOk result (λ _. length reader.new ≤ length reader.old) }
-{
-    let mut list = front;
-    'list: while reader.next_is(Class::Comma) {
-        let item = comma_target(alloc, reader)?;
-        list.push(item)?;
+impl Items<RawTarget> for TargetItems {
+    ghost item_at = { λ _. spec.target_at Branch };
+
+    fn item(&self, alloc: Global, reader: &mut Reader<'_>) -> Result<RawTarget, Stop> {
+        target(alloc, reader, TargetRole::Branch)
     }
-    Ok(list)
-}
-
-#[tactic(auto, unfolding(crate::specs::Targets::targets_at))]
-pub(crate) fn targets(alloc: Global, reader: &mut Reader<'_>) -> Result<Vec<RawTarget>, Stop>
-    ensures is { Gives (λ x. x.items) reader.new result (spec.targets_at reader.old) }
-    ensures shorter { IfOk result (λ _. length reader.new < length reader.old) }
-{
-    let first = target(alloc, reader, TargetRole::Branch)?;
-    let front = one_item(alloc, first)?;
-    more_targets(alloc, reader, front)
 }
 
 #[tactic(auto, unfolding(crate::specs::Targets::target_list_at))]
@@ -209,7 +152,7 @@ pub(crate) fn target_list(alloc: Global, reader: &mut Reader<'_>) -> Result<Vec<
 {
     reader.take(Class::LeftBracket)?;
     let list = if reader.next_is(Class::Block) {
-        targets(alloc, reader)?
+        joined_by_commas(alloc, reader, &TargetItems)?
     } else {
         Vec::new(alloc)
     };

@@ -5,16 +5,16 @@ use Rattle.ir_core.specs.declared.signatures.Ty.{Ty}
 use Rattle.clif_words.specs.declared.class.Class.TheVariants as classes
 use Rattle.clif_words.specs.Terminals.{◌then◌, header, colon}
 use Rattle.clif_insts.specs.declared.raw.RawName.{RawName}
-use Rattle.clif_insts.specs.Grammar.{commas, any_type}
+use Rattle.clif_insts.specs.Grammar.{any_type}
 use Rattle.clif_insts.specs.Reading.{name_at}
 use Rattle.clif_insts.specs.Types.{type_at}
-use Rattle.clif_insts.specs.Values.{commas_value, any_type_value}
+use Rattle.clif_insts.specs.Values.{any_type_value}
 use Rattle.clif_insts.proofs.Seen.{Is, then_is, map_is, many_is, name_is}
 use Rattle.clif_insts.proofs.PartLaws.{type_is, commas_is, within_is}
 use Rattle.clif_read.specs.declared.raw.RawBlockParam.{RawBlockParam}
 use Rattle.clif_read.specs.ModuleGrammar.{block_param, block_params}
 use Rattle.clif_read.specs.ModuleValues.{block_param_value, block_params_value}
-use Rattle.clif_read.specs.Heads.{header_at, headers_at, block_param_at, comma_block_param_at, more_block_params_at, some_block_params_at, block_params_at}
+use Rattle.clif_read.specs.Heads.{header_at, headers_at, block_param_at, block_params_at}
 
 -- ---- headers
 
@@ -41,10 +41,6 @@ block_param_is =
     (λ v. then_is (name_is classes.Colon) any_type (λ c w. raw_block_param v (any_type_value w)) (λ c ts. type_at ts >>= λ t. Ok (raw_block_param v t.0, t.1))
     (λ c. map_is type_is (λ t. raw_block_param v t)))
 
-some_block_params_is : Is (commas block_param) (commas_value block_param block_param_value) some_block_params_at
-unfolding some_block_params_at more_block_params_at comma_block_param_at
-some_block_params_is = commas_is block_param_is
-
 pub block_params_is : Is block_params block_params_value block_params_at
 unfolding block_params_at
-block_params_is = within_is classes.LeftParen classes.RightParen some_block_params_is
+block_params_is = within_is classes.LeftParen classes.RightParen (commas_is block_param_is)

@@ -11,7 +11,7 @@ use Rattle.clif_insts.specs.declared.opening.Opening.{Opening}
 use Rattle.clif_insts.specs.declared.opening.Opening.TheVariants.{AfterResults, AfterTags, LineStart}
 use Rattle.clif_insts.specs.declared.raw.RawName.{RawName}
 use Rattle.clif_insts.specs.Grammar.{commas, excepted, inst}
-use Rattle.clif_insts.specs.Reading.{name, name_at}
+use Rattle.clif_insts.specs.Reading.{name, name_at, commas_at}
 use Rattle.clif_insts.specs.Forms.{inst_at}
 use Rattle.clif_insts.specs.Values.{commas_value, seen}
 use Rattle.clif_insts.specs.InstValues.{inst_value}
@@ -24,7 +24,7 @@ use Rattle.clif_read.specs.declared.raw.RawLine.{RawLine}
 use Rattle.clif_read.specs.declared.raw.RawLine.TheVariants as raw_lines
 use Rattle.clif_read.specs.ModuleGrammar.{debug_tag, debug_tags, made, named, named_or_values, tagged, located, other_line, line, line_or_values, lines}
 use Rattle.clif_read.specs.LineValues.{LinePart, Whole, Values, made_value, debug_tag_value, debug_tags_value, values_from, named_by, named_value, tagged_by, tagged_value, located_value, other_line_value, line_value, values_by, named_or_values_by, named_or_values_value, line_or_values_value, with_values, lines_from, lines_of, part_value, lines_value}
-use Rattle.clif_read.specs.Tags.{debug_tag_at, comma_tag_at, more_tags_at, some_tags_at, debug_tags_at}
+use Rattle.clif_read.specs.Tags.{debug_tag_at, debug_tags_at}
 use Rattle.clif_read.specs.Lines.{made_at, alias_at, results_at, named_at, plain_at, tagged_results_at, tagged_at, located_at, other_line_at, opt_made_at, values_or_results_at, named_or_values_at, line_at, is_return, to_last, add_part, more_lines_at, lines_at}
 use Rattle.clif_read.proofs.LineEnds.{line_ends, line_or_values_ends}
 
@@ -34,15 +34,11 @@ debug_tag_is : Is debug_tag debug_tag_value debug_tag_at
 unfolding debug_tag_at
 debug_tag_is = alt_is (map_is number_is tag_kinds.User) (map_is (name_is classes.Slot) tag_kinds.Slot)
 
-some_tags_is : Is (commas debug_tag) (commas_value debug_tag debug_tag_value) some_tags_at
-unfolding some_tags_at more_tags_at comma_tag_at
-some_tags_is = commas_is debug_tag_is
-
 debug_tags_is : Is debug_tags debug_tags_value debug_tags_at
 unfolding debug_tags_at
 debug_tags_is =
-    then_is (name_is classes.Less) (commas debug_tag then greater) (λ l v. commas_value debug_tag debug_tag_value v.0) (λ l ts. some_tags_at ts >>= λ tags. name_at classes.Greater tags.1 >>= λ g. Ok (tags.0, g.1))
-    (λ l. then_is some_tags_is greater (λ tags v. tags) (λ tags ts. name_at classes.Greater ts >>= λ g. Ok (tags, g.1)) (λ tags. map_is (name_is classes.Greater) (λ g. tags)))
+    then_is (name_is classes.Less) (commas debug_tag then greater) (λ l v. commas_value debug_tag debug_tag_value v.0) (λ l ts. commas_at debug_tag_at ts >>= λ tags. name_at classes.Greater tags.1 >>= λ g. Ok (tags.0, g.1))
+    (λ l. then_is (commas_is debug_tag_is) greater (λ tags v. tags) (λ tags ts. name_at classes.Greater ts >>= λ g. Ok (tags, g.1)) (λ tags. map_is (name_is classes.Greater) (λ g. tags)))
 
 -- ---- one line
 

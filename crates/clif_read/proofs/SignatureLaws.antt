@@ -16,7 +16,7 @@ use Rattle.clif_read.specs.declared.raw.RawSignature.{RawSignature}
 use Rattle.clif_read.specs.ModuleGrammar.{purpose, param, params, convention, signature}
 use Rattle.clif_read.specs.DeclarationValues.{attributes_value, param_value, params_value, convention_of, convention_value, signature_value}
 use Rattle.clif_read.specs.Attributes.{attributes_at}
-use Rattle.clif_read.specs.Signatures.{param_at, comma_param_at, more_params_at, params_at, opt_params_at, results_at, opt_results_at, convention_at, opt_convention_at, signature_at}
+use Rattle.clif_read.specs.Signatures.{param_at, params_at, opt_params_at, results_at, opt_results_at, convention_at, opt_convention_at, signature_at}
 use Rattle.clif_read.proofs.AttributeLaws.{attributes_is}
 
 -- ---- parameters
@@ -31,7 +31,6 @@ param_is =
     (λ t ts. attributes_at ts >>= λ a. Ok (raw_param t a.0, a.1)) (λ t. map_is attributes_is (raw_param t))
 
 params_is : Is params params_value params_at
-unfolding params_at more_params_at comma_param_at
 params_is = commas_is param_is
 
 opt_params_is : Is (Opt params) (perhaps [] params_value) opt_params_at

@@ -3,7 +3,7 @@ use Rattle.std.specs.Prelude.{ℕ, if◌then◌else◌, List, [], ◌∷◌, len
 use Rattle.grammar.specs.Rules.{Lexeme, Out, ◌>>=◌}
 use Rattle.clif_words.specs.declared.class.Class.TheVariants as classes
 use Rattle.clif_words.specs.Classes.{code}
-use Rattle.clif_insts.specs.Reading.{next_is, name_at, each, with_front}
+use Rattle.clif_insts.specs.Reading.{next_is, name_at, each, with_front, commas_at}
 use Rattle.clif_insts.specs.Types.{type_at}
 use Rattle.clif_read.specs.declared.raw.RawBlockParam.{RawBlockParam}
 
@@ -28,24 +28,10 @@ block_param_at ts = do
   t ← type_at c.1
   Ok (record { value = v.0; ty = t.0 }, t.1)
 
-unfoldable pub comma_block_param_at : List Lexeme → Out RawBlockParam
-comma_block_param_at ts = do
-  c ← name_at classes.Comma ts
-  block_param_at c.1
-
--- parameters behind commas, after those in front
-unfoldable pub more_block_params_at : List RawBlockParam → List Lexeme → Out (List RawBlockParam)
-more_block_params_at front ts = with_front front (each comma_block_param_at (code classes.Comma ∷ []) (length ts) ts)
-
-unfoldable pub some_block_params_at : List Lexeme → Out (List RawBlockParam)
-some_block_params_at ts = do
-  p ← block_param_at ts
-  more_block_params_at (p.0 ∷ []) p.1
-
 -- (v0: i64, v1: i32)
 unfoldable pub block_params_at : List Lexeme → Out (List RawBlockParam)
 block_params_at ts = do
   l ← name_at classes.LeftParen ts
-  ps ← (if next_is classes.Value l.1 then some_block_params_at l.1 else Ok ([], l.1))
+  ps ← (if next_is classes.Value l.1 then commas_at block_param_at l.1 else Ok ([], l.1))
   r ← name_at classes.RightParen ps.1
   Ok (ps.0, r.1)

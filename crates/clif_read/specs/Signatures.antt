@@ -1,13 +1,12 @@
 -- Signatures, read from left to right.
-use Rattle.std.specs.Prelude.{if◌then◌else◌, List, [], ◌∷◌, length, Option, Some, None, Ok}
+use Rattle.std.specs.Prelude.{if◌then◌else◌, List, [], ◌∷◌, Option, Some, None, Ok}
 use Rattle.grammar.specs.Rules.{Lexeme, Out, heads, ◌>>=◌}
 use Rattle.ir_core.specs.declared.signatures.Conv.{Conv}
 use Rattle.ir_core.specs.declared.signatures.Conv.TheVariants as convs
 use Rattle.clif_words.specs.declared.class.Class.{Class}
 use Rattle.clif_words.specs.declared.class.Class.TheVariants as classes
-use Rattle.clif_words.specs.Classes.{code}
 use Rattle.clif_words.specs.Terminals.{codes_of}
-use Rattle.clif_insts.specs.Reading.{next_is, name_at, each, with_front}
+use Rattle.clif_insts.specs.Reading.{next_is, name_at, commas_at}
 use Rattle.clif_insts.specs.Types.{type_at}
 use Rattle.clif_read.specs.declared.raw.RawParam.{RawParam}
 use Rattle.clif_read.specs.declared.raw.RawSignature.{RawSignature}
@@ -22,19 +21,8 @@ param_at ts = do
   a ← attributes_at t.1
   Ok (record { ty = t.0; attributes = a.0 }, a.1)
 
-unfoldable pub comma_param_at : List Lexeme → Out RawParam
-comma_param_at ts = do
-  c ← name_at classes.Comma ts
-  param_at c.1
-
--- parameters behind commas, after those in front
-unfoldable pub more_params_at : List RawParam → List Lexeme → Out (List RawParam)
-more_params_at front ts = with_front front (each comma_param_at (code classes.Comma ∷ []) (length ts) ts)
-
-unfoldable pub params_at : List Lexeme → Out (List RawParam)
-params_at ts = do
-  p ← param_at ts
-  more_params_at (p.0 ∷ []) p.1
+abbrev pub params_at : List Lexeme → Out (List RawParam)
+params_at = commas_at param_at
 
 -- a type, or a word that is refused in its place
 abbrev pub begins_type : List Class

@@ -5,7 +5,7 @@ ghost use Rattle.clif_insts.specs.Reading.{Gives, same};
 ghost use Rattle.clif_read.specs.Heads as spec;
 
 use crate::raw::RawBlockParam;
-use clif_insts::{Reader, Stop, any_type, one_item};
+use clif_insts::{Items, Reader, Stop, any_type, joined_by_commas};
 use clif_words::Class;
 use std::alloc::Global;
 
@@ -44,39 +44,14 @@ fn block_param(reader: &mut Reader<'_>) -> Result<RawBlockParam, Stop>
     Ok(RawBlockParam { value, ty })
 }
 
-#[tactic(auto, unfolding(crate::specs::Heads::comma_block_param_at))]
-fn comma_block_param(reader: &mut Reader<'_>) -> Result<RawBlockParam, Stop>
-    ensures is { Gives same reader.new result (spec.comma_block_param_at reader.old) }
-    ensures shorter { IfOk result (λ _. length reader.new < length reader.old) }
-{
-    reader.take(Class::Comma)?;
-    block_param(reader)
-}
+struct BlockParamItems;
 
-/// Those behind commas, after those in front.
-fn more_block_params(
-    reader: &mut Reader<'_>,
-    front: Vec<RawBlockParam>,
-) -> Result<Vec<RawBlockParam>, Stop>
-    ensures is { Gives (λ x. x.items) reader.new result (spec.more_block_params_at front.items reader.old) }
-    ensures shorter { IfOk result (λ _. length reader.new ≤ length reader.old) }
-{
-    let mut list = front;
-    'list: while reader.next_is(Class::Comma) {
-        let item = comma_block_param(reader)?;
-        list.push(item)?;
+impl Items<RawBlockParam> for BlockParamItems {
+    ghost item_at = { λ _. spec.block_param_at };
+
+    fn item(&self, _alloc: Global, reader: &mut Reader<'_>) -> Result<RawBlockParam, Stop> {
+        block_param(reader)
     }
-    Ok(list)
-}
-
-#[tactic(auto, unfolding(crate::specs::Heads::some_block_params_at))]
-fn some_block_params(alloc: Global, reader: &mut Reader<'_>) -> Result<Vec<RawBlockParam>, Stop>
-    ensures is { Gives (λ x. x.items) reader.new result (spec.some_block_params_at reader.old) }
-    ensures shorter { IfOk result (λ _. length reader.new < length reader.old) }
-{
-    let first = block_param(reader)?;
-    let front = one_item(alloc, first)?;
-    more_block_params(reader, front)
 }
 
 /// The parameters of a block: `(v0: i64, v1: i32)`
@@ -90,7 +65,7 @@ pub(crate) fn block_params(
 {
     reader.take(Class::LeftParen)?;
     let list = if reader.next_is(Class::Value) {
-        some_block_params(alloc, reader)?
+        joined_by_commas(alloc, reader, &BlockParamItems)?
     } else {
         Vec::new(alloc)
     };

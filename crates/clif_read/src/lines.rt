@@ -283,7 +283,7 @@ fn values_or_results(
     ensures shorter { IfOk result (λ _. length reader.new ≤ length reader.old) }
 {
     let front = one_item(alloc, first)?;
-    let values = more_values(reader, front)?;
+    let values = more_values(alloc, reader, front)?;
     add_values_or_inst(alloc, reader, lines, List::from_vec(values))
 }
 

@@ -7,7 +7,7 @@ ghost use Rattle.clif_read.specs.Signatures as spec;
 
 use crate::attributes::attributes;
 use crate::raw::{RawParam, RawSignature};
-use clif_insts::{Reader, Stop, any_type, one_item};
+use clif_insts::{Items, Reader, Stop, any_type, joined_by_commas};
 use clif_words::Class;
 use ir_core::{Conv, List};
 use std::alloc::Global;
@@ -26,40 +26,21 @@ fn param(alloc: Global, reader: &mut Reader<'_>) -> Result<RawParam, Stop>
     })
 }
 
-#[tactic(auto, unfolding(crate::specs::Signatures::comma_param_at))]
-fn comma_param(alloc: Global, reader: &mut Reader<'_>) -> Result<RawParam, Stop>
-    ensures is { Gives same reader.new result (spec.comma_param_at reader.old) }
-    ensures shorter { IfOk result (λ _. length reader.new < length reader.old) }
-{
-    reader.take(Class::Comma)?;
-    param(alloc, reader)
-}
+struct ParamItems;
 
-/// Those behind commas, after those in front.
-fn more_params(
-    alloc: Global,
-    reader: &mut Reader<'_>,
-    front: Vec<RawParam>,
-) -> Result<Vec<RawParam>, Stop>
-    ensures is { Gives (λ x. x.items) reader.new result (spec.more_params_at front.items reader.old) }
-    ensures shorter { IfOk result (λ _. length reader.new ≤ length reader.old) }
-{
-    let mut list = front;
-    'list: while reader.next_is(Class::Comma) {
-        let item = comma_param(alloc, reader)?;
-        list.push(item)?;
+impl Items<RawParam> for ParamItems {
+    ghost item_at = { λ _. spec.param_at };
+
+    fn item(&self, alloc: Global, reader: &mut Reader<'_>) -> Result<RawParam, Stop> {
+        param(alloc, reader)
     }
-    Ok(list)
 }
 
-#[tactic(auto, unfolding(crate::specs::Signatures::params_at))]
 fn params(alloc: Global, reader: &mut Reader<'_>) -> Result<Vec<RawParam>, Stop>
     ensures is { Gives (λ x. x.items) reader.new result (spec.params_at reader.old) }
     ensures shorter { IfOk result (λ _. length reader.new < length reader.old) }
 {
-    let first = param(alloc, reader)?;
-    let front = one_item(alloc, first)?;
-    more_params(alloc, reader, front)
+    joined_by_commas(alloc, reader, &ParamItems)
 }
 
 #[tactic(auto, unfolding(crate::specs::Signatures::opt_params_at))]

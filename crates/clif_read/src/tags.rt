@@ -1,11 +1,11 @@
 //! Debug tags.
 
-ghost use Rattle.std.specs.Prelude.{◌<◌, ◌≤◌, length, IfOk};
+ghost use Rattle.std.specs.Prelude.{◌<◌, length, IfOk};
 ghost use Rattle.clif_insts.specs.Reading.{Gives, same};
 ghost use Rattle.clif_read.specs.Tags as spec;
 
 use crate::raw::RawTag;
-use clif_insts::{Reader, Stop, number, one_item};
+use clif_insts::{Items, Reader, Stop, joined_by_commas, number};
 use clif_words::Class;
 use std::alloc::Global;
 
@@ -22,36 +22,14 @@ fn debug_tag(reader: &mut Reader<'_>) -> Result<RawTag, Stop>
     }
 }
 
-#[tactic(auto, unfolding(crate::specs::Tags::comma_tag_at))]
-fn comma_tag(reader: &mut Reader<'_>) -> Result<RawTag, Stop>
-    ensures is { Gives same reader.new result (spec.comma_tag_at reader.old) }
-    ensures shorter { IfOk result (λ _. length reader.new < length reader.old) }
-{
-    reader.take(Class::Comma)?;
-    debug_tag(reader)
-}
+struct TagItems;
 
-/// Those behind commas, after those in front.
-fn more_tags(reader: &mut Reader<'_>, front: Vec<RawTag>) -> Result<Vec<RawTag>, Stop>
-    ensures is { Gives (λ x. x.items) reader.new result (spec.more_tags_at front.items reader.old) }
-    ensures shorter { IfOk result (λ _. length reader.new ≤ length reader.old) }
-{
-    let mut list = front;
-    'list: while reader.next_is(Class::Comma) {
-        let item = comma_tag(reader)?;
-        list.push(item)?;
+impl Items<RawTag> for TagItems {
+    ghost item_at = { λ _. spec.debug_tag_at };
+
+    fn item(&self, _alloc: Global, reader: &mut Reader<'_>) -> Result<RawTag, Stop> {
+        debug_tag(reader)
     }
-    Ok(list)
-}
-
-#[tactic(auto, unfolding(crate::specs::Tags::some_tags_at))]
-fn some_tags(alloc: Global, reader: &mut Reader<'_>) -> Result<Vec<RawTag>, Stop>
-    ensures is { Gives (λ x. x.items) reader.new result (spec.some_tags_at reader.old) }
-    ensures shorter { IfOk result (λ _. length reader.new < length reader.old) }
-{
-    let first = debug_tag(reader)?;
-    let front = one_item(alloc, first)?;
-    more_tags(reader, front)
 }
 
 /// `<7, ss0>`
@@ -61,7 +39,7 @@ pub(crate) fn debug_tags(alloc: Global, reader: &mut Reader<'_>) -> Result<Vec<R
     ensures shorter { IfOk result (λ _. length reader.new < length reader.old) }
 {
     reader.take(Class::Less)?;
-    let tags = some_tags(alloc, reader)?;
+    let tags = joined_by_commas(alloc, reader, &TagItems)?;
     reader.take(Class::Greater)?;
     Ok(tags)
 }

@@ -4,7 +4,8 @@ use Rattle.std.specs.List.{filter, prefix_len}
 use Rattle.std.proofs.lemmas.Bool.{ltb-true, ltb-false, leb-true, leb-false}
 use Rattle.clif_lex.specs.declared.spans.Token.{Token}
 use Rattle.clif_lex.specs.Spelling.{StandFrom}
-use Rattle.test_directives.specs.Tests.{Placed, placed, is_comment, comments, comments_between}
+use Rattle.clif_words.specs.Lexemes.{is_comment}
+use Rattle.test_directives.specs.Tests.{Placed, placed, comments, comments_between}
 use Rattle.test_directives.specs.Placing.{between, up_to, before, LeavesBehind, InOrder, InOrderFrom}
 
 abbrev is_between : ℕ → ℕ → Placed → Bool

@@ -11,7 +11,8 @@ use Rattle.clif_lex.specs.Places.{line_at}
 use Rattle.clif_lex.specs.Spelling.{StandFrom, IsTokenIn}
 use Rattle.test_directives.specs.Commands as command
 use Rattle.test_directives.specs.Commands.{command_of}
-use Rattle.test_directives.specs.Tests.{Placed, placed, is_header, is_comment, headers, comments, commands, bad_header}
+use Rattle.clif_words.specs.Lexemes.{is_comment}
+use Rattle.test_directives.specs.Tests.{Placed, placed, is_header, headers, comments, commands, bad_header}
 
 pub drop_next : {A : Type 0} (xs : List A) (i : ℕ) (x : A) → slice_get xs i ≡ Some x → drop i xs ≡ x ∷ drop (i + 1) xs
 drop_next [] i x e = absurd cc

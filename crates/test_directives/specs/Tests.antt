@@ -9,6 +9,7 @@ use Rattle.clif_lex.specs.declared.spans.TokenKind.{TokenKind}
 use Rattle.clif_lex.specs.declared.spans.TokenKind.TheVariants as kinds
 use Rattle.clif_lex.specs.Places.{line_at}
 use Rattle.clif_lex.specs.Spans.{spelling}
+use Rattle.clif_words.specs.Lexemes.{is_comment}
 use Rattle.clif_read.specs.declared.raw.RawFunction.{RawFunction}
 use Rattle.clif_read.specs.declared.raw.RawModule.{RawModule}
 use Rattle.clif_read.specs.declared.raw.RawParam.{RawParam}
@@ -34,10 +35,6 @@ placed text t = record { spot = t.start; line = line_at text t.start; text = spe
 abbrev pub is_header : TokenKind → Bool
 is_header kinds.Header = true
 is_header kind = false
-
-abbrev pub is_comment : TokenKind → Bool
-is_comment kinds.Comment = true
-is_comment kind = false
 
 abbrev pub headers : List ℕ → List Token → List Placed
 headers text ts = map (placed text) (filter (λ t. is_header t.kind) ts)

@@ -3,6 +3,7 @@ ghost use Rattle.std.specs.Prelude.{◌≡◌, ◌≤◌, drop, length, map, nat
 ghost use Rattle.std.specs.List.{prefix_len};
 ghost use Rattle.clif_lex.specs.Places.{line_at};
 ghost use Rattle.clif_lex.specs.Spelling.{StandFrom};
+ghost use Rattle.clif_words.specs.Lexemes.{is_comment};
 ghost use Rattle.test_directives.specs.Tests as tests;
 ghost use Rattle.test_directives.specs.Placing as spec;
 
@@ -65,7 +66,7 @@ fn line_feeds(bytes: &[u8]) -> usize
 
 /// Whether a token is a comment.
 fn is_comment(kind: TokenKind) -> bool
-    ensures { result ≡ tests.is_comment kind }
+    ensures { result ≡ is_comment kind }
 {
     matches!(kind, TokenKind::Comment)
 }

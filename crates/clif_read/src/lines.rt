@@ -152,7 +152,7 @@ fn add_plain_line(
 }
 
 /// Results behind tags, and their instruction.
-#[tactic(auto, unfolding(crate::specs::Lines::tagged_results_at, clif_insts::specs::Arguments::values_at))]
+#[tactic(auto, unfolding(crate::specs::Lines::tagged_results_at, clif_insts::specs::Reading::commas_at))]
 fn add_tagged_results(
     alloc: Global,
     reader: &mut Reader<'_>,

@@ -3,10 +3,10 @@
 
     python3 bench/check.py PATH/clifinl [SCALE]
 
-`rt ci`, or `rt run` in crates/clifinl, builds the program and leaves it in out/. First 14 MB of small functions in chains
-of calls and 60 MB of large bodies (SCALE times as much): the median of five runs by the clock, on all processors and on
-one of them, as a multiple of `wc -w`, and the most memory that a run held, a byte of text. Then texts of one shape each,
-once and twice as large: twice the text should take at most 2.2 times the time, by the processor's clock."""
+`rt ci`, or `rt run` in crates/clifinl, builds the program and leaves it in out/. First 14 MB of small functions in
+chains of calls and 60 MB of large bodies (SCALE times as much): the median of five runs by the clock, on all processors
+and on one of them, as a multiple of `wc -w`, and the most memory that a run held, a byte of text. Then texts of one
+shape each, once and twice as large: twice the text should take at most 2.2 times the time, by the processor's clock."""
 import os
 import sys
 import tempfile
@@ -54,7 +54,8 @@ def functions(count):
 
 
 def far_functions(count):
-    return ''.join(f'function u{i % 7}:{131_000 * (i // 7)}() fast {{\nblock0:\n    return\n}}\n\n' for i in range(count))
+    return ''.join(f'function u{i % 7}:{131_000 * (i // 7)}() fast {{\nblock0:\n    return\n}}\n\n'
+                   for i in range(count))
 
 
 def far_values(count):
@@ -110,14 +111,17 @@ def main():
             print('%s, %.1f MB: wc -w %.3f s' % (name, len(text) / 1e6, words))
             for job in list(jobs)[1:]:
                 clock, memory = found[job].clock, found[job].memory
-                print('  %-22s %.3f s, %.2f times wc -w, %.1f bytes a byte of text' % (job, clock, clock / words, memory / len(text)))
+                print('  %-22s %.3f s, %.2f times wc -w, %.1f bytes a byte of text'
+                      % (job, clock, clock / words, memory / len(text)))
         for name, (count, make) in SHAPES.items():
             both = []
             for text in (make(count), make(2 * count)):
                 with open(path, 'w') as file:
                     file.write(text)
                 both.append(medians({it: [program, it] for it in ('check', 'print')}, path))
-            print('%d %s:' % (count, name), ', '.join('%s %.3f s, twice %.2f times' % (it, both[0][it].processor, both[1][it].processor / both[0][it].processor) for it in ('check', 'print')))
+            times = {it: (both[0][it].processor, both[1][it].processor) for it in ('check', 'print')}
+            print('%d %s:' % (count, name), ', '.join('%s %.3f s, twice %.2f times' % (it, once, twice / once)
+                                                      for it, (once, twice) in times.items()))
 
 
 if __name__ == '__main__':

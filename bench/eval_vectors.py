@@ -7,11 +7,10 @@ Run at the top of the repository:
 
 The narrow ones are those of i8, i16 and i32, the wide ones those of i64 and i128.
 
-A line has a kind, its operands, and one result for each opcode of the kind, in the order of the lists below, which the test
-has too. A value is a letter for its type (B i8, H i16, W i32, D i64, Q i128) and its bits in hexadecimal digits. A result is a
-value, two values joined by a comma, `!z` for the trap int_divz, `!o` for int_ovf, or `-` where the opcode has no row for these
-types.
-"""
+A line has a kind, its operands, and one result for each opcode of the kind, in the order of the lists below, which the
+test has too. A value is a letter for its type (B i8, H i16, W i32, D i64, Q i128) and its bits in hexadecimal digits. A
+result is a value, two values joined by a comma, `!z` for the trap int_divz, `!o` for int_ovf, or `-` where the opcode
+has no row for these types."""
 
 import random
 

@@ -3,12 +3,12 @@
 
     python3 bench/inline.py PATH/clifinl [SCALE]
 
-`rt ci`, or `rt run` in crates/clifinl, builds the program and leaves it in out/. First 14 MB of small functions in chains
-of calls, the same with fans and `try_call`s, and 60 MB of large bodies (SCALE times as much), with one, two and four
-workers: the median of five runs by the clock, as a multiple of `wc -w`, how much is written, and the most memory that a
-run held, a byte of input and output together. Beside the second text, where it is installed, LLVM's `opt` inlines the
-same functions, read and written as LLVM IR, by its own policy. Then modules of one shape each and their halves, with one
-worker: twice the sites should take at most 2.2 times the time, by the processor's clock.
+`rt ci`, or `rt run` in crates/clifinl, builds the program and leaves it in out/. First 14 MB of small functions in
+chains of calls, the same with fans and `try_call`s, and 60 MB of large bodies (SCALE times as much), with one, two and
+four workers: the median of five runs by the clock, as a multiple of `wc -w`, how much is written, and the most memory
+that a run held, a byte of input and output together. Beside the second text, where it is installed, LLVM's `opt`
+inlines the same functions, read and written as LLVM IR, by its own policy. Then modules of one shape each and their
+halves, with one worker: twice the sites should take at most 2.2 times the time, by the processor's clock.
 
 A function has at most 262,144 parts. A site of the least callee has four of them once it is inlined, so 40,000 sites
 before 200,000 lines cannot all be, nor can 1,000 calls under a table of 1,000 entries: the shapes below have one of the
@@ -88,8 +88,8 @@ def calls_under_a_table(count):
 
 def chain(count):
     first = 'function %f0() fast {\nblock0:\n    return\n}\n\n'
-    rest = ''.join(f'function %f{i}() fast {{\n    sig0 = () fast\n    fn0 = %f{i - 1} sig0\n\nblock0:\n    call fn0()\n'
-                   '    return\n}\n\n' for i in range(1, count))
+    rest = ''.join(f'function %f{i}() fast {{\n    sig0 = () fast\n    fn0 = %f{i - 1} sig0\n\n'
+                   'block0:\n    call fn0()\n    return\n}\n\n' for i in range(1, count))
     return first + rest
 
 

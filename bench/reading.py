@@ -9,8 +9,8 @@ workers as are asked for. A step's time is the median of nine runs, less that of
 raw module includes its tokens. With one worker it is the processor's time (user and system), since a machine is seldom
 idle, with several it is the clock's, as is that of the bytes then. Memory is the most that a run held, a byte of text.
 
-First a text of about 60 MB whose bodies have all forms. Then texts of one shape each, once and twice as large: twice the
-text should take at most 2.2 times the time."""
+First a text of about 60 MB whose bodies have all forms. Then texts of one shape each, once and twice as large: twice
+the text should take at most 2.2 times the time."""
 import os
 import random
 import sys
@@ -93,7 +93,8 @@ def mixed(size, seed=1):
     length = 0
     while length < size:
         lines = ['function %%f%d(i64 uext, i32) -> i64 system_v {' % len(parts),
-                 '    ss0 = explicit_slot 8, align = 8', '    sig0 = (i64) -> i64 tail', '    fn0 = colocated %g sig0', '']
+                 '    ss0 = explicit_slot 8, align = 8', '    sig0 = (i64) -> i64 tail',
+                 '    fn0 = colocated %g sig0', '']
         value = 0
         blocks = chance.randint(1, 9)
         for block in range(blocks):
@@ -119,7 +120,8 @@ SHAPES = {
     'instructions of a block': (262_000, lambda n: whole('v%d = iadd v0, v%d' % (i, i - 1) for i in range(1, n))),
     'values of a block': (262_000, lambda n: whole(['return'], '(%s)' % ', '.join('v%d: i64' % i for i in range(n)))),
     'values of a return': (262_000, lambda n: whole(['return ' + ', '.join('v%d' % i for i in range(n))])),
-    'entries of a table': (100_000, lambda n: whole(['try_call fn0(), sig0, block1, [%s]' % ', '.join('tag%d: block%d(exn0)' % (i, i) for i in range(n))])),
+    'entries of a table': (100_000, lambda n: whole(['try_call fn0(), sig0, block1, [%s]' % ', '.join(
+        'tag%d: block%d(exn0)' % (i, i) for i in range(n))])),
     'comments': (1_000_000, lambda n: '; a comment\n' * n),
 }
 
@@ -156,13 +158,15 @@ def main():
     print('%.1f MB with all forms' % (length / 1e6))
     for step in SHOWN:
         seconds = net(found, step)
-        print('  %-18s %.3f s, %4.0f MB/s, %.1f bytes a byte of text' % (step, seconds, length / 1e6 / seconds, found[step].memory / length))
+        print('  %-18s %.3f s, %4.0f MB/s, %.1f bytes a byte of text'
+              % (step, seconds, length / 1e6 / seconds, found[step].memory / length))
     print('  wc -w              %.3f s, %4.0f MB/s' % (found['wc'].processor, length / 1e6 / found['wc'].processor))
     for name, (count, make) in SHAPES.items():
         once, twice = make(count), make(2 * count)
         first, second = measured(program, [once, twice])
         print('%d %s (%.1f MB):' % (count, name, len(once) / 1e6), end=' ')
-        print(', '.join('%s %.3f s, twice %.2f times' % (step, net(first, step), net(second, step) / net(first, step)) for step in SHOWN))
+        print(', '.join('%s %.3f s, twice %.2f times' % (step, net(first, step), net(second, step) / net(first, step))
+                        for step in SHOWN))
 
 
 if __name__ == '__main__':

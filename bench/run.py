@@ -3,9 +3,10 @@
 
     python3 bench/run.py PATH/clifinl
 
-`rt ci`, or `rt run` in crates/clifinl, builds the program and leaves it in out/. Each loop is run once and twice as long;
-the time is the processor's, the median of five runs, less that of a run of no step. Wanted: 25 million steps a second of
-arithmetic and 10 million of the others, a million frames within 250 MB, twice the steps in at most 2.1 times the time."""
+`rt ci`, or `rt run` in crates/clifinl, builds the program and leaves it in out/. Each loop is run once and twice as
+long; the time is the processor's, the median of five runs, less that of a run of no step. Wanted: 25 million steps a
+second of arithmetic and 10 million of the others, a million frames within 250 MB, twice the steps in at most 2.1 times
+the time."""
 import os
 import sys
 import tempfile

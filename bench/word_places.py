@@ -3,13 +3,13 @@
 
     python3 bench/word_places.py [--write]
 
-`crates/clif_words/src` has the words in two tables, `OPCODES` of opcodes.rt and behind it `WORDS` of words.rt. This prints
-`SHIFTS` and `PLACES` for them, or with `--write` puts them into words.rt. A word's sum takes its first, second and last
-byte and its length, each times a factor of `FACTORS`. The sum modulo 64 chooses a shift, and the rest of the sum and the
-shift modulo 256 the word's place, where `PLACES` has its number, counted through both tables. Two words that follow each
-other there may have one sum: the place has the number of the first of them. The last but one is the highest number, so
-that there is a next row to it. The words that share a shift get the first one that brings them to places of their own,
-those with the most words first.
+`crates/clif_words/src` has the words in two tables, `OPCODES` of opcodes.rt and behind it `WORDS` of words.rt. This
+prints `SHIFTS` and `PLACES` for them, or with `--write` puts them into words.rt. A word's sum takes its first, second
+and last byte and its length, each times a factor of `FACTORS`. The sum modulo 64 chooses a shift, and the rest of the
+sum and the shift modulo 256 the word's place, where `PLACES` has its number, counted through both tables. Two words
+that follow each other there may have one sum: the place has the number of the first of them. The last but one is the
+highest number, so that there is a next row to it. The words that share a shift get the first one that brings them to
+places of their own, those with the most words first.
 
 The prover checks that each row is found where these tables say, so a change of a row needs this script again. Where it
 finds no shift, other factors are needed, here and in `row_number` and `sum_of`, its definition for the proof."""

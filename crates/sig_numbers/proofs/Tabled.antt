@@ -13,9 +13,10 @@ use Rattle.ir_core.proofs.Indexing.{same_bytes_self}
 use Rattle.body_import.specs.SigKeys.{sig_key}
 use Rattle.body_import.proofs.SigsDecided.{sigs_decide}
 use Rattle.sig_numbers.specs.declared.index.SigIndex.{SigIndex}
+use Rattle.sig_numbers.specs.declared.tables.SigEntry.{SigEntry}
 use Rattle.sig_numbers.specs.declared.tables.SigTable.{SigTable}
 use Rattle.sig_numbers.specs.Index.{IsIndex, Keeps, number_of}
-use Rattle.sig_numbers.specs.Tables.{Tells, IsTable, AreTables}
+use Rattle.sig_numbers.specs.Tables.{Tells, numbers_in, flags_in, IsTable, AreTables}
 
 -- ---- an index that grows
 
@@ -35,8 +36,22 @@ numbers_more i j keeps sigs ns ns' k n s e p low at number =
     ∙ (ap₂ (λ (os : List (Option ℕ)) (o : Option ℕ). os ++ o ∷ []) (numbers_kept i j keeps (take k sigs) ns e) (sym number ∙ ap (number_of j) at)
     ∙ (sym (map_push (number_of j) (take k sigs) (get_or sigs k s)) ∙ ap (map (number_of j)) (sym (take_more sigs k s low)))))
 
+-- the same of entries, and their flags
+pub entries_more : (i j : SigIndex) → Keeps i j → (sigs : List Sig) (es es' : List SigEntry) (k : ℕ) (e : SigEntry) (s : Sig) → map Some (numbers_in es) ≡ map (number_of i) (take k sigs) → es' ≡ es ++ e ∷ [] → k < length sigs → s ≡ get_or sigs k s → number_of j s ≡ Some e.number
+    → map Some (numbers_in es') ≡ map (number_of j) (take (k + 1) sigs)
+entries_more i j keeps sigs es es' k e s is more low at number =
+    numbers_more i j keeps sigs (numbers_in es) (numbers_in es') k e.number s is (ap numbers_in more ∙ map_push (λ (e : SigEntry). e.number) es e) low at number
+
+pub flags_more : (f : Sig → Bool) (sigs : List Sig) (es es' : List SigEntry) (k : ℕ) (e : SigEntry) (s : Sig) → flags_in es ≡ map f (take k sigs) → es' ≡ es ++ e ∷ [] → k < length sigs → s ≡ get_or sigs k s → e.returns_alike ≡ f s
+    → flags_in es' ≡ map f (take (k + 1) sigs)
+flags_more f sigs es es' k e s is more low at flag =
+    ap flags_in more
+    ∙ (map_push (λ (e : SigEntry). e.returns_alike) es e
+    ∙ (ap₂ (λ (bs : List Bool) (b : Bool). bs ++ b ∷ []) is (flag ∙ ap f at)
+    ∙ (sym (map_push f (take k sigs) (get_or sigs k s)) ∙ ap (map f) (sym (take_more sigs k s low)))))
+
 pub table_kept : (i j : SigIndex) → Keeps i j → (f : Function) (t : SigTable) → IsTable (number_of i) f t → IsTable (number_of j) f t
-table_kept i j keeps f t h = record { own = keeps (sig_key f.sig) t.own h.own; numbers = numbers_kept i j keeps f.sigs t.numbers.items h.numbers; returned = h.returned }
+table_kept i j keeps f t h = record { own = keeps (sig_key f.sig) t.own h.own; numbers = numbers_kept i j keeps f.sigs (numbers_in t.entries.items) h.numbers; flags = h.flags }
 
 -- the tables of the first functions of a module
 abbrev pub Tabling : SigIndex → Module → List SigTable → Type 0
@@ -75,20 +90,31 @@ same_by_number number tells s t a b p q =
     differ true h e = let r : Some a ≡ Some b = sym p ∙ (ap number (sig_equal s t h) ∙ q) in absurd (e cc)
     differ false h e = sym h
 
-pub number_stands : (number : Sig → Option ℕ) (f : Function) (t : SigTable) → IsTable number f t → (k : ℕ) (s : Sig) → slice_get f.sigs k ≡ Some s → (d : ℕ) → number s ≡ Some (get_or t.numbers.items k d)
-number_stands number f t h k s at d = by f.sigs t.numbers.items k h.numbers at
+pub number_stands : (number : Sig → Option ℕ) (f : Function) (t : SigTable) → IsTable number f t → (k : ℕ) (s : Sig) → slice_get f.sigs k ≡ Some s → (d : SigEntry) → number s ≡ Some (get_or t.entries.items k d).number
+number_stands number f t h k s at d = by f.sigs t.entries.items k h.numbers at
   where
-    by : (sigs : List Sig) (ns : List ℕ) (k : ℕ) → map Some ns ≡ map number sigs → slice_get sigs k ≡ Some s → number s ≡ Some (get_or ns k d)
-    by [] ns k e at = cc
+    by : (sigs : List Sig) (es : List SigEntry) (k : ℕ) → map Some (numbers_in es) ≡ map number sigs → slice_get sigs k ≡ Some s → number s ≡ Some (get_or es k d).number
+    by [] es k e at = cc
     by (x ∷ sigs) [] k e at = cc
-    by (x ∷ sigs) (n ∷ ns) zero e at = let q : x ≡ s = cc in let r : Some n ≡ number x = cc in sym (r ∙ ap number q)
-    by (x ∷ sigs) (n ∷ ns) (suc k) e at = let r : map Some ns ≡ map number sigs = cc in by sigs ns k r at
+    by (x ∷ sigs) (n ∷ es) zero e at = let q : x ≡ s = cc in let r : Some n.number ≡ number x = cc in sym (r ∙ ap number q)
+    by (x ∷ sigs) (n ∷ es) (suc k) e at = let r : map Some (numbers_in es) ≡ map number sigs = cc in by sigs es k r at
 
-pub number_read : (number : Sig → Option ℕ) (f : Function) (t : SigTable) → IsTable number f t → (k k' n : ℕ) (s : Sig) → slice_get f.sigs k ≡ Some s → k' ≡ k → n ≡ get_or t.numbers.items k' n → number s ≡ Some n
-number_read number f t h k k' n s at e r = number_stands number f t h k s at n ∙ ap Some (sym (r ∙ ap (λ (z : ℕ). get_or t.numbers.items z n) e))
+pub number_read : (number : Sig → Option ℕ) (f : Function) (t : SigTable) → IsTable number f t → (k k' : ℕ) (e : SigEntry) (s : Sig) → slice_get f.sigs k ≡ Some s → k' ≡ k → e ≡ get_or t.entries.items k' e → number s ≡ Some e.number
+number_read number f t h k k' e s at same r = number_stands number f t h k s at e ∙ ap (λ (x : SigEntry). Some x.number) (sym (r ∙ ap (λ (z : ℕ). get_or t.entries.items z e) same))
 
-pub numbers_long : (number : Sig → Option ℕ) (f : Function) (t : SigTable) → IsTable number f t → length t.numbers.items ≡ length f.sigs
-numbers_long number f t h = sym (length-map t.numbers.items (λ (n : ℕ). Some n)) ∙ (ap length h.numbers ∙ length-map f.sigs number)
+pub flag_read : (f : Sig → Bool) (sigs : List Sig) (es : List SigEntry) → flags_in es ≡ map f sigs → (k k' : ℕ) (e : SigEntry) (s : Sig) → slice_get sigs k ≡ Some s → k' ≡ k → e ≡ get_or es k' e → e.returns_alike ≡ f s
+flag_read f sigs es is k k' e s at same r = ap (λ (x : SigEntry). x.returns_alike) (r ∙ ap (λ (z : ℕ). get_or es z e) same) ∙ by sigs es k is at
+  where
+    by : (sigs : List Sig) (es : List SigEntry) (k : ℕ) → flags_in es ≡ map f sigs → slice_get sigs k ≡ Some s → (get_or es k e).returns_alike ≡ f s
+    by [] es k is at = cc
+    by (x ∷ sigs) [] k is at = cc
+    by (x ∷ sigs) (n ∷ es) zero is at = let q : x ≡ s = cc in let r : n.returns_alike ≡ f x = cc in r ∙ ap f q
+    by (x ∷ sigs) (n ∷ es) (suc k) is at = let r : flags_in es ≡ map f sigs = cc in by sigs es k r at
+
+pub entries_long : (number : Sig → Option ℕ) (f : Function) (t : SigTable) → IsTable number f t → length t.entries.items ≡ length f.sigs
+entries_long number f t h =
+    sym (length-map t.entries.items (λ (e : SigEntry). e.number))
+    ∙ (sym (length-map (numbers_in t.entries.items) (λ (n : ℕ). Some n)) ∙ (ap length h.numbers ∙ length-map f.sigs number))
 
 pub item_there : {A : Type 0} (xs : List A) (i : ℕ) → i < length xs → (x : A) × (slice_get xs i ≡ Some x)
 item_there xs i low = elim (slice_get_cases xs i).1 [

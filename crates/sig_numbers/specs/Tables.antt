@@ -5,6 +5,7 @@ use Rattle.ir_core.specs.declared.signatures.Sig.{Sig}
 use Rattle.ir_core.specs.Lookup.{param_types}
 use Rattle.ir_core.specs.Module.{Function, Module}
 use Rattle.ir_core.specs.Signatures.{same_type, same_sig}
+use Rattle.sig_numbers.specs.declared.tables.SigEntry.{SigEntry}
 use Rattle.sig_numbers.specs.declared.tables.SigTable.{SigTable}
 
 -- the results of a signature have the types of those of `own`
@@ -15,11 +16,17 @@ return_alike own s = pointwise same_type (param_types s.results) (param_types ow
 abbrev pub Tells : (Sig → Option ℕ) → Type 0
 Tells number = (s t : Sig) (n : ℕ) → number s ≡ Some n → number t ≡ Some n → same_sig s t ≡ true
 
+abbrev pub numbers_in : List SigEntry → List ℕ
+numbers_in es = map (λ (e : SigEntry). e.number) es
+
+abbrev pub flags_in : List SigEntry → List Bool
+flags_in es = map (λ (e : SigEntry). e.returns_alike) es
+
 -- the table of a function by the numbers that are given
 pub record IsTable (number : Sig → Option ℕ) (f : Function) (t : SigTable) : Type 0 where
   pub own : number f.sig ≡ Some t.own
-  pub numbers : map Some t.numbers.items ≡ map number f.sigs
-  pub returned : t.returned.items ≡ map (return_alike f.sig) f.sigs
+  pub numbers : map Some (numbers_in t.entries.items) ≡ map number f.sigs
+  pub flags : flags_in t.entries.items ≡ map (return_alike f.sig) f.sigs
 
 -- the tables of a module's functions
 pub record AreTables (m : Module) (ts : List SigTable) : Type 0 where

@@ -69,7 +69,7 @@ impl<'a> ModuleSigs<'a> {
             → slice_get f.sigs sig ≡ Some s → result ≡ same_sig s g.sig }
     {
         let caller = &self.tables[i];
-        caller.numbers[sig.number() as usize] == self.tables[callee].own
+        caller.entries[sig.number() as usize].number == self.tables[callee].own
     }
 }
 
@@ -81,8 +81,8 @@ impl<'a> FuncSigs<'a> {
         ensures { (s t : Sig) → slice_get self.now.sigs a ≡ Some s → slice_get self.now.sigs b ≡ Some t
             → result ≡ same_sig s t }
     {
-        let numbers = &self.table.numbers;
-        numbers[a.number() as usize] == numbers[b.number() as usize]
+        let entries = &self.table.entries;
+        entries[a.number() as usize].number == entries[b.number() as usize].number
     }
 
     /// Whether the results of a signature that the function declares have the types of the function's own. It takes one
@@ -91,7 +91,7 @@ impl<'a> FuncSigs<'a> {
         requires { sig < length self.now.sigs }
         ensures { (s : Sig) → slice_get self.now.sigs sig ≡ Some s → result ≡ return_alike self.now.sig s }
     {
-        self.table.returned[sig.number() as usize]
+        self.table.entries[sig.number() as usize].returns_alike
     }
 }
 

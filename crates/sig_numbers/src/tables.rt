@@ -8,41 +8,48 @@ use crate::types::have_same_types;
 use ir_core::{Func, Module, Sig};
 use std::alloc::{AllocError, Global};
 
+/// What is looked up of a signature that a function declares.
+#[derive(Drop)]
+pub(crate) struct SigEntry {
+    pub(crate) number: usize,
+    /// Whether its results have the types of the function's.
+    pub(crate) returns_alike: bool,
+}
+
 /// What is looked up of a function's signatures.
 #[derive(Drop)]
 pub(crate) struct SigTable {
     /// The number of its own.
     pub(crate) own: usize,
-    /// The number of each that it declares.
-    pub(crate) numbers: Vec<usize>,
-    /// For each that it declares, whether its results have the types of the function's.
-    pub(crate) returned: Vec<bool>,
+    /// An entry for each that it declares.
+    pub(crate) entries: Vec<SigEntry>,
 }
 
-/// For each signature, whether its results have the types of those of `own`. Only `AllocError` refuses.
-fn find_returned(alloc: Global, own: &Sig, sigs: &[Sig]) -> Result<Vec<bool>, AllocError>
-    ensures { IfOk result (λ flags. flags.items ≡ map (return_alike own.now) sigs.now) }
-{
-    let mut flags = Vec::new(alloc);
-    for sig in sigs {
-        flags.push(have_same_types(sig.results.as_slice(), own.results.as_slice()))?;
-    }
-    Ok(flags)
-}
-
-/// The numbers of signatures. Only `AllocError` refuses.
-fn find_numbers(alloc: Global, index: &mut SigIndex, sigs: &[Sig]) -> Result<Vec<usize>, AllocError>
+/// The entries of signatures that a function declares whose own is `own`. Only `AllocError` refuses.
+fn find_entries(
+    alloc: Global,
+    index: &mut SigIndex,
+    own: &Sig,
+    sigs: &[Sig],
+) -> Result<Vec<SigEntry>, AllocError>
     requires { IsIndex index.old }
     ensures index { OnOk result (IsIndex index.new) }
     ensures keeps { OnOk result (Keeps index.old index.new) }
-    ensures numbers { IfOk result (λ numbers. map Some numbers.items ≡ map (number_of index.new) sigs.now) }
+    ensures numbers { IfOk result
+        (λ entries. map Some (map (λ e. e.number) entries.items) ≡ map (number_of index.new) sigs.now) }
+    ensures flags { IfOk result
+        (λ entries. map (λ e. e.returns_alike) entries.items ≡ map (return_alike own.now) sigs.now) }
 {
-    let mut numbers = Vec::new(alloc);
+    let mut entries = Vec::with_capacity(alloc, sigs.len())?;
     for sig in sigs {
         let number = index.number(alloc, sig)?;
-        numbers.push(number)?;
+        let returns_alike = have_same_types(sig.results.as_slice(), own.results.as_slice());
+        entries.push(SigEntry {
+            number,
+            returns_alike,
+        })?;
     }
-    Ok(numbers)
+    Ok(entries)
 }
 
 /// The table of a function. Only `AllocError` refuses.
@@ -53,13 +60,8 @@ fn find_table(alloc: Global, index: &mut SigIndex, func: &Func) -> Result<SigTab
     ensures table { IfOk result (IsTable (number_of index.new) func.now.function) }
 {
     let own = index.number(alloc, func.sig())?;
-    let numbers = find_numbers(alloc, index, func.sigs())?;
-    let returned = find_returned(alloc, func.sig(), func.sigs())?;
-    Ok(SigTable {
-        own,
-        numbers,
-        returned,
-    })
+    let entries = find_entries(alloc, index, func.sig(), func.sigs())?;
+    Ok(SigTable { own, entries })
 }
 
 /// The table of each function of a module. Only `AllocError` refuses.
@@ -67,7 +69,7 @@ pub(crate) fn find_tables(alloc: Global, module: &Module) -> Result<Vec<SigTable
     ensures { IfOk result (λ tables. AreTables «module».now tables.items) }
 {
     let mut index = SigIndex::new(alloc);
-    let mut tables = Vec::new(alloc);
+    let mut tables = Vec::with_capacity(alloc, module.len())?;
     for i in 0..module.len() {
         let table = find_table(alloc, &mut index, module.func(i))?;
         tables.push(table)?;

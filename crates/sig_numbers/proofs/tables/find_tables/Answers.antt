@@ -7,8 +7,8 @@ use Rattle.sig_numbers.proofs.tables.find_tables.Goals as goal
 pub loop-i-init : goal.loop-i-init
 loop-i-init c = record {
   index = c.new-index.ensures;
-  count = ap length c.new-tables.ensures.items;
-  tabling = no_tables c.new-index.result c.args.«module».now c.new-tables.result.items c.new-tables.ensures.items;
+  count = ap length c.in_ok-tables.ensures.items;
+  tabling = no_tables c.new-index.result c.args.«module».now c.in_ok-tables.tables.items c.in_ok-tables.ensures.items;
 }
 
 pub loop-i-preserved : goal.loop-i-preserved

@@ -75,8 +75,7 @@ tail_try_callee =
 abbrev tail_try_caller : Function
 tail_try_caller =
     function f (of_i64 Fast) [] (of_i64 Tail ∷ []) (declares g 0 ∷ []) (I64 ∷ I64 ∷ I64 ∷ []) (
-    block 0 (0 ∷ []) (
-    line None [] (TryCall (TryDirect 0) 0 (0 ∷ []) (to 1 (Ret 0 ∷ [])) (caught (Some 3) (to 2 (Exn 0 ∷ [])) ∷ [])) ∷ []) ∷
+    block 0 (0 ∷ []) (line None [] (TryCall (TryDirect 0) 0 (0 ∷ []) (to 1 (Ret 0 ∷ [])) (caught (Some 3) (to 2 (Exn 0 ∷ [])) ∷ [])) ∷ []) ∷
     block 1 (1 ∷ []) (returns (1 ∷ []) ∷ []) ∷
     block 2 (2 ∷ []) (returns (2 ∷ []) ∷ []) ∷ [])
 
@@ -84,8 +83,7 @@ abbrev tail_try_result : Function
 tail_try_result =
     function f (of_i64 Fast) [] (of_i64 Tail ∷ []) (declares g 0 ∷ declares h 0 ∷ []) (I64 ∷ I64 ∷ I64 ∷ I64 ∷ []) (
     block 0 (0 ∷ []) (jumps 1 (Value 0 ∷ []) ∷ []) ∷
-    block 1 (1 ∷ []) (
-    line None [] (TryCall (TryDirect 1) 0 (1 ∷ []) (to 2 (Ret 0 ∷ [])) (caught (Some 3) (to 3 (Exn 0 ∷ [])) ∷ [])) ∷ []) ∷
+    block 1 (1 ∷ []) (line None [] (TryCall (TryDirect 1) 0 (1 ∷ []) (to 2 (Ret 0 ∷ [])) (caught (Some 3) (to 3 (Exn 0 ∷ [])) ∷ [])) ∷ []) ∷
     block 2 (2 ∷ []) (returns (2 ∷ []) ∷ []) ∷
     block 3 (3 ∷ []) (returns (3 ∷ []) ∷ []) ∷ [])
 

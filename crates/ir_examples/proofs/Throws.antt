@@ -26,8 +26,7 @@ throw_callee = forwards g h
 abbrev throw_caller : Function
 throw_caller =
     function f (of_i64 Fast) [] (of_i64 Fast ∷ []) (declares g 0 ∷ []) (I64 ∷ I64 ∷ I64 ∷ []) (
-    block 0 (0 ∷ []) (
-    line None [] (TryCall (TryDirect 0) 0 (0 ∷ []) (to 1 (Ret 0 ∷ [])) (caught (Some 3) (to 2 (Exn 0 ∷ [])) ∷ [])) ∷ []) ∷
+    block 0 (0 ∷ []) (line None [] (TryCall (TryDirect 0) 0 (0 ∷ []) (to 1 (Ret 0 ∷ [])) (caught (Some 3) (to 2 (Exn 0 ∷ [])) ∷ [])) ∷ []) ∷
     block 1 (1 ∷ []) (returns (1 ∷ []) ∷ []) ∷
     block 2 (2 ∷ []) (returns (2 ∷ []) ∷ []) ∷ [])
 
@@ -35,8 +34,7 @@ abbrev throw_result : Function
 throw_result =
     function f (of_i64 Fast) [] (of_i64 Fast ∷ []) (declares g 0 ∷ declares h 0 ∷ []) (I64 ∷ I64 ∷ I64 ∷ I64 ∷ I64 ∷ []) (
     block 0 (0 ∷ []) (jumps 1 (Value 0 ∷ []) ∷ []) ∷
-    block 1 (1 ∷ []) (
-    line None [] (TryCall (TryDirect 1) 0 (1 ∷ []) (to 2 (Ret 0 ∷ [])) (caught (Some 3) (to 4 (Exn 0 ∷ [])) ∷ [])) ∷ []) ∷
+    block 1 (1 ∷ []) (line None [] (TryCall (TryDirect 1) 0 (1 ∷ []) (to 2 (Ret 0 ∷ [])) (caught (Some 3) (to 4 (Exn 0 ∷ [])) ∷ [])) ∷ []) ∷
     block 2 (2 ∷ []) (jumps 3 (Value 2 ∷ []) ∷ []) ∷
     block 3 (3 ∷ []) (returns (3 ∷ []) ∷ []) ∷
     block 4 (4 ∷ []) (returns (4 ∷ []) ∷ []) ∷ [])
@@ -71,16 +69,14 @@ throw_after_threw = refl
 abbrev tables_callee : Function
 tables_callee =
     function g (of_i64 Fast) [] (of_i64 Fast ∷ []) (declares h 0 ∷ []) (I64 ∷ I64 ∷ I64 ∷ []) (
-    block 0 (0 ∷ []) (
-    line None [] (TryCall (TryDirect 0) 0 (0 ∷ []) (to 1 (Ret 0 ∷ [])) (caught (Some 1) (to 2 (Exn 0 ∷ [])) ∷ [])) ∷ []) ∷
+    block 0 (0 ∷ []) (line None [] (TryCall (TryDirect 0) 0 (0 ∷ []) (to 1 (Ret 0 ∷ [])) (caught (Some 1) (to 2 (Exn 0 ∷ [])) ∷ [])) ∷ []) ∷
     block 1 (1 ∷ []) (returns (1 ∷ []) ∷ []) ∷
     block 2 (2 ∷ []) (returns (2 ∷ []) ∷ []) ∷ [])
 
 abbrev tables_caller : Function
 tables_caller =
     function f (of_i64 Fast) [] (of_i64 Fast ∷ []) (declares g 0 ∷ []) (I64 ∷ I64 ∷ I64 ∷ []) (
-    block 0 (0 ∷ []) (
-    line None [] (TryCall (TryDirect 0) 0 (0 ∷ []) (to 1 (Ret 0 ∷ [])) (caught (Some 1) (to 2 (Exn 0 ∷ [])) ∷ caught (Some 2) (to 2 (Exn 1 ∷ [])) ∷ caught None (to 2 (Exn 0 ∷ [])) ∷ [])) ∷ []) ∷
+    block 0 (0 ∷ []) (line None [] (TryCall (TryDirect 0) 0 (0 ∷ []) (to 1 (Ret 0 ∷ [])) (caught (Some 1) (to 2 (Exn 0 ∷ [])) ∷ caught (Some 2) (to 2 (Exn 1 ∷ [])) ∷ caught None (to 2 (Exn 0 ∷ [])) ∷ [])) ∷ []) ∷
     block 1 (1 ∷ []) (returns (1 ∷ []) ∷ []) ∷
     block 2 (2 ∷ []) (returns (2 ∷ []) ∷ []) ∷ [])
 
@@ -88,8 +84,7 @@ abbrev tables_result : Function
 tables_result =
     function f (of_i64 Fast) [] (of_i64 Fast ∷ []) (declares g 0 ∷ declares h 0 ∷ []) (I64 ∷ I64 ∷ I64 ∷ I64 ∷ I64 ∷ I64 ∷ []) (
     block 0 (0 ∷ []) (jumps 1 (Value 0 ∷ []) ∷ []) ∷
-    block 1 (1 ∷ []) (
-    line None [] (TryCall (TryDirect 1) 0 (1 ∷ []) (to 2 (Ret 0 ∷ [])) (caught (Some 1) (to 3 (Exn 0 ∷ [])) ∷ caught (Some 1) (to 5 (Exn 0 ∷ [])) ∷ caught (Some 2) (to 5 (Exn 1 ∷ [])) ∷ caught None (to 5 (Exn 0 ∷ [])) ∷ [])) ∷ []) ∷
+    block 1 (1 ∷ []) (line None [] (TryCall (TryDirect 1) 0 (1 ∷ []) (to 2 (Ret 0 ∷ [])) (caught (Some 1) (to 3 (Exn 0 ∷ [])) ∷ caught (Some 1) (to 5 (Exn 0 ∷ [])) ∷ caught (Some 2) (to 5 (Exn 1 ∷ [])) ∷ caught None (to 5 (Exn 0 ∷ [])) ∷ [])) ∷ []) ∷
     block 2 (2 ∷ []) (jumps 4 (Value 2 ∷ []) ∷ []) ∷
     block 3 (3 ∷ []) (jumps 4 (Value 3 ∷ []) ∷ []) ∷
     block 4 (4 ∷ []) (returns (4 ∷ []) ∷ []) ∷

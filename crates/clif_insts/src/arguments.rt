@@ -18,6 +18,7 @@ struct ValueItems;
 impl Items<RawName> for ValueItems {
     ghost item_at = { λ _. name_at classes.Value };
 
+    #[inline]
     fn item(&self, _alloc: Global, reader: &mut Reader<'_>) -> Result<RawName, Stop> {
         reader.take(Class::Value)
     }

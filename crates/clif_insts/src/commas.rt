@@ -23,6 +23,7 @@ pub trait Items<T> {
 }
 
 #[tactic(auto, unfolding(crate::specs::Reading::comma_at))]
+#[inline]
 fn behind_comma<T, I: Items<T>>(
     alloc: Global,
     reader: &mut Reader<'_>,

@@ -52,6 +52,7 @@ struct EntryItems;
 impl Items<RawEntry> for EntryItems {
     ghost item_at = { λ _. spec.entry_at };
 
+    #[inline]
     fn item(&self, alloc: Global, reader: &mut Reader<'_>) -> Result<RawEntry, Stop> {
         entry(alloc, reader)
     }

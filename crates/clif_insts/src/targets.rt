@@ -52,6 +52,7 @@ pub(crate) fn arg(reader: &mut Reader<'_>, role: TargetRole) -> Result<RawArg, S
 impl Items<RawArg> for TargetRole {
     ghost item_at = { spec.arg_at };
 
+    #[inline]
     fn item(&self, _alloc: Global, reader: &mut Reader<'_>) -> Result<RawArg, Stop> {
         arg(reader, *self)
     }
@@ -140,6 +141,7 @@ struct TargetItems;
 impl Items<RawTarget> for TargetItems {
     ghost item_at = { λ _. spec.target_at Branch };
 
+    #[inline]
     fn item(&self, alloc: Global, reader: &mut Reader<'_>) -> Result<RawTarget, Stop> {
         target(alloc, reader, TargetRole::Branch)
     }

@@ -49,6 +49,7 @@ struct BlockParamItems;
 impl Items<RawBlockParam> for BlockParamItems {
     ghost item_at = { λ _. spec.block_param_at };
 
+    #[inline]
     fn item(&self, _alloc: Global, reader: &mut Reader<'_>) -> Result<RawBlockParam, Stop> {
         block_param(reader)
     }

@@ -31,6 +31,7 @@ struct ParamItems;
 impl Items<RawParam> for ParamItems {
     ghost item_at = { λ _. spec.param_at };
 
+    #[inline]
     fn item(&self, alloc: Global, reader: &mut Reader<'_>) -> Result<RawParam, Stop> {
         param(alloc, reader)
     }

@@ -27,6 +27,7 @@ struct TagItems;
 impl Items<RawTag> for TagItems {
     ghost item_at = { λ _. spec.debug_tag_at };
 
+    #[inline]
     fn item(&self, _alloc: Global, reader: &mut Reader<'_>) -> Result<RawTag, Stop> {
         debug_tag(reader)
     }

@@ -1,6 +1,6 @@
 -- Each form is read as its rule of the grammar says.
 use Rattle.std.proofs.Common.{[], None, Ok}
-use Rattle.grammar.specs.Rules.{Opt, ◌>>=◌}
+use Rattle.grammar.specs.Rules.{Opt, read, ◌>>=◌}
 use Rattle.clif_words.specs.declared.class.Class.TheVariants as classes
 use Rattle.clif_insts.specs.declared.targets.TargetRole.TheVariants as roles
 use Rattle.clif_insts.specs.declared.raw.RawOperands.TheVariants as operands
@@ -8,15 +8,14 @@ use Rattle.clif_words.specs.Terminals.{◌then◌, value, comma, sig, callee, br
 use Rattle.clif_insts.specs.Grammar.{suffix, suffix_i64, any_trap, target, normal_target, table, args, target_list}
 use Rattle.clif_insts.specs.Reading.{name, name_at}
 use Rattle.clif_insts.specs.Types.{opt_suffix_at, opt_suffix_i64_at}
-use Rattle.clif_insts.specs.Codes.{trap_at}
 use Rattle.clif_insts.specs.Arguments.{args_at}
 use Rattle.clif_insts.specs.Targets.{target_at, target_list_at}
 use Rattle.clif_insts.specs.Tables.{table_at}
-use Rattle.clif_insts.specs.Values.{opt_suffix_value, trap_value, args_value, branch_value, normal_value, target_list_value, table_value}
+use Rattle.clif_insts.specs.Values.{seen, opt_suffix_value, trap_value, args_value, branch_value, normal_value, target_list_value, table_value}
 use Rattle.clif_insts.specs.InstValues.{raw, br_table_value, return_inst_value, trap_inst_value, trap_if_value, call_value, try_call_value, call_indirect_value, try_call_indirect_value}
 use Rattle.clif_insts.specs.Forms.{br_table_at, return_inst_at, trap_inst_at, trap_if_at, call_at, try_call_at, call_indirect_at, try_call_indirect_at}
-use Rattle.clif_insts.proofs.Seen.{Is, then_is, map_is, name_is, opcode_is}
-use Rattle.clif_insts.proofs.PartLaws.{opt_suffix_is, opt_suffix_i64_is, trap_is, args_is, branch_is, normal_is, target_list_is, table_is}
+use Rattle.clif_insts.proofs.Seen.{Is, rule_is, then_is, map_is, name_is, opcode_is}
+use Rattle.clif_insts.proofs.PartLaws.{opt_suffix_is, opt_suffix_i64_is, args_is, branch_is, normal_is, target_list_is, table_is}
 
 pub br_table_is : Is (br_table then value then comma then target then comma then target_list) br_table_value br_table_at
 unfolding br_table_at
@@ -42,21 +41,21 @@ pub trap_inst_is : Is (trap then any_trap) trap_inst_value trap_inst_at
 unfolding trap_inst_at
 trap_inst_is =
     then_is (opcode_is classes.Trap) any_trap (λ opcode v. raw opcode None (operands.Trap (trap_value v)))
-    (λ opcode ts. trap_at ts >>= λ code. Ok (raw opcode None (operands.Trap code.0), code.1))
-    (λ opcode. map_is (trap_is) (λ code. raw opcode None (operands.Trap code)))
+    (λ opcode ts. seen trap_value (read any_trap ts) >>= λ code. Ok (raw opcode None (operands.Trap code.0), code.1))
+    (λ opcode. map_is (rule_is any_trap trap_value) (λ code. raw opcode None (operands.Trap code)))
 
 pub trap_if_is : Is (trap_if then Opt suffix then value then comma then any_trap) trap_if_value trap_if_at
 unfolding trap_if_at
 trap_if_is =
     then_is (opcode_is classes.TrapIf) (Opt suffix then value then comma then any_trap) (λ opcode v. raw opcode (opt_suffix_value v.0) (operands.TrapIf (name v.1.0) (trap_value v.1.1.1)))
-    (λ opcode ts. opt_suffix_at ts >>= λ the_suffix. name_at classes.Value the_suffix.1 >>= λ x. name_at classes.Comma x.1 >>= λ s2. trap_at s2.1 >>= λ code. Ok (raw opcode the_suffix.0 (operands.TrapIf x.0 code.0), code.1))
+    (λ opcode ts. opt_suffix_at ts >>= λ the_suffix. name_at classes.Value the_suffix.1 >>= λ x. name_at classes.Comma x.1 >>= λ s2. seen trap_value (read any_trap s2.1) >>= λ code. Ok (raw opcode the_suffix.0 (operands.TrapIf x.0 code.0), code.1))
     (λ opcode. then_is (opt_suffix_is) (value then comma then any_trap) (λ the_suffix v. raw opcode the_suffix (operands.TrapIf (name v.0) (trap_value v.1.1)))
-    (λ the_suffix ts. name_at classes.Value ts >>= λ x. name_at classes.Comma x.1 >>= λ s2. trap_at s2.1 >>= λ code. Ok (raw opcode the_suffix (operands.TrapIf x.0 code.0), code.1))
+    (λ the_suffix ts. name_at classes.Value ts >>= λ x. name_at classes.Comma x.1 >>= λ s2. seen trap_value (read any_trap s2.1) >>= λ code. Ok (raw opcode the_suffix (operands.TrapIf x.0 code.0), code.1))
     (λ the_suffix. then_is (name_is classes.Value) (comma then any_trap) (λ x v. raw opcode the_suffix (operands.TrapIf x (trap_value v.1)))
-    (λ x ts. name_at classes.Comma ts >>= λ s2. trap_at s2.1 >>= λ code. Ok (raw opcode the_suffix (operands.TrapIf x code.0), code.1))
+    (λ x ts. name_at classes.Comma ts >>= λ s2. seen trap_value (read any_trap s2.1) >>= λ code. Ok (raw opcode the_suffix (operands.TrapIf x code.0), code.1))
     (λ x. then_is (name_is classes.Comma) any_trap (λ s2 v. raw opcode the_suffix (operands.TrapIf x (trap_value v)))
-    (λ s2 ts. trap_at ts >>= λ code. Ok (raw opcode the_suffix (operands.TrapIf x code.0), code.1))
-    (λ s2. map_is (trap_is) (λ code. raw opcode the_suffix (operands.TrapIf x code))))))
+    (λ s2 ts. seen trap_value (read any_trap ts) >>= λ code. Ok (raw opcode the_suffix (operands.TrapIf x code.0), code.1))
+    (λ s2. map_is (rule_is any_trap trap_value) (λ code. raw opcode the_suffix (operands.TrapIf x code))))))
 
 pub call_is : Is (call then callee then args) call_value call_at
 unfolding call_at

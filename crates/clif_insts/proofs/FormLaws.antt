@@ -1,6 +1,6 @@
 -- Each form is read as its rule of the grammar says.
 use Rattle.std.proofs.Common.{Some, None, Ok}
-use Rattle.grammar.specs.Rules.{Opt, ◌>>=◌}
+use Rattle.grammar.specs.Rules.{Opt, read, ◌>>=◌}
 use Rattle.clif_words.specs.declared.class.Class.TheVariants as classes
 use Rattle.clif_insts.specs.declared.targets.TargetRole.TheVariants as roles
 use Rattle.clif_insts.specs.declared.raw.RawOperands.TheVariants as operands
@@ -8,15 +8,14 @@ use Rattle.clif_words.specs.Terminals.{◌then◌, signed, value, comma, conditi
 use Rattle.clif_insts.specs.Grammar.{number, suffix, suffix_i64, flags, target}
 use Rattle.clif_insts.specs.Reading.{name, name_at}
 use Rattle.clif_insts.specs.Types.{suffix_at, opt_suffix_at, suffix_i64_at}
-use Rattle.clif_insts.specs.Codes.{condition_at}
 use Rattle.clif_insts.specs.Targets.{target_at}
 use Rattle.clif_insts.specs.Numbers.{number_at, offset_at}
 use Rattle.clif_insts.specs.Flags.{flags_at}
-use Rattle.clif_insts.specs.Values.{suffix_value, opt_suffix_value, number_value, offset_value, condition_value, flags_value, branch_value}
+use Rattle.clif_insts.specs.Values.{seen, suffix_value, opt_suffix_value, number_value, offset_value, condition_value, flags_value, branch_value}
 use Rattle.clif_insts.specs.InstValues.{raw, iconst_value, binary_value, unary_value, icmp_value, select_value, convert_value, binary_imm_value, icmp_imm_value, load_value, load_wide_value, store_value, stack_load_value, stack_store_value, func_addr_value, nullary_value, jump_value, brif_value}
 use Rattle.clif_insts.specs.Forms.{iconst_at, binary_at, unary_at, icmp_at, select_at, convert_at, binary_imm_at, icmp_imm_at, load_at, load_wide_at, store_at, stack_load_at, stack_store_at, func_addr_at, nullary_at, jump_at, brif_at}
-use Rattle.clif_insts.proofs.Seen.{Is, then_is, map_is, name_is, opcode_is}
-use Rattle.clif_insts.proofs.PartLaws.{suffix_is, opt_suffix_is, suffix_i64_is, condition_is, number_is, offset_is, branch_is}
+use Rattle.clif_insts.proofs.Seen.{Is, rule_is, then_is, map_is, name_is, opcode_is}
+use Rattle.clif_insts.proofs.PartLaws.{suffix_is, opt_suffix_is, suffix_i64_is, number_is, offset_is, branch_is}
 use Rattle.clif_insts.proofs.FlagLaws.{flags_is}
 
 pub iconst_is : Is (iconst then suffix then number) iconst_value iconst_at
@@ -54,10 +53,10 @@ pub icmp_is : Is (icmp then Opt suffix then condition then value then comma then
 unfolding icmp_at
 icmp_is =
     then_is (opcode_is classes.Icmp) (Opt suffix then condition then value then comma then value) (λ opcode v. raw opcode (opt_suffix_value v.0) (operands.Compare (condition_value v.1.0) (name v.1.1.0) (name v.1.1.1.1)))
-    (λ opcode ts. opt_suffix_at ts >>= λ the_suffix. condition_at the_suffix.1 >>= λ the_condition. name_at classes.Value the_condition.1 >>= λ x. name_at classes.Comma x.1 >>= λ s3. name_at classes.Value s3.1 >>= λ y. Ok (raw opcode the_suffix.0 (operands.Compare the_condition.0 x.0 y.0), y.1))
+    (λ opcode ts. opt_suffix_at ts >>= λ the_suffix. seen condition_value (read condition the_suffix.1) >>= λ the_condition. name_at classes.Value the_condition.1 >>= λ x. name_at classes.Comma x.1 >>= λ s3. name_at classes.Value s3.1 >>= λ y. Ok (raw opcode the_suffix.0 (operands.Compare the_condition.0 x.0 y.0), y.1))
     (λ opcode. then_is (opt_suffix_is) (condition then value then comma then value) (λ the_suffix v. raw opcode the_suffix (operands.Compare (condition_value v.0) (name v.1.0) (name v.1.1.1)))
-    (λ the_suffix ts. condition_at ts >>= λ the_condition. name_at classes.Value the_condition.1 >>= λ x. name_at classes.Comma x.1 >>= λ s3. name_at classes.Value s3.1 >>= λ y. Ok (raw opcode the_suffix (operands.Compare the_condition.0 x.0 y.0), y.1))
-    (λ the_suffix. then_is (condition_is) (value then comma then value) (λ the_condition v. raw opcode the_suffix (operands.Compare the_condition (name v.0) (name v.1.1)))
+    (λ the_suffix ts. seen condition_value (read condition ts) >>= λ the_condition. name_at classes.Value the_condition.1 >>= λ x. name_at classes.Comma x.1 >>= λ s3. name_at classes.Value s3.1 >>= λ y. Ok (raw opcode the_suffix (operands.Compare the_condition.0 x.0 y.0), y.1))
+    (λ the_suffix. then_is (rule_is condition condition_value) (value then comma then value) (λ the_condition v. raw opcode the_suffix (operands.Compare the_condition (name v.0) (name v.1.1)))
     (λ the_condition ts. name_at classes.Value ts >>= λ x. name_at classes.Comma x.1 >>= λ s3. name_at classes.Value s3.1 >>= λ y. Ok (raw opcode the_suffix (operands.Compare the_condition x.0 y.0), y.1))
     (λ the_condition. then_is (name_is classes.Value) (comma then value) (λ x v. raw opcode the_suffix (operands.Compare the_condition x (name v.1)))
     (λ x ts. name_at classes.Comma ts >>= λ s3. name_at classes.Value s3.1 >>= λ y. Ok (raw opcode the_suffix (operands.Compare the_condition x y.0), y.1))
@@ -108,10 +107,10 @@ pub icmp_imm_is : Is (icmp_imm then Opt suffix then condition then value then co
 unfolding icmp_imm_at
 icmp_imm_is =
     then_is (opcode_is classes.IcmpImm) (Opt suffix then condition then value then comma then number) (λ opcode v. raw opcode (opt_suffix_value v.0) (operands.CompareImm (condition_value v.1.0) (name v.1.1.0) (number_value v.1.1.1.1)))
-    (λ opcode ts. opt_suffix_at ts >>= λ the_suffix. condition_at the_suffix.1 >>= λ the_condition. name_at classes.Value the_condition.1 >>= λ x. name_at classes.Comma x.1 >>= λ s3. number_at s3.1 >>= λ the_number. Ok (raw opcode the_suffix.0 (operands.CompareImm the_condition.0 x.0 the_number.0), the_number.1))
+    (λ opcode ts. opt_suffix_at ts >>= λ the_suffix. seen condition_value (read condition the_suffix.1) >>= λ the_condition. name_at classes.Value the_condition.1 >>= λ x. name_at classes.Comma x.1 >>= λ s3. number_at s3.1 >>= λ the_number. Ok (raw opcode the_suffix.0 (operands.CompareImm the_condition.0 x.0 the_number.0), the_number.1))
     (λ opcode. then_is (opt_suffix_is) (condition then value then comma then number) (λ the_suffix v. raw opcode the_suffix (operands.CompareImm (condition_value v.0) (name v.1.0) (number_value v.1.1.1)))
-    (λ the_suffix ts. condition_at ts >>= λ the_condition. name_at classes.Value the_condition.1 >>= λ x. name_at classes.Comma x.1 >>= λ s3. number_at s3.1 >>= λ the_number. Ok (raw opcode the_suffix (operands.CompareImm the_condition.0 x.0 the_number.0), the_number.1))
-    (λ the_suffix. then_is (condition_is) (value then comma then number) (λ the_condition v. raw opcode the_suffix (operands.CompareImm the_condition (name v.0) (number_value v.1.1)))
+    (λ the_suffix ts. seen condition_value (read condition ts) >>= λ the_condition. name_at classes.Value the_condition.1 >>= λ x. name_at classes.Comma x.1 >>= λ s3. number_at s3.1 >>= λ the_number. Ok (raw opcode the_suffix (operands.CompareImm the_condition.0 x.0 the_number.0), the_number.1))
+    (λ the_suffix. then_is (rule_is condition condition_value) (value then comma then number) (λ the_condition v. raw opcode the_suffix (operands.CompareImm the_condition (name v.0) (number_value v.1.1)))
     (λ the_condition ts. name_at classes.Value ts >>= λ x. name_at classes.Comma x.1 >>= λ s3. number_at s3.1 >>= λ the_number. Ok (raw opcode the_suffix (operands.CompareImm the_condition x.0 the_number.0), the_number.1))
     (λ the_condition. then_is (name_is classes.Value) (comma then number) (λ x v. raw opcode the_suffix (operands.CompareImm the_condition x (number_value v.1)))
     (λ x ts. name_at classes.Comma ts >>= λ s3. number_at s3.1 >>= λ the_number. Ok (raw opcode the_suffix (operands.CompareImm the_condition x the_number.0), the_number.1))

@@ -1,24 +1,22 @@
 -- The marks of an instruction are taken from its tokens, one lemma a form.
-use Rattle.std.proofs.Common.{◌≡◌, ℕ, ◌==◌, Bool, true, false, cond, List, [], ◌∷◌, ◌++◌, map, Option, Some, None, refl, sym, inl, inr}
+use Rattle.std.proofs.Common.{◌≡◌, ℕ, ◌==◌, Bool, true, false, cond, List, [], ◌∷◌, Option, Some, None, refl, sym, inl, inr}
 use Rattle.std.specs.Prelude.{◌⊎◌}
-use Rattle.std.specs.List.{flat_map}
 use Rattle.grammar.specs.Rules.{Lexeme, Rule, Opt, Tree}
 use Rattle.clif_words.specs.declared.class.Class.{Class}
 use Rattle.clif_words.specs.declared.class.Class.TheVariants as classes
-use Rattle.clif_words.specs.Terminals.{◌then◌, ◌or◌, value, ret, exn, signed, comma, colon, trap_code, default_word, condition, slot, sig, callee, iconst, binary, unary, icmp, select, convert, binary_imm, icmp_imm, load, load_wide, store, stack_load, stack_store, func_addr, nullary, jump, brif, br_table, return_word, trap, trap_if, call, try_call, call_indirect, try_call_indirect}
+use Rattle.clif_words.specs.Terminals.{◌then◌, ◌or◌, value, ret, exn, signed, comma, trap_code, default_word, condition, slot, sig, callee, iconst, binary, unary, icmp, select, convert, binary_imm, icmp_imm, load, load_wide, store, stack_load, stack_store, func_addr, nullary, jump, brif, br_table, return_word, trap, trap_if, call, try_call, call_indirect, try_call_indirect}
 use Rattle.clif_insts.specs.declared.raw.RawArg.{RawArg}
 use Rattle.clif_insts.specs.declared.raw.RawArg.TheVariants as arg
-use Rattle.clif_insts.specs.declared.raw.RawName.{RawName}
 use Rattle.clif_insts.specs.declared.raw.RawInst.{RawInst}
 use Rattle.clif_insts.specs.declared.raw.RawTrap.{RawTrap}
 use Rattle.clif_insts.specs.declared.raw.RawTrap.TheVariants as traps
-use Rattle.clif_insts.specs.Grammar.{commas, number, suffix, suffix_i64, any_trap, flags, call_to, target, normal_target, handler, entry_name, entry, table, args, target_list, instruction, inst, return_values, whole_inst}
+use Rattle.clif_insts.specs.Grammar.{commas, number, suffix, suffix_i64, any_trap, flags, call_to, target, normal_target, handler, entry_name, entry, table, args, target_list, inst, return_values, whole_inst}
 use Rattle.clif_insts.specs.Reading.{name, amount}
 use Rattle.clif_insts.specs.Codes.{trap_of}
 use Rattle.clif_insts.specs.Values.{◌otherwise◌, either, never, perhaps, commas_value, number_value, offset_value, trap_value, args_value, value_arg, target_value, branch_value, normal_value, handler_value, target_list_value, entry_name_value, entry_value, table_value}
 use Rattle.clif_insts.specs.InstValues.{iconst_value, binary_value, unary_value, icmp_value, select_value, convert_value, binary_imm_value, icmp_imm_value, load_value, load_wide_value, store_value, stack_load_value, stack_store_value, func_addr_value, nullary_value, jump_value, brif_value, br_table_value, return_inst_value, trap_inst_value, trap_if_value, call_value, try_call_value, call_indirect_value, try_call_indirect_value, inst_value, return_values_value, whole_value}
-use Rattle.clif_insts.specs.Marks.{Mark, Word, Number, name_marks, names_marks, number_marks, offset_marks, arg_marks, target_marks, targets_marks, entry_tag_marks, entry_marks, table_marks, trap_marks, inst_marks}
-use Rattle.clif_insts.proofs.Marked.{Marked, marked_same, unmarked, word_marked, opcode_marked, amount_marked, both_marked, second_marked, first_marked, either_marked, refused_marked, perhaps_marked, commas_marked, perhaps_list, within_marked}
+use Rattle.clif_insts.specs.Marks.{Word, Number, name_marks, names_marks, number_marks, offset_marks, arg_marks, target_marks, targets_marks, entry_tag_marks, entry_marks, table_marks, trap_marks, inst_marks}
+use Rattle.clif_insts.proofs.Marked.{Marked, marked_same, unmarked, word_marked, opcode_marked, amount_marked, both_marked, second_marked, either_marked, refused_marked, perhaps_marked, commas_marked, perhaps_list, within_marked}
 
 -- ---- parts
 

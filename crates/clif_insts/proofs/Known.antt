@@ -1,5 +1,5 @@
 -- What is known of an instruction that is found in a text.
-use Rattle.std.proofs.Common.{◌≡◌, ℕ, List, ◌++◌, length, take, drop, Result, Ok, Err, IfOk, refl, sym, subst, ◌∙◌, inl, inr}
+use Rattle.std.proofs.Common.{◌≡◌, ℕ, List, length, take, drop, Ok, sym, subst, inl, inr}
 use Rattle.std.proofs.lemmas.List.{take-append-drop}
 use Rattle.grammar.specs.Rules.{Lexeme}
 use Rattle.clif_lex.specs.declared.spans.Token.{Token}
@@ -8,7 +8,6 @@ use Rattle.clif_words.specs.Lexemes.{lexemes}
 use Rattle.clif_words.specs.TextTokens.{AreTextTokens}
 use Rattle.clif_words.proofs.TextTokens.{text_tokens_from, front_tokens}
 use Rattle.clif_insts.specs.declared.raw.RawInst.{RawInst}
-use Rattle.clif_insts.specs.declared.insts.SyntaxErr.{SyntaxErr}
 use Rattle.clif_insts.specs.Insts.{Own, IsInst, Found}
 use Rattle.clif_insts.specs.OfForm.{InstFormed}
 use Rattle.clif_insts.specs.Marks.{MarksFormed, inst_marks}

@@ -1,5 +1,5 @@
 -- What a tree takes from its words is taken from the tokens of its text, in their order. One lemma for each way to make a rule of others.
-use Rattle.std.proofs.Common.{◌≡◌, ◌≢◌, ℕ, ◌+◌, ◌^◌, ◌<◌, ◌≤◌, Bool, true, false, List, [], ◌∷◌, ◌++◌, map, Option, Some, None, refl, sym, ap, subst, ◌∙◌, inl, inr, arith}
+use Rattle.std.proofs.Common.{◌≡◌, ℕ, ◌+◌, ◌^◌, ◌<◌, ◌≤◌, Bool, true, false, List, [], ◌∷◌, ◌++◌, map, Option, Some, None, refl, sym, ap, subst, ◌∙◌, inl, inr, arith}
 use Rattle.std.specs.Prelude.{◌⊎◌}
 use Rattle.std.specs.List.{list_all, flat_map}
 use Rattle.grammar.specs.Rules.{Lexeme, Class, Kind, Rule, Tok, Seq, Alt, Opt, Many, Refuse, Chain, Tree, Each, Links, ByFlag, ends, Derives}
@@ -17,7 +17,7 @@ use Rattle.clif_insts.specs.declared.raw.RawOpcode.{RawOpcode}
 use Rattle.clif_insts.specs.Grammar.{commas}
 use Rattle.clif_insts.specs.Reading.{name, opcode, amount}
 use Rattle.clif_insts.specs.Values.{either, perhaps, commas_value}
-use Rattle.clif_insts.specs.Marks.{Mark, Spot, Word, Opcode, Number, Name, spot_of, MarkFormed, MarksFormed, name_marks}
+use Rattle.clif_insts.specs.Marks.{Mark, Spot, Word, Opcode, Number, Name, spot_of, MarkFormed, MarksFormed}
 
 -- ---- marks of tokens
 

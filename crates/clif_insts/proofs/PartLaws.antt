@@ -11,17 +11,15 @@ use Rattle.clif_insts.specs.declared.raw.RawArg.{RawArg}
 use Rattle.clif_insts.specs.declared.raw.RawArg.TheVariants as raw_args
 use Rattle.clif_insts.specs.declared.raw.RawTarget.{RawTarget}
 use Rattle.clif_insts.specs.declared.raw.RawEntry.{RawEntry}
-use Rattle.clif_insts.specs.declared.raw.RawTrap.TheVariants as traps
-use Rattle.clif_words.specs.Terminals.{◌then◌, ◌or◌, one, value, comma, colon, ret, exn, ty_i64, left_paren, right_paren, condition, signed}
-use Rattle.clif_insts.specs.Grammar.{commas, number, refused_type, any_type, suffix, suffix_i64, any_trap, call_to, target, normal_target, handler, entry_name, entry, table, args, target_list}
+use Rattle.clif_words.specs.Terminals.{◌then◌, ◌or◌, one, value, comma, colon, ret, exn, ty_i64, left_paren, right_paren, signed}
+use Rattle.clif_insts.specs.Grammar.{commas, number, refused_type, any_type, suffix, suffix_i64, call_to, target, normal_target, handler, entry_name, entry, table, args, target_list}
 use Rattle.clif_insts.specs.Reading.{name, name_at, comma_at, more_at, commas_at}
 use Rattle.clif_insts.specs.Types.{type_of, type_at, suffix_at, opt_suffix_at, i64_at, suffix_i64_at, opt_suffix_i64_at}
-use Rattle.clif_insts.specs.Codes.{condition_of, condition_at, trap_of, trap_at}
 use Rattle.clif_insts.specs.Arguments.{more_values_at, values_at, args_at}
 use Rattle.clif_insts.specs.Targets.{arg_at, target_args_at, opt_target_args_at, target_at, target_list_at}
 use Rattle.clif_insts.specs.Tables.{entry_tag_at, entry_at, table_at}
 use Rattle.clif_insts.specs.Numbers.{number_at, offset_at}
-use Rattle.clif_insts.specs.Values.{◌otherwise◌, perhaps, never, commas_value, any_type_value, suffix_value, opt_suffix_value, number_value, offset_value, condition_value, trap_value, args_value, value_arg, target_value, branch_value, normal_value, handler_value, target_list_value, entry_name_value, entry_value, table_value}
+use Rattle.clif_insts.specs.Values.{◌otherwise◌, perhaps, never, commas_value, any_type_value, suffix_value, opt_suffix_value, number_value, offset_value, args_value, value_arg, target_value, branch_value, normal_value, handler_value, target_list_value, entry_name_value, entry_value, table_value}
 use Rattle.clif_insts.proofs.Seen.{Is, then_is, map_is, opt_is, alt_is, many_is, refuse_is, name_is, amount_is}
 
 -- { "," a }, after items in front
@@ -45,7 +43,7 @@ within_is {A} {r} {f} {p} left right e =
     (λ l ts. cond (heads (firsts r) ts) (p ts) (Ok ([], ts)) >>= λ vs. name_at right vs.1 >>= λ e. Ok (vs.0, e.1))
     (λ l. then_is (opt_is e []) (one right) (λ vs v. vs) (λ vs ts. name_at right ts >>= λ e. Ok (vs, e.1)) (λ vs. map_is (name_is right) (λ e. vs)))
 
--- ---- types, conditions, trap codes and numbers
+-- ---- types and numbers
 
 pub type_is : Is any_type any_type_value type_at
 unfolding type_at
@@ -79,14 +77,6 @@ suffix_i64_is = then_is (name_is classes.Dot) (ty_i64 or refused_type) (λ d v. 
 pub opt_suffix_i64_is : Is (Opt suffix_i64) opt_i64_value opt_suffix_i64_at
 unfolding opt_suffix_i64_at
 opt_suffix_i64_is = opt_is (map_is suffix_i64_is Some) None
-
-pub condition_is : Is condition condition_value condition_at
-unfolding condition_at
-condition_is = map_is (name_is classes.Condition) (λ x. condition_of x.number)
-
-pub trap_is : Is any_trap trap_value trap_at
-unfolding trap_at
-trap_is = alt_is (map_is (name_is classes.TrapCode) (λ x. trap_of x.number)) (map_is (name_is classes.UserTrap) traps.User)
 
 pub number_is : Is number number_value number_at
 unfolding number_at

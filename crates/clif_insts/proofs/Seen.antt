@@ -11,6 +11,10 @@ use Rattle.clif_insts.specs.Values.{either, perhaps, seen}
 pub record Is {A : Type 0} (r : Rule) (f : Tree r → A) (p : List Lexeme → Out A) : Type 0 where
   pub same : (ts : List Lexeme) → p ts ≡ seen f (read r ts)
 
+-- a rule's own reading
+pub rule_is : {A : Type 0} (r : Rule) (f : Tree r → A) → Is r f (λ ts. seen f (read r ts))
+rule_is r f = record { same = λ ts. refl }
+
 bind_same : {A B : Type 0} (m n : Out A) (f g : A × List Lexeme → Out B) → m ≡ n → ((x : A × List Lexeme) → f x ≡ g x) → (m >>= f) ≡ (n >>= g)
 bind_same m (Ok x) f g e h = ap (λ (z : Out _). z >>= f) e ∙ h x
 bind_same m (Err d) f g e h = ap (λ (z : Out _). z >>= f) e

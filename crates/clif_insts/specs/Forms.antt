@@ -1,6 +1,6 @@
 -- Instructions, read from left to right, one definition a form.
 use Rattle.std.specs.Prelude.{if◌then◌else◌, List, [], ◌∷◌, Some, None, Ok, Err}
-use Rattle.grammar.specs.Rules.{Lexeme, UnknownOpcode, Unsupported, Out, ◌>>=◌}
+use Rattle.grammar.specs.Rules.{Lexeme, UnknownOpcode, Unsupported, Out, read, ◌>>=◌}
 use Rattle.clif_words.specs.declared.class.Class.TheVariants as classes
 use Rattle.clif_insts.specs.declared.opening.Opening.{Opening}
 use Rattle.clif_insts.specs.declared.opening.Opening.TheVariants.{AfterResults}
@@ -8,10 +8,11 @@ use Rattle.clif_insts.specs.declared.targets.TargetRole.TheVariants as roles
 use Rattle.clif_insts.specs.declared.raw.RawName.{RawName}
 use Rattle.clif_insts.specs.declared.raw.RawInst.{RawInst}
 use Rattle.clif_insts.specs.declared.raw.RawOperands.TheVariants as operands
-use Rattle.clif_insts.specs.Grammar.{excepted, words_but}
+use Rattle.clif_words.specs.Terminals as words
+use Rattle.clif_insts.specs.Grammar.{any_trap, excepted, words_but}
 use Rattle.clif_insts.specs.Reading.{next_is, name_at, opcode_at, refuse_codes}
 use Rattle.clif_insts.specs.Types.{suffix_at, opt_suffix_at, suffix_i64_at, opt_suffix_i64_at}
-use Rattle.clif_insts.specs.Codes.{condition_at, trap_at}
+use Rattle.clif_insts.specs.Values.{seen, condition_value, trap_value}
 use Rattle.clif_insts.specs.Arguments.{more_values_at, values_at, args_at}
 use Rattle.clif_insts.specs.Targets.{target_at, target_list_at}
 use Rattle.clif_insts.specs.Tables.{table_at}
@@ -45,7 +46,7 @@ unfoldable pub icmp_at : List Lexeme → Out RawInst
 icmp_at ts = do
   opcode ← opcode_at classes.Icmp ts
   suffix ← opt_suffix_at opcode.1
-  condition ← condition_at suffix.1
+  condition ← seen condition_value (read words.condition suffix.1)
   x ← name_at classes.Value condition.1
   s3 ← name_at classes.Comma x.1
   y ← name_at classes.Value s3.1
@@ -82,7 +83,7 @@ unfoldable pub icmp_imm_at : List Lexeme → Out RawInst
 icmp_imm_at ts = do
   opcode ← opcode_at classes.IcmpImm ts
   suffix ← opt_suffix_at opcode.1
-  condition ← condition_at suffix.1
+  condition ← seen condition_value (read words.condition suffix.1)
   x ← name_at classes.Value condition.1
   s3 ← name_at classes.Comma x.1
   number ← number_at s3.1
@@ -194,7 +195,7 @@ return_inst_at ts = do
 unfoldable pub trap_inst_at : List Lexeme → Out RawInst
 trap_inst_at ts = do
   opcode ← opcode_at classes.Trap ts
-  code ← trap_at opcode.1
+  code ← seen trap_value (read any_trap opcode.1)
   Ok (record { opcode = opcode.0; suffix = None; operands = operands.Trap code.0 }, code.1)
 
 unfoldable pub trap_if_at : List Lexeme → Out RawInst
@@ -203,7 +204,7 @@ trap_if_at ts = do
   suffix ← opt_suffix_at opcode.1
   x ← name_at classes.Value suffix.1
   s2 ← name_at classes.Comma x.1
-  code ← trap_at s2.1
+  code ← seen trap_value (read any_trap s2.1)
   Ok (record { opcode = opcode.0; suffix = suffix.0; operands = operands.TrapIf x.0 code.0 }, code.1)
 
 unfoldable pub call_at : List Lexeme → Out RawInst

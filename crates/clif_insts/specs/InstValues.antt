@@ -3,7 +3,6 @@ use Rattle.std.specs.Prelude.{List, [], Option, Some, None}
 use Rattle.grammar.specs.Rules.{Rule, Opt, Tree}
 use Rattle.ir_core.specs.declared.signatures.Ty.{Ty}
 use Rattle.clif_words.specs.declared.class.Class.{Class}
-use Rattle.clif_insts.specs.declared.raw.RawName.{RawName}
 use Rattle.clif_insts.specs.declared.raw.RawOpcode.{RawOpcode}
 use Rattle.clif_insts.specs.declared.raw.RawInst.{RawInst}
 use Rattle.clif_insts.specs.declared.raw.RawOperands.{RawOperands}

@@ -1,6 +1,6 @@
 -- Which operands and which suffix an opcode has, and what stands in them: what the grammar gives of an instruction
 -- whatever its words are.
-use Rattle.std.specs.Prelude.{◌≡◌, Bool, true, false, not, ◌&&◌, List, [], ◌∷◌, Option, Some, None, is_some, ⊤, IsTrue}
+use Rattle.std.specs.Prelude.{Bool, true, false, not, ◌&&◌, List, [], ◌∷◌, Option, is_some, ⊤, IsTrue}
 use Rattle.std.specs.List.{list_any}
 use Rattle.grammar.specs.Rules.{member}
 use Rattle.ir_core.specs.declared.signatures.Ty.{Ty}

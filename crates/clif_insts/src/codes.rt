@@ -4,6 +4,10 @@ ghost use Rattle.std.specs.Prelude.{◌≡◌, ◌≢◌, ◌<◌, length, IfOk,
 ghost use Rattle.clif_insts.specs.declared.stop.Stop.TheVariants.{NoMemory};
 ghost use Rattle.clif_insts.specs.Reading.{Gives, same};
 ghost use Rattle.clif_insts.specs.Codes as spec;
+ghost use Rattle.clif_insts.specs.Grammar.{any_trap};
+ghost use Rattle.clif_insts.specs.Values.{seen, condition_value, trap_value};
+ghost use Rattle.clif_words.specs.Terminals as words;
+ghost use Rattle.grammar.specs.Rules.{read};
 
 use crate::raw::RawTrap;
 use crate::reader::Reader;
@@ -30,9 +34,9 @@ fn condition_of(number: u64) -> Cc
 }
 
 /// A condition.
-#[tactic(auto, unfolding(crate::specs::Codes::condition_at))]
+#[tactic(auto, unfolding(crate::specs::Reading::name_at))]
 pub(crate) fn condition(reader: &mut Reader<'_>) -> Result<Cc, Stop>
-    ensures is { Gives same reader.new result (spec.condition_at reader.old) }
+    ensures is { Gives same reader.new result (seen condition_value (read words.condition reader.old)) }
     ensures no_memory { IfErr result (λ e. e ≢ NoMemory) }
     ensures shorter { IfOk result (λ _. length reader.new < length reader.old) }
 {
@@ -54,9 +58,9 @@ fn trap_of(number: u64) -> RawTrap
 }
 
 /// A trap code.
-#[tactic(auto, unfolding(crate::specs::Codes::trap_at))]
+#[tactic(auto, unfolding(crate::specs::Reading::name_at))]
 pub(crate) fn trap(reader: &mut Reader<'_>) -> Result<RawTrap, Stop>
-    ensures is { Gives same reader.new result (spec.trap_at reader.old) }
+    ensures is { Gives same reader.new result (seen trap_value (read any_trap reader.old)) }
     ensures no_memory { IfErr result (λ e. e ≢ NoMemory) }
     ensures shorter { IfOk result (λ _. length reader.new < length reader.old) }
 {

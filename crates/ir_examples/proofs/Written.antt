@@ -1,6 +1,7 @@
--- The words in which the worked examples are written: those of ir_semantics, and lines, blocks and functions.
-use Rattle.std.specs.Prelude.{ℕ, List, [], ◌∷◌, Option, None}
+-- The words in which the worked examples are written.
+use Rattle.std.specs.Prelude.{ℕ, List, [], ◌∷◌, map, Option, None, false}
 use Rattle.std.specs.List.{enumerate_from}
+use Rattle.clk_num.specs.Operations.{DataValue}
 use Rattle.debug_tags.specs.declared.tags.Tag.{Tag}
 use Rattle.exn_tables.specs.declared.table.Entry.{Entry}
 use Rattle.ir_core.specs.declared.signatures.Ty.{Ty}
@@ -8,15 +9,53 @@ use Rattle.ir_core.specs.declared.signatures.Ty.TheVariants.{I64}
 use Rattle.ir_core.specs.declared.signatures.Conv.{Conv}
 use Rattle.ir_core.specs.declared.signatures.Conv.TheVariants.{Fast}
 use Rattle.ir_core.specs.declared.signatures.Sig.{Sig}
+use Rattle.ir_core.specs.declared.signatures.Param.{Param}
+use Rattle.ir_core.specs.declared.signatures.Ext.TheVariants as ext
+use Rattle.ir_core.specs.declared.signatures.Purpose.TheVariants as purpose
 use Rattle.ir_core.specs.declared.names.FuncName.{FuncName}
+use Rattle.ir_core.specs.declared.names.FuncName.TheVariants.{Text}
 use Rattle.ir_core.specs.declared.declarations.SlotDecl.{SlotDecl}
 use Rattle.ir_core.specs.declared.declarations.Callee.{Callee}
 use Rattle.ir_core.specs.declared.instructions.Arg.{Arg}
 use Rattle.ir_core.specs.declared.instructions.BlockCall.{BlockCall}
+use Rattle.ir_core.specs.declared.instructions.Flags.{Flags}
 use Rattle.ir_core.specs.declared.places.Item.{Item}
 use Rattle.ir_core.specs.declared.places.Item.TheVariants as item
 use Rattle.ir_core.specs.Module.{Jump, Direct, Instruction, Branches, Return, Call, Line, Block, Function}
-pub use Rattle.ir_semantics.proofs.Written.{signature, slot, declares, no_flags, f, g, h, t, i64s, world, ends}
+use Rattle.ir_semantics.specs.Values.{Memory, i64}
+use Rattle.ir_semantics.specs.Machine.{Event, HostAct, World, End}
+use Rattle.ir_semantics.specs.Runs.{Outcome}
+
+-- ---- names and declarations
+
+abbrev pub param : Ty → Param
+param t = record { ty = t; ext = ext.No; purpose = purpose.Normal }
+
+abbrev pub signature : List Ty → List Ty → Conv → Sig
+signature params results conv = record { params = map param params; results = map param results; conv = conv }
+
+abbrev pub slot : ℕ → SlotDecl
+slot size = record { size = size; align = 1 }
+
+abbrev pub declares : FuncName → ℕ → Callee
+declares name sig = record { name = name; colocated = false; sig = sig }
+
+abbrev pub no_flags : Flags
+no_flags = record { notrap = false; aligned = false; readonly = false; can_move = false; little = false; big = false; heap = false; table = false; vmctx = false }
+
+-- the names %f, %g, %h and %t
+
+abbrev pub f : FuncName
+f = Text (102 ∷ [])
+
+abbrev pub g : FuncName
+g = Text (103 ∷ [])
+
+abbrev pub h : FuncName
+h = Text (104 ∷ [])
+
+abbrev pub t : FuncName
+t = Text (116 ∷ [])
 
 -- from an i64 to an i64
 abbrev pub of_i64 : Conv → Sig
@@ -61,3 +100,15 @@ forwards name callee =
 -- the line of a block
 abbrev pub line_at : (number index : ℕ) → Item
 line_at number index = item.Inst (record { block = number; index = index })
+
+-- ---- runs
+
+abbrev pub i64s : List ℕ → List DataValue
+i64s ns = map i64 ns
+
+-- a memory, and replies without writes
+abbrev pub world : Memory → List HostAct → World
+world memory acts = record { memory = memory; replies = map (λ act. record { act = act; writes = [] }) acts; events = [] }
+
+abbrev pub ends : List Event → Memory → End → Outcome
+ends events memory end = record { events = events; memory = memory; end = end }

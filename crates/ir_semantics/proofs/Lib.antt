@@ -4,4 +4,3 @@ pub mod SafetyRuns
 pub mod SafetyStands
 pub mod SafetySteps
 pub mod SafetyTypes
-pub mod Written

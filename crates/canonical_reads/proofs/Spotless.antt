@@ -7,8 +7,8 @@ use Rattle.clif_insts.specs.declared.raw.RawArg.{RawArg}
 use Rattle.clif_insts.specs.declared.raw.RawArg.TheVariants as args
 use Rattle.clif_insts.specs.declared.raw.RawEntry.{RawEntry}
 use Rattle.clif_insts.specs.declared.raw.RawInst.{RawInst}
-use Rattle.clif_insts.specs.declared.raw.RawName.{RawName}
-use Rattle.clif_insts.specs.declared.raw.RawNumber.{RawNumber}
+use Rattle.token_reader.specs.declared.raw.RawName.{RawName}
+use Rattle.token_reader.specs.declared.raw.RawNumber.{RawNumber}
 use Rattle.clif_insts.specs.declared.raw.RawOperands.{RawOperands}
 use Rattle.clif_insts.specs.declared.raw.RawOperands.TheVariants as form
 use Rattle.clif_insts.specs.declared.raw.RawTarget.{RawTarget}

@@ -16,7 +16,7 @@ use Rattle.ir_text.specs.TextInstructions.{has_type, is_known, shown_suffix, typ
 use Rattle.ir_text.specs.Writable.{op_operands, conversion, result_types, ResultTypes, OpForm, SimpleForm, InstructionForm}
 use Rattle.clif_insts.specs.InstValues.{raw}
 use Rattle.clif_insts.specs.declared.raw.RawInst.{RawInst}
-use Rattle.clif_insts.specs.declared.raw.RawName.{RawName}
+use Rattle.token_reader.specs.declared.raw.RawName.{RawName}
 use Rattle.clif_insts.specs.declared.raw.RawOperands.{RawOperands}
 use Rattle.clif_insts.specs.declared.raw.RawOperands.TheVariants as form
 use Rattle.clif_names.specs.Typing.{gives_type, asks}

@@ -7,7 +7,7 @@ use Rattle.ir_core.specs.Module.{Function}
 use Rattle.ir_core.specs.WellFormed.{WellFormed}
 use Rattle.ir_text.specs.Writable.{FunctionWritable}
 use Rattle.clif_lex.specs.declared.faults.TextKind.TheVariants.{Undefined}
-use Rattle.clif_insts.specs.declared.raw.RawName.{RawName}
+use Rattle.token_reader.specs.declared.raw.RawName.{RawName}
 use Rattle.clif_read.specs.declared.raw.RawFunction.{RawFunction}
 use Rattle.name_tables.specs.Definitions.{Kind, definitions}
 use Rattle.clif_names.specs.Faults.{FunctionFault}

@@ -14,7 +14,7 @@ use Rattle.ir_text.specs.TextInstructions.{next_after}
 use Rattle.ir_text.specs.Writable.{LineWritable, FunctionWritable}
 use Rattle.clif_lex.specs.declared.faults.TextKind.TheVariants.{Untyped}
 use Rattle.clif_insts.specs.declared.raw.RawInst.{RawInst}
-use Rattle.clif_insts.specs.declared.raw.RawName.{RawName}
+use Rattle.token_reader.specs.declared.raw.RawName.{RawName}
 use Rattle.clif_read.specs.declared.raw.RawFunction.{RawFunction}
 use Rattle.clif_read.specs.declared.raw.RawLine.TheVariants as raw_lines
 use Rattle.name_tables.specs.declared.firsts.Def.{Def}

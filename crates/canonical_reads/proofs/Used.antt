@@ -21,7 +21,7 @@ use Rattle.ir_core.specs.WellFormed.{declared, LineWellFormed, WellFormed}
 use Rattle.ir_core.proofs.Members.{each_left, each_right, each_join, each_more}
 use Rattle.ir_text.specs.Numbering.{Numbering, numbering_of}
 use Rattle.ir_text.specs.TextInstructions.{next_after, shown_suffix, typing_operand}
-use Rattle.clif_insts.specs.declared.raw.RawName.{RawName}
+use Rattle.token_reader.specs.declared.raw.RawName.{RawName}
 use Rattle.clif_insts.specs.declared.raw.RawOperands.{RawOperands}
 use Rattle.clif_insts.specs.declared.raw.RawTarget.{RawTarget}
 use Rattle.clif_insts.specs.declared.raw.RawEntry.{RawEntry}

@@ -11,10 +11,10 @@ use Rattle.ir_semantics.specs.Canon.{canonical, canonical_module}
 use Rattle.ir_text.specs.Text.{text_of}
 use Rattle.ir_text.specs.Writable.{FunctionWritable, Writable}
 use Rattle.clif_lex.specs.declared.faults.TextKind.TheVariants.{Duplicate, Undefined, NumberRange, Untyped, TooLarge}
-use Rattle.clif_insts.specs.declared.raw.RawName.{RawName}
+use Rattle.token_reader.specs.declared.raw.RawName.{RawName}
 use Rattle.clif_read.specs.declared.raw.RawFunction.{RawFunction}
 use Rattle.clif_read.specs.declared.raw.RawModule.{RawModule}
-use Rattle.clif_read.specs.Stretches.{IsModuleText}
+use Rattle.clif_read.specs.Texts.{IsModuleText}
 use Rattle.clif_names.specs.declared.limits.Limit.TheVariants.{Entity}
 use Rattle.clif_names.specs.declared.limits.Limited.{Limited}
 use Rattle.name_tables.specs.Definitions.{Kind, all_kinds, definitions, lines}

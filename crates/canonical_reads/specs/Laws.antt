@@ -7,7 +7,7 @@ use Rattle.ir_text.specs.Writable.{Writable}
 use Rattle.ir_text.specs.Text.{text_of}
 use Rattle.clif_lex.specs.declared.faults.TextKind.{TextKind}
 use Rattle.clif_lex.specs.declared.faults.TextKind.TheVariants.{Undefined, NumberRange, Untyped, TooLarge}
-use Rattle.clif_read.specs.Stretches.{IsModuleText}
+use Rattle.clif_read.specs.Texts.{IsModuleText}
 use Rattle.clif_read.specs.declared.raw.RawModule.{RawModule}
 use Rattle.clif_names.specs.Faults.{IsFault, NoFault}
 use Rattle.clif_meaning.specs.Reads.{Reads}

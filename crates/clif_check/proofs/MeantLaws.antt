@@ -20,8 +20,9 @@ use Rattle.clif_read.specs.declared.raw.RawFuncName.{RawFuncName}
 use Rattle.clif_read.specs.declared.raw.RawFuncName.TheVariants as func_name
 use Rattle.clif_read.specs.declared.raw.RawFunction.{RawFunction}
 use Rattle.clif_read.specs.declared.raw.RawModule.{RawModule}
-use Rattle.clif_read.specs.Stretches.{IsModuleText, Functions, AreFunctions, IsFront, with_functions}
-use Rattle.clif_read.proofs.StretchLaws.{no_functions, range_follows, whole_text}
+use Rattle.clif_read.specs.Texts.{IsModuleText, Functions}
+use Rattle.read_workers.specs.Ranges.{AreFunctions, IsFront, with_functions}
+use Rattle.read_workers.proofs.RangeLaws.{no_functions, range_follows, whole_text}
 use Rattle.range_workers.specs.Follow.{Follow}
 use Rattle.clif_resolve.proofs.BlockWords.{have_blocks}
 use Rattle.clif_names.specs.Faults.{NoFault, ListFault, SameName}

@@ -12,7 +12,7 @@ use Rattle.clif_lex.specs.Lexing.{tokens_of}
 use Rattle.clif_words.specs.Lexemes.{lexemes}
 use Rattle.clif_read.specs.declared.raw.RawModule.{RawModule}
 use Rattle.clif_read.specs.ModuleValues.{module_value}
-use Rattle.clif_read.specs.Stretches.{IsModuleText, IsFirstFault, IsFaultOf}
+use Rattle.clif_read.specs.Texts.{IsModuleText, IsFirstFault, IsFaultOf}
 use Rattle.clif_read.specs.Texts.{IsModule, NoModule, Stopped}
 use Rattle.clif_names.specs.Faults.{NoFault}
 use Rattle.clif_meaning.specs.Meaning.{Means}

@@ -15,7 +15,7 @@ use Rattle.ir_semantics.proofs.SafetyTypes.{some_same}
 use Rattle.body_import.proofs.FirstPlaces.{get_mapped}
 use Rattle.ir_check.specs.Faults.{FirstFault}
 use Rattle.ir_check.proofs.Firsts.{fault_is_real}
-use Rattle.clif_insts.specs.declared.raw.RawName.{RawName}
+use Rattle.token_reader.specs.declared.raw.RawName.{RawName}
 use Rattle.clif_read.specs.declared.raw.RawLine.{RawLine}
 use Rattle.clif_read.specs.declared.raw.RawLine.TheVariants as line
 use Rattle.clif_read.specs.declared.raw.RawBlock.{RawBlock}

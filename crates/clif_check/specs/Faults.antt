@@ -7,7 +7,7 @@ use Rattle.clif_lex.specs.declared.faults.TextKind.{TextKind}
 use Rattle.clif_lex.specs.declared.faults.TextKind.TheVariants as kind
 use Rattle.clif_lex.specs.Lexing.{tokens_of}
 use Rattle.clif_read.specs.declared.raw.RawModule.{RawModule}
-use Rattle.clif_read.specs.Stretches.{IsModuleText, IsFirstFault}
+use Rattle.clif_read.specs.Texts.{IsModuleText, IsFirstFault}
 use Rattle.clif_names.specs.Faults as names
 use Rattle.clif_names.specs.Faults.{NoFault}
 use Rattle.clif_meaning.specs.Meaning.{Means}

@@ -4,7 +4,7 @@ use Rattle.ir_core.specs.Edits.{Body}
 use Rattle.ir_core.specs.Lists.{Each}
 use Rattle.ir_core.specs.Sound.{IsWhole}
 use Rattle.clif_read.specs.declared.raw.RawFunction.{RawFunction}
-use Rattle.clif_read.specs.Stretches.{AreFunctions}
+use Rattle.read_workers.specs.Ranges.{AreFunctions}
 use Rattle.clif_names.specs.FunctionNames.{NoFunctionFault}
 use Rattle.clif_meaning.specs.Meaning.{FunctionsMean}
 

@@ -3,20 +3,21 @@ ghost use Rattle.std.specs.Prelude.{◌≡◌, ◌≢◌, ◌≤◌, ◌++◌, [
 ghost use Rattle.ir_core.specs.Lists.{Each};
 ghost use Rattle.ir_core.specs.Sound.{IsWhole};
 ghost use Rattle.ir_core.specs.WellFormed.{DifferentNames};
-ghost use Rattle.clif_read.specs.Stretches.{IsRange};
+ghost use Rattle.read_workers.specs.Ranges.{IsTextRange};
 ghost use Rattle.clif_names.specs.Sizes.{most_functions};
 ghost use Rattle.clif_meaning.specs.Reads.{Reads};
 ghost use Rattle.clif_check.specs.Stretches.{AreMeant, MeanFunctions};
 
-use clif_insts::Reader;
 use clif_lex::tokens_between;
 use clif_names::MOST_FUNCTIONS;
-use clif_read::{RawFunction, all_functions, front_end, read_front, stretch_end};
+use clif_read::{RawFunction, all_functions};
 use clif_resolve::meant_function;
 use ir_core::{Func, Module};
 use range_workers::{Ranges, read_by_workers};
+use read_workers::{front_end, read_front, stretch_end};
 use std::alloc::Global;
 use std::thread::Threads;
+use token_reader::Reader;
 
 /// What these functions mean. `None` where one has a fault of names or numbers, or memory runs out.
 fn meant_functions(alloc: Global, raws: &[RawFunction]) -> Option<Vec<Func>>
@@ -42,7 +43,7 @@ struct TextRanges<'t> {
 }
 
 impl<'t> Ranges<Func> for TextRanges<'t> {
-    ghost range = { λ ranges from to. IsRange ranges.text.now from to };
+    ghost range = { λ ranges from to. IsTextRange ranges.text.now from to };
 
     ghost stand = { λ ranges from to functions. MeanFunctions ranges.text.now from to functions };
 

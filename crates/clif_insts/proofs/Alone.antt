@@ -6,22 +6,22 @@ use Rattle.grammar.specs.Rules.{Lexeme, Rule, Many, Tree, Kind, Syntax, Out, hea
 use Rattle.grammar.proofs.Exactness.{sound, complete}
 use Rattle.clif_words.specs.declared.class.Class.{Class}
 use Rattle.clif_words.specs.declared.class.Class.TheVariants as classes
-use Rattle.clif_insts.specs.declared.raw.RawName.{RawName}
+use Rattle.token_reader.specs.declared.raw.RawName.{RawName}
 use Rattle.clif_insts.specs.declared.opening.Opening.TheVariants.{AfterResults}
 use Rattle.clif_insts.specs.declared.raw.RawInst.{RawInst}
 use Rattle.clif_insts.specs.declared.raw.RawOperands.TheVariants as operands
 use Rattle.clif_words.specs.Classes.{code}
 use Rattle.clif_words.specs.Terminals.{◌then◌, ◌or◌, arrow, comma, equals, value}
 use Rattle.clif_insts.specs.Grammar.{return_alone}
-use Rattle.clif_insts.specs.Reading.{next_is, name, opcode, opcode_at, name_at, commas_at}
+use Rattle.token_reader.specs.Reading.{next_is, name, opcode, opcode_at, name_at, commas_at}
 use Rattle.clif_insts.specs.Arguments.{more_values_at}
-use Rattle.clif_insts.specs.Values.{◌otherwise◌, seen}
+use Rattle.token_reader.specs.Values.{◌otherwise◌, seen}
 use Rattle.clif_insts.specs.InstValues.{raw}
 use Rattle.clif_insts.specs.Forms.{inst_by, inst_at, return_inst_at, opt_values_at, return_values_at, whole_at, own_values_at, return_line_at, one_at}
 use Rattle.clif_insts.specs.Insts.{Starts}
-use Rattle.clif_insts.proofs.Seen.{Is, then_is, alt_is, name_is}
+use Rattle.token_reader.proofs.Seen.{Is, then_is, alt_is, name_is}
 use Rattle.clif_insts.proofs.PartLaws.{more_values_is}
-use Rattle.clif_insts.proofs.Takes.{takes_name, misses_name}
+use Rattle.token_reader.proofs.Takes.{takes_name, misses_name}
 
 -- ---- the grammar's words, read from left to right
 

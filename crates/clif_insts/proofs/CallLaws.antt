@@ -5,17 +5,20 @@ use Rattle.clif_words.specs.declared.class.Class.TheVariants as classes
 use Rattle.clif_insts.specs.declared.targets.TargetRole.TheVariants as roles
 use Rattle.clif_insts.specs.declared.raw.RawOperands.TheVariants as operands
 use Rattle.clif_words.specs.Terminals.{◌then◌, value, comma, sig, callee, br_table, return_word, trap, trap_if, call, try_call, call_indirect, try_call_indirect}
-use Rattle.clif_insts.specs.Grammar.{suffix, suffix_i64, any_trap, target, normal_target, table, args, target_list}
-use Rattle.clif_insts.specs.Reading.{name, name_at}
-use Rattle.clif_insts.specs.Types.{opt_suffix_at, opt_suffix_i64_at}
+use Rattle.token_reader.specs.Grammar.{suffix, suffix_i64}
+use Rattle.clif_insts.specs.Grammar.{any_trap, target, normal_target, table, args, target_list}
+use Rattle.token_reader.specs.Reading.{name, name_at}
+use Rattle.token_reader.specs.Types.{opt_suffix_at, opt_suffix_i64_at}
 use Rattle.clif_insts.specs.Arguments.{args_at}
 use Rattle.clif_insts.specs.Targets.{target_at, target_list_at}
 use Rattle.clif_insts.specs.Tables.{table_at}
-use Rattle.clif_insts.specs.Values.{seen, opt_suffix_value, trap_value, args_value, branch_value, normal_value, target_list_value, table_value}
+use Rattle.token_reader.specs.Values.{seen, opt_suffix_value}
+use Rattle.clif_insts.specs.Values.{trap_value, args_value, branch_value, normal_value, target_list_value, table_value}
 use Rattle.clif_insts.specs.InstValues.{raw, br_table_value, return_inst_value, trap_inst_value, trap_if_value, call_value, try_call_value, call_indirect_value, try_call_indirect_value}
 use Rattle.clif_insts.specs.Forms.{br_table_at, return_inst_at, trap_inst_at, trap_if_at, call_at, try_call_at, call_indirect_at, try_call_indirect_at}
-use Rattle.clif_insts.proofs.Seen.{Is, rule_is, then_is, map_is, name_is, opcode_is}
-use Rattle.clif_insts.proofs.PartLaws.{opt_suffix_is, opt_suffix_i64_is, args_is, branch_is, normal_is, target_list_is, table_is}
+use Rattle.token_reader.proofs.Seen.{Is, rule_is, then_is, map_is, name_is, opcode_is}
+use Rattle.token_reader.proofs.TypeLaws.{opt_suffix_is, opt_suffix_i64_is}
+use Rattle.clif_insts.proofs.PartLaws.{args_is, branch_is, normal_is, target_list_is, table_is}
 
 pub br_table_is : Is (br_table then value then comma then target then comma then target_list) br_table_value br_table_at
 unfolding br_table_at

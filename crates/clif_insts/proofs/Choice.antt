@@ -7,10 +7,10 @@ use Rattle.clif_words.specs.declared.class.Class.TheVariants as classes
 use Rattle.clif_words.specs.Classes.{code}
 use Rattle.clif_insts.specs.declared.opening.Opening.{Opening}
 use Rattle.clif_insts.specs.declared.raw.RawInst.{RawInst}
-use Rattle.clif_insts.specs.declared.stop.Stop.{Stop}
-use Rattle.clif_insts.specs.declared.stop.Stop.TheVariants as stops
-use Rattle.clif_insts.specs.Next.{is_among}
-use Rattle.clif_insts.specs.Reading.{Stops, Gives, same}
+use Rattle.token_reader.specs.declared.stop.Stop.{Stop}
+use Rattle.token_reader.specs.declared.stop.Stop.TheVariants as stops
+use Rattle.token_reader.specs.Next.{is_among}
+use Rattle.token_reader.specs.Reading.{Stops, Gives, same}
 use Rattle.clif_insts.specs.Grammar.{excepted, words_but}
 use Rattle.clif_insts.specs.Forms.{inst_by, inst_at, iconst_at, binary_at, unary_at, icmp_at, select_at, convert_at, binary_imm_at, icmp_imm_at, load_at, load_wide_at, store_at, stack_load_at, stack_store_at, func_addr_at, nullary_at, jump_at, brif_at, br_table_at, return_inst_at, trap_inst_at, trap_if_at, call_at, try_call_at, call_indirect_at, try_call_indirect_at}
 

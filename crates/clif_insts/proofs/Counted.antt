@@ -3,7 +3,7 @@ use Rattle.std.proofs.Common.{◌≡◌, ℕ, ◌+◌, ◌<◌, ◌≤◌, List,
 use Rattle.std.proofs.lemmas.Bool.{lt-ltb, le-ltb}
 use Rattle.clif_lex.specs.declared.spans.Token.{Token}
 use Rattle.clif_insts.specs.Insts.{place_of}
-use Rattle.clif_insts.proofs.Views.{drop_some, drop_past}
+use Rattle.token_reader.proofs.Views.{drop_some, drop_past}
 
 pub counted : (ts : List Token) (i spot : ℕ) (t : Token) → slice_get ts i ≡ Some t → t.start < spot → place_of ts (i + 1) spot ≡ place_of ts i spot
 counted ts i spot t e before = rw (drop_some ts i t e, lt-ltb t.start spot before) (omega arith)

@@ -10,10 +10,11 @@ use Rattle.clif_insts.specs.declared.raw.RawFlag.TheVariants as flag_words
 use Rattle.clif_words.specs.Classes.{code}
 use Rattle.clif_words.specs.Terminals.{◌then◌, ◌or◌, one, codes_of}
 use Rattle.clif_insts.specs.Grammar.{plain_flag, flags}
-use Rattle.clif_insts.specs.Reading.{next_is, name_at, each, with_front}
+use Rattle.token_reader.specs.Reading.{next_is, name_at, each, with_front}
 use Rattle.clif_insts.specs.Flags.{flag_of, begins_plain_flag, plain_flag_at, plain_flags_at, order_flag, ordered_flag_at, ordered_flags_at, flags_at}
-use Rattle.clif_insts.specs.Values.{either, ◌otherwise◌, perhaps, never, plain_flag_value, from_big, from_little, flags_value}
-use Rattle.clif_insts.proofs.Seen.{Is, then_is, map_is, also, opt_is, alt_is, many_is, refuse_is, name_is}
+use Rattle.token_reader.specs.Values.{either, ◌otherwise◌, perhaps, never}
+use Rattle.clif_insts.specs.Values.{plain_flag_value, from_big, from_little, flags_value}
+use Rattle.token_reader.proofs.Seen.{Is, then_is, map_is, also, opt_is, alt_is, many_is, refuse_is, name_is}
 
 plain_flag_is : Is plain_flag plain_flag_value plain_flag_at
 unfolding plain_flag_at

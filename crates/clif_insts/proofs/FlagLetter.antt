@@ -15,7 +15,8 @@ use Rattle.clif_insts.specs.declared.raw.RawFlag.{RawFlag}
 use Rattle.clif_insts.specs.declared.raw.RawFlag.TheVariants as flag_words
 use Rattle.clif_insts.specs.Grammar.{plain_flag, flags}
 use Rattle.clif_insts.specs.Flags.{flag_of}
-use Rattle.clif_insts.specs.Values.{◌otherwise◌, never, plain_flag_value, flags_value}
+use Rattle.token_reader.specs.Values.{◌otherwise◌, never}
+use Rattle.clif_insts.specs.Values.{plain_flag_value, flags_value}
 use Rattle.clif_insts.specs.FlagLetter.{any_flag, any_flag_value, has, both_orders, Means, ◌iff◌, FlagsLetter}
 use Rattle.clif_insts.proofs.Singles.{all_in, Single, single_tok, single_refuse, single_or, all_cons, all_append, many_means, many_made, many_begun, many_begins, many_refused, many_refuses}
 

@@ -5,17 +5,20 @@ use Rattle.clif_words.specs.declared.class.Class.TheVariants as classes
 use Rattle.clif_insts.specs.declared.targets.TargetRole.TheVariants as roles
 use Rattle.clif_insts.specs.declared.raw.RawOperands.TheVariants as operands
 use Rattle.clif_words.specs.Terminals.{◌then◌, signed, value, comma, condition, slot, callee, iconst, binary, unary, icmp, select, convert, binary_imm, icmp_imm, load, load_wide, store, stack_load, stack_store, func_addr, nullary, jump, brif}
-use Rattle.clif_insts.specs.Grammar.{number, suffix, suffix_i64, flags, target}
-use Rattle.clif_insts.specs.Reading.{name, name_at}
-use Rattle.clif_insts.specs.Types.{suffix_at, opt_suffix_at, suffix_i64_at}
+use Rattle.token_reader.specs.Grammar.{number, suffix, suffix_i64}
+use Rattle.clif_insts.specs.Grammar.{flags, target}
+use Rattle.token_reader.specs.Reading.{name, name_at}
+use Rattle.token_reader.specs.Types.{suffix_at, opt_suffix_at, suffix_i64_at}
 use Rattle.clif_insts.specs.Targets.{target_at}
-use Rattle.clif_insts.specs.Numbers.{number_at, offset_at}
+use Rattle.token_reader.specs.Numbers.{number_at, offset_at}
 use Rattle.clif_insts.specs.Flags.{flags_at}
-use Rattle.clif_insts.specs.Values.{seen, suffix_value, opt_suffix_value, number_value, offset_value, condition_value, flags_value, branch_value}
+use Rattle.token_reader.specs.Values.{seen, suffix_value, opt_suffix_value, number_value, offset_value}
+use Rattle.clif_insts.specs.Values.{condition_value, flags_value, branch_value}
 use Rattle.clif_insts.specs.InstValues.{raw, iconst_value, binary_value, unary_value, icmp_value, select_value, convert_value, binary_imm_value, icmp_imm_value, load_value, load_wide_value, store_value, stack_load_value, stack_store_value, func_addr_value, nullary_value, jump_value, brif_value}
 use Rattle.clif_insts.specs.Forms.{iconst_at, binary_at, unary_at, icmp_at, select_at, convert_at, binary_imm_at, icmp_imm_at, load_at, load_wide_at, store_at, stack_load_at, stack_store_at, func_addr_at, nullary_at, jump_at, brif_at}
-use Rattle.clif_insts.proofs.Seen.{Is, rule_is, then_is, map_is, name_is, opcode_is}
-use Rattle.clif_insts.proofs.PartLaws.{suffix_is, opt_suffix_is, suffix_i64_is, number_is, offset_is, branch_is}
+use Rattle.token_reader.proofs.Seen.{Is, rule_is, then_is, map_is, name_is, opcode_is}
+use Rattle.token_reader.proofs.TypeLaws.{suffix_is, opt_suffix_is, suffix_i64_is, number_is, offset_is}
+use Rattle.clif_insts.proofs.PartLaws.{branch_is}
 use Rattle.clif_insts.proofs.FlagLaws.{flags_is}
 
 pub iconst_is : Is (iconst then suffix then number) iconst_value iconst_at

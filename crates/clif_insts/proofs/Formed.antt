@@ -17,10 +17,12 @@ use Rattle.clif_insts.specs.declared.raw.RawArg.TheVariants as arg
 use Rattle.clif_insts.specs.declared.raw.RawFlag.{RawFlag}
 use Rattle.clif_insts.specs.declared.raw.RawFlag.TheVariants as flag_words
 use Rattle.clif_insts.specs.declared.raw.RawInst.{RawInst}
-use Rattle.clif_insts.specs.Grammar.{commas, number, suffix, suffix_i64, any_trap, plain_flag, flags, call_to, target, normal_target, handler, entry, table, args, target_list, inst, return_values, whole_inst}
-use Rattle.clif_insts.specs.Reading.{name, opcode}
+use Rattle.token_reader.specs.Grammar.{commas, number, suffix, suffix_i64}
+use Rattle.clif_insts.specs.Grammar.{any_trap, plain_flag, flags, call_to, target, normal_target, handler, entry, table, args, target_list, inst, return_values, whole_inst}
+use Rattle.token_reader.specs.Reading.{name, opcode}
 use Rattle.clif_insts.specs.Flags.{flag_of}
-use Rattle.clif_insts.specs.Values.{◌otherwise◌, perhaps, commas_value, plain_flag_value, from_big, from_little, flags_value, value_arg, target_value, branch_value, normal_value, handler_value, target_list_value, entry_value, table_value}
+use Rattle.token_reader.specs.Values.{◌otherwise◌, perhaps, commas_value}
+use Rattle.clif_insts.specs.Values.{plain_flag_value, from_big, from_little, flags_value, value_arg, target_value, branch_value, normal_value, handler_value, target_list_value, entry_value, table_value}
 use Rattle.clif_insts.specs.InstValues.{iconst_value, binary_value, unary_value, icmp_value, select_value, convert_value, binary_imm_value, icmp_imm_value, load_value, load_wide_value, store_value, stack_load_value, stack_store_value, func_addr_value, nullary_value, jump_value, brif_value, br_table_value, return_inst_value, trap_inst_value, trap_if_value, call_value, try_call_value, call_indirect_value, try_call_indirect_value, inst_value, return_values_value, whole_value}
 use Rattle.clif_insts.specs.OfForm.{operand_forms, suffix_fits, is_value, is_normal, is_handler, is_big, is_little, one_order, TargetHas, TableHas, ArgumentsFit, InstFormed}
 

@@ -7,12 +7,13 @@ use Rattle.clif_insts.specs.declared.opening.Opening.TheVariants.{AfterResults}
 use Rattle.clif_insts.specs.declared.raw.RawInst.{RawInst}
 use Rattle.clif_insts.specs.declared.raw.RawOperands.TheVariants as operands
 use Rattle.clif_words.specs.Terminals.{◌or◌, refused, value}
-use Rattle.clif_insts.specs.Grammar.{excepted, words_but, commas, inst, return_values, whole_inst}
-use Rattle.clif_insts.specs.Reading.{next_is, name, refuse, refuse_codes}
-use Rattle.clif_insts.specs.Values.{◌otherwise◌, perhaps, never, commas_value}
+use Rattle.token_reader.specs.Grammar.{commas}
+use Rattle.clif_insts.specs.Grammar.{excepted, words_but, inst, return_values, whole_inst}
+use Rattle.token_reader.specs.Reading.{next_is, name, refuse, refuse_codes}
+use Rattle.token_reader.specs.Values.{◌otherwise◌, perhaps, never, commas_value}
 use Rattle.clif_insts.specs.InstValues.{raw, inst_value, return_values_value, whole_value}
 use Rattle.clif_insts.specs.Forms.{inst_at, opt_values_at, return_values_at, whole_at}
-use Rattle.clif_insts.proofs.Seen.{Is, then_is, map_is, opt_is, alt_is, refuse_is, refuse_codes_is, opcode_is}
+use Rattle.token_reader.proofs.Seen.{Is, then_is, map_is, opt_is, alt_is, refuse_is, refuse_codes_is, opcode_is}
 use Rattle.clif_insts.proofs.PartLaws.{values_is}
 use Rattle.clif_insts.proofs.FormLaws.{iconst_is, binary_is, unary_is, icmp_is, select_is, convert_is, binary_imm_is, icmp_imm_is, load_is, load_wide_is, store_is, stack_load_is, stack_store_is, func_addr_is, nullary_is, jump_is, brif_is}
 use Rattle.clif_insts.proofs.CallLaws.{br_table_is, return_inst_is, trap_inst_is, trap_if_is, call_is, try_call_is, call_indirect_is, try_call_indirect_is}

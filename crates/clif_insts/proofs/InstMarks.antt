@@ -10,10 +10,12 @@ use Rattle.clif_insts.specs.declared.raw.RawArg.TheVariants as arg
 use Rattle.clif_insts.specs.declared.raw.RawInst.{RawInst}
 use Rattle.clif_insts.specs.declared.raw.RawTrap.{RawTrap}
 use Rattle.clif_insts.specs.declared.raw.RawTrap.TheVariants as traps
-use Rattle.clif_insts.specs.Grammar.{commas, number, suffix, suffix_i64, any_trap, flags, call_to, target, normal_target, handler, entry_name, entry, table, args, target_list, inst, return_values, whole_inst}
-use Rattle.clif_insts.specs.Reading.{name, amount}
+use Rattle.token_reader.specs.Grammar.{commas, number, suffix, suffix_i64}
+use Rattle.clif_insts.specs.Grammar.{any_trap, flags, call_to, target, normal_target, handler, entry_name, entry, table, args, target_list, inst, return_values, whole_inst}
+use Rattle.token_reader.specs.Reading.{name, amount}
 use Rattle.clif_insts.specs.Codes.{trap_of}
-use Rattle.clif_insts.specs.Values.{◌otherwise◌, either, never, perhaps, commas_value, number_value, offset_value, trap_value, args_value, value_arg, target_value, branch_value, normal_value, handler_value, target_list_value, entry_name_value, entry_value, table_value}
+use Rattle.token_reader.specs.Values.{◌otherwise◌, either, never, perhaps, commas_value, number_value, offset_value}
+use Rattle.clif_insts.specs.Values.{trap_value, args_value, value_arg, target_value, branch_value, normal_value, handler_value, target_list_value, entry_name_value, entry_value, table_value}
 use Rattle.clif_insts.specs.InstValues.{iconst_value, binary_value, unary_value, icmp_value, select_value, convert_value, binary_imm_value, icmp_imm_value, load_value, load_wide_value, store_value, stack_load_value, stack_store_value, func_addr_value, nullary_value, jump_value, brif_value, br_table_value, return_inst_value, trap_inst_value, trap_if_value, call_value, try_call_value, call_indirect_value, try_call_indirect_value, inst_value, return_values_value, whole_value}
 use Rattle.clif_insts.specs.Marks.{Word, Number, name_marks, names_marks, number_marks, offset_marks, arg_marks, target_marks, targets_marks, entry_tag_marks, entry_marks, table_marks, trap_marks, inst_marks}
 use Rattle.clif_insts.proofs.Marked.{Marked, marked_same, unmarked, word_marked, opcode_marked, amount_marked, both_marked, second_marked, either_marked, refused_marked, perhaps_marked, commas_marked, perhaps_list, within_marked}

@@ -1,5 +1,3 @@
-pub mod Loops
-pub mod Seen
 pub mod PartLaws
 pub mod FlagLaws
 pub mod FormLaws
@@ -8,16 +6,11 @@ pub mod InstLaws
 pub mod Alone
 pub mod Firm
 pub mod One
-pub mod Takes
 pub mod Excepted
-pub mod Views
-pub mod Names
 pub mod Singles
 pub mod FlagLetter
 pub mod Choice
 pub mod Counted
-pub mod Ends
-pub mod Shown
 pub mod Marked
 pub mod InstMarks
 pub mod Formed

@@ -11,12 +11,12 @@ use Rattle.clif_words.specs.declared.class.Class.TheVariants as classes
 use Rattle.clif_words.specs.Classes.{code}
 use Rattle.clif_words.specs.Terminals.{one, ◌then◌, comma}
 use Rattle.clif_words.specs.TextTokens.{IsTextToken, RiseFrom, AreTextTokens}
-use Rattle.clif_insts.specs.declared.raw.RawName.{RawName}
-use Rattle.clif_insts.specs.declared.raw.RawNumber.{RawNumber}
-use Rattle.clif_insts.specs.declared.raw.RawOpcode.{RawOpcode}
-use Rattle.clif_insts.specs.Grammar.{commas}
-use Rattle.clif_insts.specs.Reading.{name, opcode, amount}
-use Rattle.clif_insts.specs.Values.{either, perhaps, commas_value}
+use Rattle.token_reader.specs.declared.raw.RawName.{RawName}
+use Rattle.token_reader.specs.declared.raw.RawNumber.{RawNumber}
+use Rattle.token_reader.specs.declared.raw.RawOpcode.{RawOpcode}
+use Rattle.token_reader.specs.Grammar.{commas}
+use Rattle.token_reader.specs.Reading.{name, opcode, amount}
+use Rattle.token_reader.specs.Values.{either, perhaps, commas_value}
 use Rattle.clif_insts.specs.Marks.{Mark, Spot, Word, Opcode, Number, Name, spot_of, MarkFormed, MarksFormed}
 
 -- ---- marks of tokens

@@ -12,10 +12,10 @@ use Rattle.clif_insts.specs.declared.raw.RawInst.{RawInst}
 use Rattle.clif_insts.specs.declared.raw.RawOperands.TheVariants as operands
 use Rattle.clif_words.specs.Classes.{code}
 use Rattle.clif_insts.specs.Grammar.{whole_inst}
-use Rattle.clif_insts.specs.declared.stop.Stop.{Stop}
-use Rattle.clif_insts.specs.declared.stop.Stop.TheVariants as stops
-use Rattle.clif_insts.specs.Reading.{opcode, opcode_at, name_at, Stops}
-use Rattle.clif_insts.specs.Values.{seen}
+use Rattle.token_reader.specs.declared.stop.Stop.{Stop}
+use Rattle.token_reader.specs.declared.stop.Stop.TheVariants as stops
+use Rattle.token_reader.specs.Reading.{opcode, opcode_at, name_at, Stops}
+use Rattle.token_reader.specs.Values.{seen}
 use Rattle.clif_insts.specs.InstValues.{raw, whole_value}
 use Rattle.clif_insts.specs.Forms.{opt_values_at, return_values_at, whole_at, one_at}
 use Rattle.clif_insts.specs.Insts.{Own, NoMore, place_behind, Found, Missing, Stopped, error_at}

@@ -7,7 +7,7 @@ use Rattle.std.proofs.lemmas.List.{append-nil}
 use Rattle.std.proofs.lemmas.List.Folds.{list_any-append, list_all-append}
 use Rattle.grammar.specs.Rules.{Lexeme, Kind, Rule, Tok, Alt, Many, Refuse, Tree, Each, Derives, Begins, Refuses, member}
 use Rattle.grammar.proofs.Sets.{both}
-use Rattle.clif_insts.specs.Values.{either}
+use Rattle.token_reader.specs.Values.{either}
 use Rattle.clif_insts.specs.FlagLetter.{Means}
 
 -- each of the tokens is of one of the classes

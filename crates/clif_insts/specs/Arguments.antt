@@ -2,8 +2,8 @@
 use Rattle.std.specs.Prelude.{if◌then◌else◌, List, [], Ok}
 use Rattle.grammar.specs.Rules.{Lexeme, Out, ◌>>=◌}
 use Rattle.clif_words.specs.declared.class.Class.TheVariants as classes
-use Rattle.clif_insts.specs.declared.raw.RawName.{RawName}
-use Rattle.clif_insts.specs.Reading.{next_is, name_at, more_at, commas_at}
+use Rattle.token_reader.specs.declared.raw.RawName.{RawName}
+use Rattle.token_reader.specs.Reading.{next_is, name_at, more_at, commas_at}
 
 -- names behind commas, after those in front
 abbrev pub more_values_at : List RawName → List Lexeme → Out (List RawName)

@@ -10,7 +10,8 @@ use Rattle.clif_words.specs.Terminals.{◌or◌, little, big}
 use Rattle.clif_insts.specs.declared.raw.RawFlag.{RawFlag}
 use Rattle.clif_insts.specs.declared.raw.RawFlag.TheVariants as flag_words
 use Rattle.clif_insts.specs.Grammar.{plain_flag, flags}
-use Rattle.clif_insts.specs.Values.{◌otherwise◌, plain_flag_value, flags_value}
+use Rattle.token_reader.specs.Values.{◌otherwise◌}
+use Rattle.clif_insts.specs.Values.{plain_flag_value, flags_value}
 
 -- one of the nine flags
 abbrev pub any_flag : Rule

@@ -7,7 +7,7 @@ use Rattle.clif_insts.specs.declared.raw.RawFlag.{RawFlag}
 use Rattle.clif_insts.specs.declared.raw.RawFlag.TheVariants as flags
 use Rattle.clif_words.specs.Classes.{code}
 use Rattle.clif_words.specs.Terminals.{codes_of}
-use Rattle.clif_insts.specs.Reading.{next_is, name_at, each, with_front, refuse}
+use Rattle.token_reader.specs.Reading.{next_is, name_at, each, with_front, refuse}
 
 abbrev pub flag_of : ℕ → RawFlag
 flag_of n =

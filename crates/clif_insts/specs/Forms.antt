@@ -5,18 +5,19 @@ use Rattle.clif_words.specs.declared.class.Class.TheVariants as classes
 use Rattle.clif_insts.specs.declared.opening.Opening.{Opening}
 use Rattle.clif_insts.specs.declared.opening.Opening.TheVariants.{AfterResults}
 use Rattle.clif_insts.specs.declared.targets.TargetRole.TheVariants as roles
-use Rattle.clif_insts.specs.declared.raw.RawName.{RawName}
+use Rattle.token_reader.specs.declared.raw.RawName.{RawName}
 use Rattle.clif_insts.specs.declared.raw.RawInst.{RawInst}
 use Rattle.clif_insts.specs.declared.raw.RawOperands.TheVariants as operands
 use Rattle.clif_words.specs.Terminals as words
 use Rattle.clif_insts.specs.Grammar.{any_trap, excepted, words_but}
-use Rattle.clif_insts.specs.Reading.{next_is, name_at, opcode_at, refuse_codes}
-use Rattle.clif_insts.specs.Types.{suffix_at, opt_suffix_at, suffix_i64_at, opt_suffix_i64_at}
-use Rattle.clif_insts.specs.Values.{seen, condition_value, trap_value}
+use Rattle.token_reader.specs.Reading.{next_is, name_at, opcode_at, refuse_codes}
+use Rattle.token_reader.specs.Types.{suffix_at, opt_suffix_at, suffix_i64_at, opt_suffix_i64_at}
+use Rattle.token_reader.specs.Values.{seen}
+use Rattle.clif_insts.specs.Values.{condition_value, trap_value}
 use Rattle.clif_insts.specs.Arguments.{more_values_at, values_at, args_at}
 use Rattle.clif_insts.specs.Targets.{target_at, target_list_at}
 use Rattle.clif_insts.specs.Tables.{table_at}
-use Rattle.clif_insts.specs.Numbers.{number_at, offset_at}
+use Rattle.token_reader.specs.Numbers.{number_at, offset_at}
 use Rattle.clif_insts.specs.Flags.{flags_at}
 
 unfoldable pub iconst_at : List Lexeme → Out RawInst

@@ -1,5 +1,5 @@
--- The grammar of instructions, as EBNF is written: `commas a` is `a { "," a }`, `Opt a` is `[ a ]`, `Many a` is `{ a
--- }`. The words that a place refuses in its own way are rules too: an unknown opcode, and opcodes, types, flags and
+-- The grammar of instructions, as EBNF is written: `Opt a` is `[ a ]`, `Many a` is `{ a }`, and `commas a` is
+-- `a { "," a }`. The words that a place refuses in its own way are rules too: an unknown opcode, and opcodes, types, flags and
 -- table entries of CLIF that are left out.
 use Rattle.std.specs.Prelude.{◌≡◌, ℕ, true, not, List, [], ◌∷◌, refl}
 use Rattle.std.specs.List.{filter}
@@ -8,33 +8,14 @@ use Rattle.clif_words.specs.declared.class.Class.{Class}
 use Rattle.clif_words.specs.declared.class.Class.TheVariants as classes
 use Rattle.clif_insts.specs.declared.opening.Opening.{Opening}
 use Rattle.clif_insts.specs.declared.opening.Opening.TheVariants.{AfterResults, AfterTags, LineStart}
-use Rattle.clif_words.specs.Terminals.{◌then◌, ◌or◌, codes_of, refused, words, unsigned, signed, left_paren}
-use Rattle.clif_words.specs.Terminals.{right_paren, left_bracket, right_bracket, comma, colon, dot, arrow, equals, ty}
-use Rattle.clif_words.specs.Terminals.{ty_i64, vmctx, flag, little, big, trap_code, user_trap, condition, value, block}
+use Rattle.clif_words.specs.Terminals.{◌then◌, ◌or◌, codes_of, refused, words, signed, left_paren}
+use Rattle.clif_words.specs.Terminals.{right_paren, left_bracket, right_bracket, comma, colon, arrow, equals}
+use Rattle.clif_words.specs.Terminals.{vmctx, flag, little, big, trap_code, user_trap, condition, value, block}
 use Rattle.clif_words.specs.Terminals.{slot, sig, callee, tag, ret, exn, default_word, iconst, binary, unary, icmp}
 use Rattle.clif_words.specs.Terminals.{select, convert, binary_imm, icmp_imm, load, load_wide, store, stack_load}
 use Rattle.clif_words.specs.Terminals.{stack_store, func_addr, nullary, jump, brif, br_table, return_word, trap}
 use Rattle.clif_words.specs.Terminals.{trap_if, call, try_call, call_indirect, try_call_indirect}
-
-abbrev pub commas : Rule → Rule
-commas a = a then Many (comma then a)
-
-abbrev pub number : Rule
-number = unsigned or signed
-
-abbrev pub refused_type : Rule
-refused_type = refused (classes.RefusedType ∷ []) Unsupported
-
-abbrev pub any_type : Rule
-any_type = ty or ty_i64 or refused_type
-
--- .T
-abbrev pub suffix : Rule
-suffix = dot then any_type
-
--- .i64
-abbrev pub suffix_i64 : Rule
-suffix_i64 = dot then (ty_i64 or refused_type)
+use Rattle.token_reader.specs.Grammar.{commas, number, refused_type, suffix, suffix_i64}
 
 abbrev pub any_trap : Rule
 any_trap = trap_code or user_trap

@@ -3,7 +3,7 @@ use Rattle.std.specs.Prelude.{List, [], Option, Some, None}
 use Rattle.grammar.specs.Rules.{Rule, Opt, Tree}
 use Rattle.ir_core.specs.declared.signatures.Ty.{Ty}
 use Rattle.clif_words.specs.declared.class.Class.{Class}
-use Rattle.clif_insts.specs.declared.raw.RawOpcode.{RawOpcode}
+use Rattle.token_reader.specs.declared.raw.RawOpcode.{RawOpcode}
 use Rattle.clif_insts.specs.declared.raw.RawInst.{RawInst}
 use Rattle.clif_insts.specs.declared.raw.RawOperands.{RawOperands}
 use Rattle.clif_insts.specs.declared.raw.RawOperands.TheVariants as operands
@@ -11,11 +11,13 @@ use Rattle.clif_words.specs.Terminals.{◌then◌, signed, value, comma, conditi
 use Rattle.clif_words.specs.Terminals.{unary, icmp, select, convert, binary_imm, icmp_imm, load, load_wide, store}
 use Rattle.clif_words.specs.Terminals.{stack_load, stack_store, func_addr, nullary, jump, brif, br_table, return_word}
 use Rattle.clif_words.specs.Terminals.{trap, trap_if, call, try_call, call_indirect, try_call_indirect}
-use Rattle.clif_insts.specs.Grammar.{number, suffix, suffix_i64, any_trap, flags, target, normal_target, table, args}
+use Rattle.token_reader.specs.Grammar.{number, suffix, suffix_i64}
+use Rattle.clif_insts.specs.Grammar.{any_trap, flags, target, normal_target, table, args}
 use Rattle.clif_insts.specs.Grammar.{target_list, instruction, inst, return_values, whole_inst}
-use Rattle.clif_insts.specs.Reading.{name, opcode}
-use Rattle.clif_insts.specs.Values.{◌otherwise◌, perhaps, never, commas_value, suffix_value, opt_suffix_value}
-use Rattle.clif_insts.specs.Values.{number_value, offset_value, condition_value, trap_value, args_value, flags_value}
+use Rattle.token_reader.specs.Reading.{name, opcode}
+use Rattle.token_reader.specs.Values.{◌otherwise◌, perhaps, never, commas_value, suffix_value, opt_suffix_value}
+use Rattle.token_reader.specs.Values.{number_value, offset_value}
+use Rattle.clif_insts.specs.Values.{condition_value, trap_value, args_value, flags_value}
 use Rattle.clif_insts.specs.Values.{branch_value, normal_value, target_list_value, table_value}
 
 abbrev pub raw : RawOpcode → Option Ty → RawOperands → RawInst

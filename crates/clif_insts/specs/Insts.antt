@@ -8,11 +8,11 @@ use Rattle.clif_lex.specs.declared.spans.Token.{Token}
 use Rattle.clif_insts.specs.declared.raw.RawInst.{RawInst}
 use Rattle.clif_insts.specs.declared.insts.SyntaxErr.{SyntaxErr}
 use Rattle.clif_insts.specs.declared.insts.SyntaxErr.TheVariants as errors
-use Rattle.clif_insts.specs.declared.stop.Stop.{Stop}
-use Rattle.clif_insts.specs.declared.stop.Stop.TheVariants as stops
+use Rattle.token_reader.specs.declared.stop.Stop.{Stop}
+use Rattle.token_reader.specs.declared.stop.Stop.TheVariants as stops
 use Rattle.clif_insts.specs.Grammar.{whole_inst, return_alone}
 use Rattle.clif_insts.specs.InstValues.{whole_value}
-use Rattle.clif_insts.specs.Next.{spot_or}
+use Rattle.token_reader.specs.Next.{spot_or}
 
 -- the tokens begin with a text of the rule
 abbrev pub Starts : Rule → List Lexeme → Type 0

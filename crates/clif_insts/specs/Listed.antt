@@ -1,6 +1,6 @@
 -- The names of a list, however it keeps them.
 use Rattle.std.specs.Prelude.{List}
-use Rattle.clif_insts.specs.declared.raw.RawName.{RawName}
+use Rattle.token_reader.specs.declared.raw.RawName.{RawName}
 use Rattle.clif_insts.specs.declared.lists.Items.{Items}
 use Rattle.clif_insts.specs.declared.lists.Items.TheVariants as kept
 

@@ -3,10 +3,10 @@ use Rattle.std.specs.Prelude.{Bool, if◌then◌else◌, List, [], ◌∷◌, Op
 use Rattle.grammar.specs.Rules.{Lexeme, Unsupported, Out, heads, ◌>>=◌}
 use Rattle.clif_words.specs.declared.class.Class.TheVariants as classes
 use Rattle.clif_insts.specs.declared.targets.TargetRole.TheVariants as roles
-use Rattle.clif_insts.specs.declared.raw.RawName.{RawName}
+use Rattle.token_reader.specs.declared.raw.RawName.{RawName}
 use Rattle.clif_insts.specs.declared.raw.RawEntry.{RawEntry}
 use Rattle.clif_words.specs.Terminals.{codes_of}
-use Rattle.clif_insts.specs.Reading.{next_is, name_at, commas_at, refuse}
+use Rattle.token_reader.specs.Reading.{next_is, name_at, commas_at, refuse}
 use Rattle.clif_insts.specs.Targets.{target_at}
 
 unfoldable pub entry_tag_at : List Lexeme → Out (Option RawName)

@@ -8,7 +8,7 @@ use Rattle.clif_insts.specs.declared.raw.RawArg.{RawArg}
 use Rattle.clif_insts.specs.declared.raw.RawArg.TheVariants as raw_args
 use Rattle.clif_insts.specs.declared.raw.RawTarget.{RawTarget}
 use Rattle.clif_words.specs.Terminals.{codes_of}
-use Rattle.clif_insts.specs.Reading.{next_is, name_at, commas_at}
+use Rattle.token_reader.specs.Reading.{next_is, name_at, commas_at}
 
 -- an argument of a target, by the target's role
 unfoldable pub arg_at : TargetRole → List Lexeme → Out RawArg

@@ -1,12 +1,8 @@
 -- What the trees of the grammar mean, one definition a rule: the instruction that a text is.
-use Rattle.std.specs.Prelude.{List, [], ◌∷◌, ◌++◌, map, Option, Some, None, Ok, Err, ◌⊎◌}
-use Rattle.std.proofs.Common.{inl, inr}
-use Rattle.grammar.specs.Rules.{Lexeme, Rule, Opt, Many, Tree, Out}
+use Rattle.std.specs.Prelude.{List, [], ◌∷◌, ◌++◌, map, Option, Some, None}
+use Rattle.grammar.specs.Rules.{Lexeme, Rule, Many, Tree}
 use Rattle.clk_num.specs.declared.op.Cc.{Cc}
-use Rattle.ir_core.specs.declared.signatures.Ty.{Ty}
-use Rattle.ir_core.specs.declared.signatures.Ty.TheVariants as ty_words
-use Rattle.clif_insts.specs.declared.raw.RawName.{RawName}
-use Rattle.clif_insts.specs.declared.raw.RawNumber.{RawNumber}
+use Rattle.token_reader.specs.declared.raw.RawName.{RawName}
 use Rattle.clif_insts.specs.declared.raw.RawArg.{RawArg}
 use Rattle.clif_insts.specs.declared.raw.RawArg.TheVariants as raw_args
 use Rattle.clif_insts.specs.declared.raw.RawTarget.{RawTarget}
@@ -15,53 +11,13 @@ use Rattle.clif_insts.specs.declared.raw.RawFlag.{RawFlag}
 use Rattle.clif_insts.specs.declared.raw.RawFlag.TheVariants as flag_words
 use Rattle.clif_insts.specs.declared.raw.RawTrap.{RawTrap}
 use Rattle.clif_insts.specs.declared.raw.RawTrap.TheVariants as traps
-use Rattle.clif_words.specs.Terminals.{◌then◌, ◌or◌, value, ret, exn, big, little, signed}
-use Rattle.clif_insts.specs.Grammar.{commas, number, any_type, suffix, any_trap, plain_flag, flags, call_to, target}
+use Rattle.clif_words.specs.Terminals.{◌then◌, ◌or◌, value, ret, exn, big, little}
+use Rattle.clif_insts.specs.Grammar.{any_trap, plain_flag, flags, call_to, target}
 use Rattle.clif_insts.specs.Grammar.{normal_target, handler, entry_name, entry, table, args, target_list}
-use Rattle.clif_insts.specs.Reading.{name, amount}
-use Rattle.clif_insts.specs.Types.{type_of}
+use Rattle.token_reader.specs.Reading.{name}
+use Rattle.token_reader.specs.Values.{◌otherwise◌, perhaps, never, commas_value}
 use Rattle.clif_insts.specs.Codes.{condition_of, trap_of}
 use Rattle.clif_insts.specs.Flags.{flag_of}
-
--- of one of two, by what it is
-infixr 3 ◌otherwise◌
-abbrev pub either : {A B C : Type 0} → (A → C) → (B → C) → A ⊎ B → C
-either f g = elim [ inl a ↦ f a | inr b ↦ g b ]
-
-abbrev pub ◌otherwise◌ : {A B C : Type 0} → (A → C) → (B → C) → A ⊎ B → C
-f otherwise g = either f g
-
--- of what may be left out
-abbrev pub perhaps : {A C : Type 0} → C → (A → C) → Option A → C
-perhaps none f None = none
-perhaps none f (Some x) = f x
-
--- a place that no text has
-abbrev pub never : {C : Type 0} → ⊥ → C
-never h = absurd h
-
--- what was read, seen as what it means
-abbrev pub seen : {A B : Type 0} → (A → B) → Out A → Out B
-seen f (Ok x) = Ok (f x.0, x.1)
-seen f (Err e) = Err e
-
-abbrev pub commas_value : {A : Type 0} (a : Rule) → (Tree a → A) → Tree (commas a) → List A
-commas_value a f v = f v.0 ∷ map (λ x. f x.1) v.1
-
-abbrev pub any_type_value : Tree any_type → Ty
-any_type_value = (λ x. type_of x.number) otherwise (λ x. ty_words.I64) otherwise never
-
-abbrev pub suffix_value : Tree suffix → Ty
-suffix_value v = any_type_value v.1
-
-abbrev pub opt_suffix_value : Tree (Opt suffix) → Option Ty
-opt_suffix_value = perhaps None (λ v. Some (suffix_value v))
-
-abbrev pub number_value : Tree number → RawNumber
-number_value = amount otherwise amount
-
-abbrev pub offset_value : Tree (Opt signed) → Option RawNumber
-offset_value = perhaps None (λ x. Some (amount x))
 
 abbrev pub condition_value : Lexeme → Cc
 condition_value x = condition_of x.number

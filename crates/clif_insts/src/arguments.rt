@@ -2,14 +2,15 @@
 
 ghost use Rattle.std.specs.Prelude.{◌∷◌, [], ◌<◌, ◌≤◌, length, IfOk};
 ghost use Rattle.clif_words.specs.declared.class.Class.TheVariants as classes;
-ghost use Rattle.clif_insts.specs.Reading.{Gives, same, name_at};
+ghost use Rattle.token_reader.specs.Reading.{Gives, same, name_at};
 ghost use Rattle.clif_insts.specs.Arguments as spec;
 
-use crate::commas::{Items, behind_commas, joined_by_commas};
-use crate::lists::{RawNames, one_item};
-use crate::raw::RawName;
-use crate::reader::Reader;
-use crate::stop::Stop;
+use token_reader::{Items, behind_commas, joined_by_commas};
+use crate::lists::RawNames;
+use token_reader::one_item;
+use token_reader::RawName;
+use token_reader::Reader;
+use token_reader::Stop;
 use clif_words::Class;
 use std::alloc::Global;
 

@@ -1,16 +1,16 @@
 //! Calls.
 
 ghost use Rattle.std.specs.Prelude.{◌<◌, length, IfOk};
-ghost use Rattle.clif_insts.specs.Reading.{Gives, same};
+ghost use Rattle.token_reader.specs.Reading.{Gives, same};
 ghost use Rattle.clif_insts.specs.Forms as spec;
 
 use crate::arguments::args;
 use crate::raw::{RawInst, RawOperands};
-use crate::reader::Reader;
-use crate::stop::Stop;
+use token_reader::Reader;
+use token_reader::Stop;
 use crate::tables::boxed_table;
 use crate::targets::{TargetRole, boxed_target};
-use crate::types::opt_suffix_i64;
+use token_reader::opt_suffix_i64;
 use clif_words::Class;
 use ir_core::List;
 use std::alloc::Global;

@@ -1,17 +1,18 @@
 //! Conditions and trap codes.
 
 ghost use Rattle.std.specs.Prelude.{◌≡◌, ◌≢◌, ◌<◌, length, IfOk, IfErr};
-ghost use Rattle.clif_insts.specs.declared.stop.Stop.TheVariants.{NoMemory};
-ghost use Rattle.clif_insts.specs.Reading.{Gives, same};
+ghost use Rattle.token_reader.specs.declared.stop.Stop.TheVariants.{NoMemory};
+ghost use Rattle.token_reader.specs.Reading.{Gives, same};
 ghost use Rattle.clif_insts.specs.Codes as spec;
 ghost use Rattle.clif_insts.specs.Grammar.{any_trap};
-ghost use Rattle.clif_insts.specs.Values.{seen, condition_value, trap_value};
+ghost use Rattle.token_reader.specs.Values.{seen};
+ghost use Rattle.clif_insts.specs.Values.{condition_value, trap_value};
 ghost use Rattle.clif_words.specs.Terminals as words;
 ghost use Rattle.grammar.specs.Rules.{read};
 
 use crate::raw::RawTrap;
-use crate::reader::Reader;
-use crate::stop::Stop;
+use token_reader::Reader;
+use token_reader::Stop;
 use clif_words::Class;
 use clk_num::Cc;
 
@@ -34,7 +35,7 @@ fn condition_of(number: u64) -> Cc
 }
 
 /// A condition.
-#[tactic(auto, unfolding(crate::specs::Reading::name_at))]
+#[tactic(auto, unfolding(token_reader::specs::Reading::name_at))]
 pub(crate) fn condition(reader: &mut Reader<'_>) -> Result<Cc, Stop>
     ensures is { Gives same reader.new result (seen condition_value (read words.condition reader.old)) }
     ensures no_memory { IfErr result (λ e. e ≢ NoMemory) }
@@ -58,7 +59,7 @@ fn trap_of(number: u64) -> RawTrap
 }
 
 /// A trap code.
-#[tactic(auto, unfolding(crate::specs::Reading::name_at))]
+#[tactic(auto, unfolding(token_reader::specs::Reading::name_at))]
 pub(crate) fn trap(reader: &mut Reader<'_>) -> Result<RawTrap, Stop>
     ensures is { Gives same reader.new result (seen trap_value (read any_trap reader.old)) }
     ensures no_memory { IfErr result (λ e. e ≢ NoMemory) }

@@ -1,16 +1,16 @@
 //! Instructions without operands, branches, returns and traps.
 
 ghost use Rattle.std.specs.Prelude.{◌≢◌, ◌<◌, length, IfOk, IfErr};
-ghost use Rattle.clif_insts.specs.declared.stop.Stop.TheVariants.{NoMemory};
-ghost use Rattle.clif_insts.specs.Reading.{Gives, same};
+ghost use Rattle.token_reader.specs.declared.stop.Stop.TheVariants.{NoMemory};
+ghost use Rattle.token_reader.specs.Reading.{Gives, same};
 ghost use Rattle.clif_insts.specs.Forms as spec;
 
 use crate::codes::trap;
 use crate::raw::{RawInst, RawOperands};
-use crate::reader::Reader;
-use crate::stop::Stop;
+use token_reader::Reader;
+use token_reader::Stop;
 use crate::targets::{TargetRole, boxed_target, target, target_list};
-use crate::types::opt_suffix;
+use token_reader::opt_suffix;
 use clif_words::Class;
 use ir_core::List;
 use std::alloc::Global;

@@ -4,13 +4,13 @@ ghost use Rattle.std.specs.Prelude.{◌≡◌, ◌≢◌, ◌∷◌, [], ◌++�
 ghost use Rattle.grammar.specs.Rules.{heads};
 ghost use Rattle.clif_words.specs.Classes.{code};
 ghost use Rattle.clif_words.specs.Terminals.{codes_of};
-ghost use Rattle.clif_insts.specs.declared.stop.Stop.TheVariants.{NoMemory};
-ghost use Rattle.clif_insts.specs.Reading.{Gives, same};
+ghost use Rattle.token_reader.specs.declared.stop.Stop.TheVariants.{NoMemory};
+ghost use Rattle.token_reader.specs.Reading.{Gives, same};
 ghost use Rattle.clif_insts.specs.Flags as spec;
 
 use crate::raw::RawFlag;
-use crate::reader::Reader;
-use crate::stop::Stop;
+use token_reader::Reader;
+use token_reader::Stop;
 use clif_words::Class;
 use std::alloc::Global;
 

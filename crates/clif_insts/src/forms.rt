@@ -3,9 +3,9 @@
 ghost use Rattle.std.specs.Prelude.{◌≡◌, if◌then◌else◌, ℕ, List, ◌<◌, length, IfOk};
 ghost use Rattle.grammar.specs.Rules.{heads, member};
 ghost use Rattle.clif_words.specs.Classes.{code};
-ghost use Rattle.clif_insts.specs.declared.stop.Stop.TheVariants.{UnknownOpcode, Syntax};
+ghost use Rattle.token_reader.specs.declared.stop.Stop.TheVariants.{UnknownOpcode, Syntax};
 ghost use Rattle.clif_insts.specs.Grammar.{excepted, words_but};
-ghost use Rattle.clif_insts.specs.Reading.{Gives, same};
+ghost use Rattle.token_reader.specs.Reading.{Gives, same};
 ghost use Rattle.clif_insts.specs.Forms as spec;
 
 use crate::calls::{call, call_indirect, try_call, try_call_indirect};
@@ -14,8 +14,8 @@ use crate::memory::{func_addr, load, load_wide, stack_load, stack_store, store};
 use crate::opening::Opening;
 use crate::operations::{binary, binary_imm, convert, icmp, icmp_imm, iconst, select, unary};
 use crate::raw::RawInst;
-use crate::reader::Reader;
-use crate::stop::Stop;
+use token_reader::Reader;
+use token_reader::Stop;
 use clif_words::Class;
 use std::alloc::Global;
 

@@ -3,7 +3,7 @@
 ghost use Rattle.std.specs.Prelude.{◌≡◌, ◌<◌, ◌≤◌, length, drop, Ok, IfOk, IfErr};
 ghost use Rattle.clif_lex.specs.Lexing.{tokens_of};
 ghost use Rattle.clif_words.specs.Lexemes.{lexemes};
-ghost use Rattle.clif_insts.specs.Reading.{Gives, same};
+ghost use Rattle.token_reader.specs.Reading.{Gives, same};
 ghost use Rattle.clif_insts.specs.Forms as forms;
 ghost use Rattle.clif_insts.specs.Insts.{Found, Stopped};
 ghost use Rattle.clif_insts.specs.Insts as insts;
@@ -12,11 +12,12 @@ ghost use Rattle.clif_insts.specs.OfForm.{InstFormed};
 
 use crate::arguments::more_values;
 use crate::forms::any_inst;
-use crate::lists::one_item;
+use token_reader::one_item;
 use crate::opening::Opening;
-use crate::raw::{RawInst, RawName, RawOperands};
-use crate::reader::Reader;
-use crate::stop::Stop;
+use crate::raw::{RawInst, RawOperands};
+use token_reader::RawName;
+use token_reader::Reader;
+use token_reader::Stop;
 use clif_lex::{TextKind, Tokens};
 use clif_words::Class;
 use ir_core::List;

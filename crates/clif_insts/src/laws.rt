@@ -7,7 +7,7 @@ ghost use Rattle.clif_words.specs.TextTokens.{AreTextTokens};
 ghost use Rattle.clif_insts.specs.declared.opening.Opening.{Opening};
 ghost use Rattle.clif_insts.specs.Grammar.{excepted, inst};
 ghost use Rattle.clif_insts.specs.FlagLetter.{FlagsLetter};
-ghost use Rattle.clif_insts.specs.Values.{seen};
+ghost use Rattle.token_reader.specs.Values.{seen};
 ghost use Rattle.clif_insts.specs.InstValues.{inst_value};
 ghost use Rattle.clif_insts.specs.Forms.{inst_at};
 ghost use Rattle.clif_insts.specs.Marks.{MarksFormed, inst_marks};

@@ -1,22 +1,9 @@
-//! Lists of what is read.
+//! Lists of names.
 
-ghost use Rattle.std.specs.Prelude.{◌≡◌, ◌∷◌, [], IfOk, IfErr};
-ghost use Rattle.clif_insts.specs.declared.stop.Stop.TheVariants.{NoMemory};
+ghost use Rattle.std.specs.Prelude.{◌≡◌, ◌∷◌, []};
 
-use crate::raw::RawName;
-use crate::stop::Stop;
-use std::alloc::Global;
 use std::marker::Model;
-
-/// The list of this item alone, in a block for one: most lists of a text get no second item.
-pub fn one_item<T: Drop>(alloc: Global, item: T) -> Result<Vec<T>, Stop>
-    ensures some { IfOk result (λ list. list.items ≡ item ∷ []) }
-    ensures none { IfErr result (λ e. e ≡ NoMemory) }
-{
-    let mut list = Vec::with_capacity(alloc, 1)?;
-    list.push(item)?;
-    Ok(list)
-}
+use token_reader::RawName;
 
 /// A list of names. One takes no memory but the list's own. Contracts see its items in order.
 #[derive(Drop)]
@@ -32,7 +19,7 @@ enum Items {
 
 impl Model for RawNames {
     ghost use Rattle.std.specs.Prelude.{List};
-    ghost use Rattle.clif_insts.specs.declared.raw.RawName.{RawName};
+    ghost use Rattle.token_reader.specs.declared.raw.RawName.{RawName};
 
     ghost Value = { List RawName };
 

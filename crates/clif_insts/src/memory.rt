@@ -1,16 +1,16 @@
 //! Loads, stores and addresses.
 
 ghost use Rattle.std.specs.Prelude.{◌≢◌, ◌<◌, length, IfOk, IfErr};
-ghost use Rattle.clif_insts.specs.declared.stop.Stop.TheVariants.{NoMemory};
-ghost use Rattle.clif_insts.specs.Reading.{Gives, same};
+ghost use Rattle.token_reader.specs.declared.stop.Stop.TheVariants.{NoMemory};
+ghost use Rattle.token_reader.specs.Reading.{Gives, same};
 ghost use Rattle.clif_insts.specs.Forms as spec;
 
 use crate::flags::flags;
-use crate::numbers::offset;
+use token_reader::offset;
 use crate::raw::{RawInst, RawOperands};
-use crate::reader::Reader;
-use crate::stop::Stop;
-use crate::types::{opt_suffix, suffix, suffix_i64};
+use token_reader::Reader;
+use token_reader::Stop;
+use token_reader::{opt_suffix, suffix, suffix_i64};
 use clif_words::Class;
 use ir_core::List;
 use std::alloc::Global;

@@ -1,16 +1,16 @@
 //! Operations on values, and constants.
 
 ghost use Rattle.std.specs.Prelude.{◌≢◌, ◌<◌, length, IfOk, IfErr};
-ghost use Rattle.clif_insts.specs.declared.stop.Stop.TheVariants.{NoMemory};
-ghost use Rattle.clif_insts.specs.Reading.{Gives, same};
+ghost use Rattle.token_reader.specs.declared.stop.Stop.TheVariants.{NoMemory};
+ghost use Rattle.token_reader.specs.Reading.{Gives, same};
 ghost use Rattle.clif_insts.specs.Forms as spec;
 
 use crate::codes::condition;
-use crate::numbers::number;
+use token_reader::number;
 use crate::raw::{RawInst, RawOperands};
-use crate::reader::Reader;
-use crate::stop::Stop;
-use crate::types::{opt_suffix, suffix};
+use token_reader::Reader;
+use token_reader::Stop;
+use token_reader::{opt_suffix, suffix};
 use clif_words::Class;
 
 /// `iconst.T n`

@@ -1,44 +1,9 @@
 //! Instructions as the grammar reads them, with names that are not looked up yet.
 
-use clif_words::Opcode;
 use clk_num::Cc;
 use ir_core::{Boxed, List, Ty};
 use std::mem::size_of;
-
-/// An entity, a tag or a result by its word, as `v7`.
-#[derive(Clone, Copy, Debug, PartialEq, Eq)]
-pub struct RawName {
-    /// The number in the word, or `u64::MAX` where it is above that.
-    pub number: u64,
-    /// The word's first byte.
-    pub spot: usize,
-}
-
-/// An opcode.
-#[derive(Clone, Copy, Debug, PartialEq, Eq)]
-pub struct RawOpcode {
-    /// Which one it is.
-    pub kind: Opcode,
-    /// The opcode's first byte.
-    pub spot: usize,
-}
-
-/// A number.
-#[derive(Clone, Copy, Debug, PartialEq, Eq)]
-pub struct RawNumber {
-    pub value: i128,
-    /// The number's first byte.
-    pub spot: usize,
-}
-
-/// A name, as `%f`.
-#[derive(Drop)]
-pub struct RawText {
-    /// The name without its `%`.
-    pub bytes: List<u8>,
-    /// The name's first byte, the `%`.
-    pub spot: usize,
-}
+use token_reader::{RawName, RawNumber, RawOpcode};
 
 /// An argument of a target: `vN`, `retN` or `exnN`.
 #[derive(Clone, Copy, Debug, PartialEq, Eq)]

@@ -1,14 +1,15 @@
 //! Exception tables.
 
 ghost use Rattle.std.specs.Prelude.{◌≢◌, ◌<◌, length, IfOk, IfErr};
-ghost use Rattle.clif_insts.specs.declared.stop.Stop.TheVariants.{NoMemory};
-ghost use Rattle.clif_insts.specs.Reading.{Gives, same};
+ghost use Rattle.token_reader.specs.declared.stop.Stop.TheVariants.{NoMemory};
+ghost use Rattle.token_reader.specs.Reading.{Gives, same};
 ghost use Rattle.clif_insts.specs.Tables as spec;
 
-use crate::commas::{Items, joined_by_commas};
-use crate::raw::{RawEntry, RawName};
-use crate::reader::Reader;
-use crate::stop::Stop;
+use token_reader::{Items, joined_by_commas};
+use crate::raw::RawEntry;
+use token_reader::RawName;
+use token_reader::Reader;
+use token_reader::Stop;
 use crate::targets::{TargetRole, target};
 use clif_words::Class;
 use ir_core::{Boxed, List};

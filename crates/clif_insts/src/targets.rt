@@ -1,15 +1,15 @@
 //! Targets of branches.
 
 ghost use Rattle.std.specs.Prelude.{◌≡◌, ◌≢◌, ◌<◌, ◌≤◌, length, IfOk, IfErr};
-ghost use Rattle.clif_insts.specs.declared.stop.Stop.TheVariants.{NoMemory};
+ghost use Rattle.token_reader.specs.declared.stop.Stop.TheVariants.{NoMemory};
 ghost use Rattle.clif_insts.specs.declared.targets.TargetRole.TheVariants.{Branch};
-ghost use Rattle.clif_insts.specs.Reading.{Gives, same};
+ghost use Rattle.token_reader.specs.Reading.{Gives, same};
 ghost use Rattle.clif_insts.specs.Targets as spec;
 
-use crate::commas::{Items, joined_by_commas};
+use token_reader::{Items, joined_by_commas};
 use crate::raw::{RawArg, RawTarget};
-use crate::reader::Reader;
-use crate::stop::Stop;
+use token_reader::Reader;
+use token_reader::Stop;
 use clif_words::Class;
 use ir_core::{Boxed, List};
 use std::alloc::Global;

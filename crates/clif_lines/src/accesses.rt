@@ -13,7 +13,8 @@ use crate::narrowing::offset;
 use crate::operations::{access, stored_bytes};
 use crate::targets::flags;
 use crate::words::WordNumbers;
-use clif_insts::{RawFlag, RawName, RawNumber};
+use clif_insts::RawFlag;
+use token_reader::{RawName, RawNumber};
 use clif_words::Opcode;
 use ir_core::{Boxed, Inst, Ty};
 

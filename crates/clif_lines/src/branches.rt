@@ -10,7 +10,8 @@ ghost use Rattle.clif_meaning.specs.Instructions as spec;
 
 use crate::targets::{target, targets};
 use crate::words::WordNumbers;
-use clif_insts::{RawName, RawTarget};
+use clif_insts::RawTarget;
+use token_reader::RawName;
 use ir_core::{Boxed, Inst};
 use std::alloc::{AllocError, Global};
 

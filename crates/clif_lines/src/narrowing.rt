@@ -7,7 +7,8 @@ ghost use Rattle.clif_meaning.specs.Instructions.{code_of, natural, offset_of};
 ghost use Rattle.clif_lines.specs.Keeping.{AllKeep, Keeps};
 ghost use Rattle.clif_meaning.specs.Meaning as spec;
 
-use clif_insts::{RawName, RawNumber, RawTrap};
+use clif_insts::RawTrap;
+use token_reader::{RawName, RawNumber};
 use clk_num::TrapCode;
 use ir_core::Boxed;
 

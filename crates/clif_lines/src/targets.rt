@@ -8,7 +8,8 @@ ghost use Rattle.clif_meaning.specs.Instructions as spec;
 
 use crate::narrowing::{entity_number, word_number};
 use crate::words::WordNumbers;
-use clif_insts::{RawArg, RawEntry, RawFlag, RawName, RawTarget};
+use clif_insts::{RawArg, RawEntry, RawFlag, RawTarget};
+use token_reader::RawName;
 use clif_read::RawTag;
 use debug_tags::{Tag, Tags};
 use exn_tables::{Entry, Table};

@@ -2,7 +2,7 @@
 ghost use Rattle.std.specs.Prelude.{◌≡◌};
 ghost use Rattle.clif_lines.specs.WordNumbers.{AreSmall, numbers_in};
 
-use clif_insts::RawName;
+use token_reader::RawName;
 use clif_names::FunctionNames;
 use ir_core::{Block, FuncRef, SigRef, Slot, Value};
 

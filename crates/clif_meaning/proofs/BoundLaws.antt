@@ -10,7 +10,7 @@ use Rattle.ir_core.specs.Lists.{In, Each}
 use Rattle.ir_core.specs.Lookup.{definitions, line_definitions}
 use Rattle.ir_core.proofs.Ranges.{map_append}
 use Rattle.std.proofs.lemmas.Grind.{flat_map-append}
-use Rattle.clif_insts.specs.declared.raw.RawName.{RawName}
+use Rattle.token_reader.specs.declared.raw.RawName.{RawName}
 use Rattle.clif_read.specs.declared.raw.RawBlockParam.{RawBlockParam}
 use Rattle.clif_read.specs.declared.raw.RawCalleeSig.TheVariants as callee_sig
 use Rattle.clif_read.specs.declared.raw.RawDecl.{RawDecl}

@@ -7,7 +7,7 @@ use Rattle.ir_core.specs.Lookup.{same_name, find_function}
 use Rattle.ir_core.specs.WellFormed.{WellFormed, DifferentNames}
 use Rattle.ir_core.proofs.Equal.{name_equal}
 use Rattle.clif_lex.specs.declared.faults.TextKind.TheVariants.{Duplicate, Undefined, Untyped, TooLarge}
-use Rattle.clif_insts.specs.declared.raw.RawName.{RawName}
+use Rattle.token_reader.specs.declared.raw.RawName.{RawName}
 use Rattle.clif_read.specs.declared.raw.RawFuncName.{RawFuncName}
 use Rattle.clif_read.specs.declared.raw.RawFuncName.TheVariants as func_name
 use Rattle.clif_read.specs.declared.raw.RawFunction.{RawFunction}

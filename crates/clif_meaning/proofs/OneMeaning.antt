@@ -12,7 +12,7 @@ use Rattle.ir_core.specs.Module.{Function}
 use Rattle.ir_core.specs.Lookup.{type_in}
 use Rattle.ir_semantics.specs.Renaming.{Renaming}
 use Rattle.ir_core.proofs.Walking.{type_found}
-use Rattle.clif_insts.specs.declared.raw.RawName.{RawName}
+use Rattle.token_reader.specs.declared.raw.RawName.{RawName}
 use Rattle.clif_insts.specs.declared.raw.RawInst.{RawInst}
 use Rattle.clif_read.specs.declared.raw.RawLine.TheVariants as line
 use Rattle.clif_read.specs.declared.raw.RawFunction.{RawFunction}

@@ -12,7 +12,7 @@ use Rattle.ir_core.specs.Size as core
 use Rattle.ir_core.specs.Size.{total, size_of}
 use Rattle.clif_words.specs.declared.opcodes.Opcode.{Opcode}
 use Rattle.clif_words.specs.declared.opcodes.Opcode.TheVariants as opcode
-use Rattle.clif_insts.specs.declared.raw.RawName.{RawName}
+use Rattle.token_reader.specs.declared.raw.RawName.{RawName}
 use Rattle.clif_insts.specs.declared.raw.RawTarget.{RawTarget}
 use Rattle.clif_insts.specs.declared.raw.RawEntry.{RawEntry}
 use Rattle.clif_insts.specs.declared.raw.RawOperands.{RawOperands}

@@ -16,7 +16,7 @@ use Rattle.ir_core.specs.WellFormed.{WellFormed}
 use Rattle.ir_core.proofs.Keeping.{length_numbered, types_numbered}
 use Rattle.ir_core.proofs.Members.{in_left, in_right, different_apart}
 use Rattle.ir_core.proofs.Wholeness.{whole_of}
-use Rattle.clif_insts.specs.declared.raw.RawName.{RawName}
+use Rattle.token_reader.specs.declared.raw.RawName.{RawName}
 use Rattle.clif_read.specs.declared.raw.RawBlockParam.{RawBlockParam}
 use Rattle.clif_read.specs.declared.raw.RawLine.{RawLine}
 use Rattle.clif_read.specs.declared.raw.RawLine.TheVariants as line

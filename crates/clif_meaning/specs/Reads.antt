@@ -1,7 +1,7 @@
 -- What a text means: its tokens are one raw module, which has no fault and means the module.
 use Rattle.std.specs.Prelude.{◌≡◌, ℕ, List, take, drop}
 use Rattle.clif_read.specs.declared.raw.RawModule.{RawModule}
-use Rattle.clif_read.specs.Stretches.{IsModuleText}
+use Rattle.clif_read.specs.Texts.{IsModuleText}
 use Rattle.ir_core.specs.Module.{Module}
 use Rattle.ir_core.specs.WellFormed.{IsModule}
 use Rattle.clif_names.specs.Faults.{NoFault}

@@ -4,7 +4,7 @@ use Rattle.clk_num.specs.Numbers.{signed, wrapped, fits}
 use Rattle.clif_lex.specs.declared.faults.TextKind.TheVariants.{Duplicate, Undefined, NumberRange, Untyped}
 use Rattle.name_tables.specs.Definitions.{Values, definitions, steps, defs_of, value_defs, names_of}
 use Rattle.name_tables.specs.Chains.{chain}
-use Rattle.clif_insts.specs.declared.raw.RawName.{RawName}
+use Rattle.token_reader.specs.declared.raw.RawName.{RawName}
 use Rattle.clif_read.specs.declared.raw.RawFunction.{RawFunction}
 use Rattle.clif_read.specs.declared.raw.RawFuncName.TheVariants as func_name
 use Rattle.clif_names.specs.Rows as text

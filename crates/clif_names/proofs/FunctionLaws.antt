@@ -6,7 +6,7 @@ use Rattle.std.proofs.lemmas.List.{map-append}
 use Rattle.ir_core.specs.Size.{capped}
 use Rattle.ir_text.specs.Writable.{greatest_number}
 use Rattle.clif_lex.specs.declared.faults.TextKind.TheVariants.{TooLarge}
-use Rattle.clif_insts.specs.declared.raw.RawName.{RawName}
+use Rattle.token_reader.specs.declared.raw.RawName.{RawName}
 use Rattle.clif_read.specs.declared.raw.RawDecl.{RawDecl}
 use Rattle.clif_read.specs.declared.raw.RawDecl.TheVariants as decl
 use Rattle.clif_read.specs.declared.raw.RawFunction.{RawFunction}

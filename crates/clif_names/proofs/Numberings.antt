@@ -5,7 +5,7 @@ use Rattle.std.specs.List.{list_all}
 use Rattle.ir_core.specs.Lists.{In}
 use Rattle.ir_core.proofs.Members.{in_right}
 use Rattle.clif_lex.specs.declared.faults.TextKind.TheVariants.{Duplicate, Undefined}
-use Rattle.clif_insts.specs.declared.raw.RawName.{RawName}
+use Rattle.token_reader.specs.declared.raw.RawName.{RawName}
 use Rattle.clif_read.specs.declared.raw.RawFunction.{RawFunction}
 use Rattle.name_tables.specs.declared.firsts.Def.{Def}
 use Rattle.name_tables.specs.Definitions.{Values, value_defs, names_of, lines}

@@ -1,6 +1,6 @@
 -- The first number that does not keep its limit, as the numbers of a text are seen in order.
 use Rattle.std.specs.Prelude.{ℕ, Option, None, Some, if◌then◌else◌}
-use Rattle.clif_insts.specs.declared.raw.RawNumber.{RawNumber}
+use Rattle.token_reader.specs.declared.raw.RawNumber.{RawNumber}
 use Rattle.clif_names.specs.declared.limits.Limit.{Limit}
 use Rattle.clif_names.specs.declared.limits.Limited.{Limited}
 use Rattle.name_tables.specs.Least.{earlier_spot}

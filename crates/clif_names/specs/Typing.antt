@@ -1,6 +1,6 @@
 -- The operand that gives an instruction its type where no suffix does, and operands that are defined too late for it.
 use Rattle.std.specs.Prelude.{◌≡◌, ℕ, Option, None, Some, slice_get, take}
-use Rattle.clif_insts.specs.declared.raw.RawName.{RawName}
+use Rattle.token_reader.specs.declared.raw.RawName.{RawName}
 use Rattle.clif_insts.specs.declared.raw.RawInst.{RawInst}
 use Rattle.clif_insts.specs.declared.raw.RawOperands.{RawOperands}
 use Rattle.clif_insts.specs.declared.raw.RawOperands.TheVariants as form

@@ -2,8 +2,8 @@
 use Rattle.std.specs.Prelude.{ℕ, ◌+◌, ◌==◌, nat_eq, nat_le, Bool, false, List, Option, None, Some, slice_get, fold}
 use Rattle.std.specs.Prelude.{flat_map, position, if◌then◌else◌}
 use Rattle.ir_core.specs.declared.signatures.Ty.{Ty}
-use Rattle.clif_insts.specs.declared.raw.RawName.{RawName}
-use Rattle.clif_insts.specs.declared.raw.RawNumber.{RawNumber}
+use Rattle.token_reader.specs.declared.raw.RawName.{RawName}
+use Rattle.token_reader.specs.declared.raw.RawNumber.{RawNumber}
 use Rattle.clif_insts.specs.declared.raw.RawArg.{RawArg}
 use Rattle.clif_insts.specs.declared.raw.RawArg.TheVariants as arg
 use Rattle.clif_insts.specs.declared.raw.RawTarget.{RawTarget}

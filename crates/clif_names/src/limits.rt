@@ -4,7 +4,7 @@ ghost use Rattle.clif_names.specs.Limits as limits;
 ghost use Rattle.clif_names.specs.Noting as spec;
 ghost use Rattle.ir_core.specs.Lookup.{width_of};
 
-use clif_insts::{RawName, RawNumber};
+use token_reader::{RawName, RawNumber};
 use clk_num::{Bits, Width};
 use ir_core::Ty;
 use name_tables::earlier_spot;

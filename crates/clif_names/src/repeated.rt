@@ -6,7 +6,7 @@ ghost use Rattle.clif_names.specs.NameSets.{AddsName, Has, IsEmptySet, inserted,
 ghost use Rattle.indexmap.specs.IndexSet.{keys};
 ghost use Rattle.std.specs.List.{list_any};
 
-use clif_insts::RawNumber;
+use token_reader::RawNumber;
 use clif_read::{RawFuncName, RawFunction};
 use indexmap::IndexSet;
 use name_tables::earlier_spot;

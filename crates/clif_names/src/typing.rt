@@ -2,7 +2,8 @@
 ghost use Rattle.std.specs.Prelude.{◌≡◌};
 ghost use Rattle.clif_names.specs.Typing as spec;
 
-use clif_insts::{RawInst, RawName, RawOperands};
+use clif_insts::{RawInst, RawOperands};
+use token_reader::RawName;
 
 /// The operand that gives the instruction its type, where the suffix may be left out.
 pub fn gives_type(operands: &RawOperands) -> Option<RawName>

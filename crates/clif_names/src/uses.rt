@@ -5,7 +5,8 @@ ghost use Rattle.clif_names.specs.Using as spec;
 
 use crate::limits::{Limit, note, note_maybe, of_number, of_word};
 use crate::typing::asks;
-use clif_insts::{RawArg, RawEntry, RawInst, RawName, RawNumber, RawOperands, RawTarget, RawTrap};
+use clif_insts::{RawArg, RawEntry, RawInst, RawOperands, RawTarget, RawTrap};
+use token_reader::{RawName, RawNumber};
 use clif_read::{
     RawBlock, RawBlockParam, RawCalleeSig, RawDecl, RawFuncName, RawFunction, RawLine, RawTag,
 };

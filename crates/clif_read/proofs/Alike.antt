@@ -3,7 +3,7 @@ use Rattle.std.proofs.Common.{◌≡◌, ℕ, List, [], ◌∷◌, ◌++◌, map
 use Rattle.std.specs.Prelude.{◌⊎◌}
 use Rattle.grammar.specs.Rules.{Lexeme, Rule, Empty, Tok, Seq, Alt, Opt, Many, Refuse, Chain, Kind, Tree, Derives, Begins}
 use Rattle.grammar.proofs.Binds.{regroup}
-use Rattle.clif_insts.specs.Values.{either}
+use Rattle.token_reader.specs.Values.{either}
 use Rattle.clif_read.specs.Alike.{Means, Alike}
 
 pub alike_same : {Y : Type 0} (r : Rule) (f g : Tree r → Y) → ((v : Tree r) → f v ≡ g v) → Alike r r f g

@@ -3,8 +3,8 @@ use Rattle.std.proofs.Common.{◌≡◌, List, [], ◌∷◌, Option, Some, None
 use Rattle.grammar.specs.Rules.{Lexeme, Opt, Tree}
 use Rattle.clif_words.specs.declared.class.Class.TheVariants as classes
 use Rattle.clif_words.specs.Terminals.{◌then◌, ◌or◌, ext}
-use Rattle.clif_insts.specs.Values.{perhaps}
-use Rattle.clif_insts.proofs.Seen.{Is, then_is, map_is, also, opt_is, alt_is, name_is}
+use Rattle.token_reader.specs.Values.{perhaps}
+use Rattle.token_reader.proofs.Seen.{Is, then_is, map_is, also, opt_is, alt_is, name_is}
 use Rattle.clif_read.specs.declared.raw.RawAttribute.{RawAttribute}
 use Rattle.clif_read.specs.declared.raw.RawAttribute.TheVariants as attributes
 use Rattle.clif_read.specs.ModuleGrammar.{purpose}

@@ -3,15 +3,15 @@ use Rattle.std.proofs.Common.{Bool, true, false, List, [], ◌∷◌, map, Optio
 use Rattle.grammar.specs.Rules.{Lexeme, Rule, Opt, Many, Tree, Unsupported, Out, ◌>>=◌}
 use Rattle.clif_words.specs.declared.class.Class.TheVariants as classes
 use Rattle.clif_words.specs.Terminals.{◌then◌, ◌or◌, user_name, colon, comma, equals, explicit_slot, align, colocated, sig}
-use Rattle.clif_insts.specs.declared.raw.RawName.{RawName}
-use Rattle.clif_insts.specs.declared.raw.RawNumber.{RawNumber}
-use Rattle.clif_insts.specs.Grammar.{number}
-use Rattle.clif_insts.specs.Reading.{name, name_at}
-use Rattle.clif_insts.specs.Numbers.{number_at}
-use Rattle.clif_insts.specs.Values.{perhaps, never, number_value}
-use Rattle.clif_insts.proofs.Seen.{Is, then_is, map_is, opt_is, alt_is, many_is, refuse_is, name_is}
-use Rattle.clif_insts.proofs.Names.{text_is}
-use Rattle.clif_insts.proofs.PartLaws.{number_is}
+use Rattle.token_reader.specs.declared.raw.RawName.{RawName}
+use Rattle.token_reader.specs.declared.raw.RawNumber.{RawNumber}
+use Rattle.token_reader.specs.Grammar.{number}
+use Rattle.token_reader.specs.Reading.{name, name_at}
+use Rattle.token_reader.specs.Numbers.{number_at}
+use Rattle.token_reader.specs.Values.{perhaps, never, number_value}
+use Rattle.token_reader.proofs.Seen.{Is, then_is, map_is, opt_is, alt_is, many_is, refuse_is, name_is}
+use Rattle.token_reader.proofs.Names.{text_is}
+use Rattle.token_reader.proofs.TypeLaws.{number_is}
 use Rattle.clif_read.specs.declared.raw.RawFuncName.{RawFuncName}
 use Rattle.clif_read.specs.declared.raw.RawFuncName.TheVariants as names
 use Rattle.clif_read.specs.declared.raw.RawCalleeSig.TheVariants as callee_sigs

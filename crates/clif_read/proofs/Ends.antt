@@ -6,7 +6,7 @@ use Rattle.grammar.specs.Rules.{Lexeme, Class, Kind, Rule, Tok, Seq, Alt, Refuse
 use Rattle.grammar.proofs.Chains.{ends-append}
 use Rattle.grammar.proofs.Exactness.{front}
 use Rattle.grammar.proofs.Tails.{may_end, quiet}
-use Rattle.clif_insts.specs.Values.{either}
+use Rattle.token_reader.specs.Values.{either}
 
 -- a text of the rule ends with a token of the class where this is true of what the text means
 pub record Ends {A : Type 0} (c : Class) (g : A → Bool) (r : Rule) (f : Tree r → A) : Type 0 where

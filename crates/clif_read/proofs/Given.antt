@@ -8,7 +8,7 @@ use Rattle.grammar.proofs.Binds.{ok_is}
 use Rattle.grammar.proofs.Exactness.{complete}
 use Rattle.grammar.proofs.Same.{Splits, SplitsBegun, same_texts, same_beginnings}
 use Rattle.grammar.proofs.Tails.{tok_ends, may_end, Tail, tail_same, tail_end, tail_alt, tail_seq, Or, splits, splits_begun}
-use Rattle.clif_insts.specs.Values.{either}
+use Rattle.token_reader.specs.Values.{either}
 use Rattle.clif_read.specs.Alike.{Means, Alike}
 
 -- an a that ends with the token c, and a w that is given to it

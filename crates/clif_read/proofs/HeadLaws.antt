@@ -4,13 +4,14 @@ use Rattle.grammar.specs.Rules.{Lexeme, Many, ◌>>=◌}
 use Rattle.ir_core.specs.declared.signatures.Ty.{Ty}
 use Rattle.clif_words.specs.declared.class.Class.TheVariants as classes
 use Rattle.clif_words.specs.Terminals.{◌then◌, header, colon}
-use Rattle.clif_insts.specs.declared.raw.RawName.{RawName}
-use Rattle.clif_insts.specs.Grammar.{any_type}
-use Rattle.clif_insts.specs.Reading.{name_at}
-use Rattle.clif_insts.specs.Types.{type_at}
-use Rattle.clif_insts.specs.Values.{any_type_value}
-use Rattle.clif_insts.proofs.Seen.{Is, then_is, map_is, many_is, name_is}
-use Rattle.clif_insts.proofs.PartLaws.{type_is, commas_is, within_is}
+use Rattle.token_reader.specs.declared.raw.RawName.{RawName}
+use Rattle.token_reader.specs.Grammar.{any_type}
+use Rattle.token_reader.specs.Reading.{name_at}
+use Rattle.token_reader.specs.Types.{type_at}
+use Rattle.token_reader.specs.Values.{any_type_value}
+use Rattle.token_reader.proofs.Seen.{Is, then_is, map_is, many_is, name_is}
+use Rattle.token_reader.proofs.TypeLaws.{type_is, commas_is}
+use Rattle.clif_insts.proofs.PartLaws.{within_is}
 use Rattle.clif_read.specs.declared.raw.RawBlockParam.{RawBlockParam}
 use Rattle.clif_read.specs.ModuleGrammar.{block_param, block_params}
 use Rattle.clif_read.specs.ModuleValues.{block_param_value, block_params_value}

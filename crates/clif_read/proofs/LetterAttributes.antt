@@ -6,7 +6,7 @@ use Rattle.std.proofs.lemmas.List.Sums.{sum_by-cons}
 use Rattle.grammar.specs.Rules.{Lexeme, Rule, Opt, Tree, Derives, Begins}
 use Rattle.grammar.proofs.Past.{derives_begins}
 use Rattle.clif_words.specs.Terminals.{◌then◌, ◌or◌, ext}
-use Rattle.clif_insts.specs.Values.{◌otherwise◌, perhaps}
+use Rattle.token_reader.specs.Values.{◌otherwise◌, perhaps}
 use Rattle.clif_read.specs.declared.raw.RawAttribute.{RawAttribute}
 use Rattle.clif_read.specs.ModuleGrammar.{purpose}
 use Rattle.clif_read.specs.DeclarationValues.{ext_of, ext_value, purpose_value, attributes_value}

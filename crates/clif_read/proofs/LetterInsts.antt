@@ -4,14 +4,15 @@ use Rattle.grammar.specs.Rules.{Rule, Tree, Opt, Refuse, UnknownOpcode, Unsuppor
 use Rattle.grammar.proofs.Tails.{may_end}
 use Rattle.clif_words.specs.declared.class.Class.{Class}
 use Rattle.clif_words.specs.declared.class.Class.TheVariants as classes
-use Rattle.clif_insts.specs.declared.raw.RawName.{RawName}
+use Rattle.token_reader.specs.declared.raw.RawName.{RawName}
 use Rattle.clif_insts.specs.declared.raw.RawInst.{RawInst}
 use Rattle.clif_insts.specs.declared.raw.RawOperands.TheVariants as operands
 use Rattle.clif_words.specs.Classes.{code}
 use Rattle.clif_words.specs.Terminals.{◌then◌, refused, value, comma, condition, sig, callee, iconst, binary, unary, icmp, select, convert, binary_imm, icmp_imm, load, load_wide, store, stack_load, stack_store, func_addr, nullary, jump, brif, br_table, return_word, trap, trap_if, call, try_call, call_indirect, try_call_indirect}
-use Rattle.clif_insts.specs.Grammar.{commas, number, suffix, suffix_i64, any_trap, flags, address, slot_address, target, normal_target, table, args, target_list, words_but, instruction, return_values}
-use Rattle.clif_insts.specs.Reading.{name, opcode}
-use Rattle.clif_insts.specs.Values.{perhaps, never, commas_value}
+use Rattle.token_reader.specs.Grammar.{commas, number, suffix, suffix_i64}
+use Rattle.clif_insts.specs.Grammar.{any_trap, flags, address, slot_address, target, normal_target, table, args, target_list, words_but, instruction, return_values}
+use Rattle.token_reader.specs.Reading.{name, opcode}
+use Rattle.token_reader.specs.Values.{perhaps, never, commas_value}
 use Rattle.clif_insts.specs.InstValues.{raw, iconst_value, binary_value, unary_value, icmp_value, select_value, convert_value, binary_imm_value, icmp_imm_value, load_value, load_wide_value, store_value, stack_load_value, stack_store_value, func_addr_value, nullary_value, jump_value, brif_value, br_table_value, return_inst_value, trap_inst_value, trap_if_value, call_value, try_call_value, call_indirect_value, try_call_indirect_value, instruction_value, return_values_value}
 use Rattle.clif_read.specs.Alike.{Alike}
 use Rattle.clif_read.proofs.Alike.{alike_same, alt_alike, refuse_alike}

@@ -6,12 +6,13 @@ use Rattle.grammar.specs.Rules.{Lexeme, Rule, Opt, Many, Tree, Derives}
 use Rattle.grammar.proofs.Tails.{Or, or_opt, or_left, or_right, or_seq}
 use Rattle.clif_words.specs.declared.class.Class.{Class}
 use Rattle.clif_words.specs.declared.class.Class.TheVariants as classes
-use Rattle.clif_insts.specs.declared.raw.RawName.{RawName}
+use Rattle.token_reader.specs.declared.raw.RawName.{RawName}
 use Rattle.clif_insts.specs.declared.raw.RawInst.{RawInst}
 use Rattle.clif_words.specs.Terminals.{◌then◌, ◌or◌, srcloc, value, comma, arrow, equals, return_word}
-use Rattle.clif_insts.specs.Grammar.{commas, instruction, whole_inst, return_values}
-use Rattle.clif_insts.specs.Reading.{name}
-use Rattle.clif_insts.specs.Values.{either, commas_value}
+use Rattle.token_reader.specs.Grammar.{commas}
+use Rattle.clif_insts.specs.Grammar.{instruction, whole_inst, return_values}
+use Rattle.token_reader.specs.Reading.{name}
+use Rattle.token_reader.specs.Values.{either, commas_value}
 use Rattle.clif_insts.specs.InstValues.{whole_value}
 use Rattle.clif_read.specs.declared.raw.RawTag.{RawTag}
 use Rattle.clif_read.specs.declared.raw.RawLine.{RawLine}

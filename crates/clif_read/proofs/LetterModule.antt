@@ -2,8 +2,8 @@
 use Rattle.std.proofs.Common.{ℕ, List, ◌∷◌, [], map, refl}
 use Rattle.grammar.specs.Rules.{Lexeme, Opt, Many, Tree}
 use Rattle.clif_words.specs.Terminals.{◌then◌, right_brace, cold}
-use Rattle.clif_insts.specs.Reading.{name}
-use Rattle.clif_insts.specs.Values.{perhaps}
+use Rattle.token_reader.specs.Reading.{name}
+use Rattle.token_reader.specs.Values.{perhaps}
 use Rattle.clif_read.specs.declared.raw.RawBlock.{RawBlock}
 use Rattle.clif_read.specs.declared.raw.RawFunction.{RawFunction}
 use Rattle.clif_read.specs.declared.raw.RawModule.{RawModule}

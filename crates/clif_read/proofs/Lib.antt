@@ -8,7 +8,7 @@ pub mod LineLaws
 pub mod LineLoop
 pub mod ModuleLaws
 pub mod Whole
-pub mod StretchLaws
+pub mod Functions
 pub mod Alike
 pub mod Given
 pub mod LetterInsts

@@ -5,11 +5,12 @@ use Rattle.clif_words.specs.declared.class.Class as words
 use Rattle.clif_words.specs.declared.class.Class.TheVariants as classes
 use Rattle.clif_words.specs.Classes.{code}
 use Rattle.clif_words.specs.Terminals.{◌then◌, comma, arrow, equals, value, srcloc}
-use Rattle.clif_insts.specs.Grammar.{commas, inst}
-use Rattle.clif_insts.specs.Reading.{name}
-use Rattle.clif_insts.specs.Values.{commas_value}
+use Rattle.token_reader.specs.Grammar.{commas}
+use Rattle.clif_insts.specs.Grammar.{inst}
+use Rattle.token_reader.specs.Reading.{name}
+use Rattle.token_reader.specs.Values.{commas_value}
 use Rattle.clif_insts.specs.InstValues.{inst_value}
-use Rattle.clif_insts.specs.declared.raw.RawName.{RawName}
+use Rattle.token_reader.specs.declared.raw.RawName.{RawName}
 use Rattle.clif_insts.specs.declared.raw.RawInst.{RawInst}
 use Rattle.clif_read.specs.declared.raw.RawTag.{RawTag}
 use Rattle.clif_read.specs.declared.raw.RawLine.{RawLine}

@@ -5,9 +5,9 @@ use Rattle.grammar.specs.Rules.{Lexeme, Kind, Syntax, UnknownOpcode, read_all, â
 use Rattle.clif_words.specs.declared.class.Class.{Class}
 use Rattle.clif_words.specs.declared.class.Class.TheVariants as classes
 use Rattle.clif_words.specs.Classes.{code}
-use Rattle.clif_insts.specs.declared.raw.RawName.{RawName}
+use Rattle.token_reader.specs.declared.raw.RawName.{RawName}
 use Rattle.clif_insts.specs.declared.raw.RawOperands.TheVariants as operands
-use Rattle.clif_insts.specs.Reading.{opcode}
+use Rattle.token_reader.specs.Reading.{opcode}
 use Rattle.clif_insts.specs.InstValues.{raw}
 use Rattle.clif_read.specs.declared.raw.RawLine.{RawLine}
 use Rattle.clif_read.specs.declared.raw.RawLine.TheVariants as raw_lines

@@ -9,14 +9,16 @@ use Rattle.clif_words.specs.Classes.{code}
 use Rattle.clif_words.specs.Terminals.{◌then◌, ◌or◌, comma, arrow, greater, value}
 use Rattle.clif_insts.specs.declared.opening.Opening.{Opening}
 use Rattle.clif_insts.specs.declared.opening.Opening.TheVariants.{AfterResults, AfterTags, LineStart}
-use Rattle.clif_insts.specs.declared.raw.RawName.{RawName}
-use Rattle.clif_insts.specs.Grammar.{commas, excepted, inst}
-use Rattle.clif_insts.specs.Reading.{name, name_at, commas_at}
+use Rattle.token_reader.specs.declared.raw.RawName.{RawName}
+use Rattle.token_reader.specs.Grammar.{commas}
+use Rattle.clif_insts.specs.Grammar.{excepted, inst}
+use Rattle.token_reader.specs.Reading.{name, name_at, commas_at}
 use Rattle.clif_insts.specs.Forms.{inst_at}
-use Rattle.clif_insts.specs.Values.{commas_value, seen}
+use Rattle.token_reader.specs.Values.{commas_value, seen}
 use Rattle.clif_insts.specs.InstValues.{inst_value}
-use Rattle.clif_insts.proofs.Seen.{Is, then_is, map_is, opt_is, alt_is, name_is}
-use Rattle.clif_insts.proofs.PartLaws.{commas_is, number_is, values_is, more_values_is}
+use Rattle.token_reader.proofs.Seen.{Is, then_is, map_is, opt_is, alt_is, name_is}
+use Rattle.token_reader.proofs.TypeLaws.{commas_is, number_is}
+use Rattle.clif_insts.proofs.PartLaws.{values_is, more_values_is}
 use Rattle.clif_insts.proofs.InstLaws.{inst_is}
 use Rattle.clif_read.specs.declared.raw.RawTag.{RawTag}
 use Rattle.clif_read.specs.declared.raw.RawTag.TheVariants as tag_kinds

@@ -1,10 +1,10 @@
 -- The loop over the lines of a block.
 use Rattle.std.proofs.Common.{◌≡◌, ℕ, zero, suc, ◌+◌, ◌≤◌, ◌<◌, Bool, true, false, List, [], ◌∷◌, length, Ok, Err, slice_index_or, slice_set, ap, sym, ◌∙◌, arith, refl}
 use Rattle.grammar.specs.Rules.{Lexeme, Kind, Syntax, UnknownOpcode, Unsupported, Out, heads, firsts, ◌>>=◌}
-use Rattle.clif_insts.specs.declared.stop.Stop.{Stop}
-use Rattle.clif_insts.specs.declared.stop.Stop.TheVariants as stops
-use Rattle.clif_insts.specs.Reading.{Stops}
-use Rattle.clif_insts.specs.declared.raw.RawName.{RawName}
+use Rattle.token_reader.specs.declared.stop.Stop.{Stop}
+use Rattle.token_reader.specs.declared.stop.Stop.TheVariants as stops
+use Rattle.token_reader.specs.Reading.{Stops}
+use Rattle.token_reader.specs.declared.raw.RawName.{RawName}
 use Rattle.clif_read.specs.declared.raw.RawLine.{RawLine}
 use Rattle.clif_read.specs.ModuleGrammar.{line}
 use Rattle.clif_read.specs.LineValues.{LinePart, with_values}

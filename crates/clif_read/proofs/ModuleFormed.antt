@@ -10,13 +10,14 @@ use Rattle.clif_words.specs.Terminals.{◌then◌, ◌or◌, comma, colon, arrow
 use Rattle.clif_words.specs.Lexemes.{lexemes}
 use Rattle.clif_words.specs.TextTokens.{IsTextToken, AreTextTokens}
 use Rattle.clif_words.proofs.TextTokens.{text_tokens}
-use Rattle.clif_insts.specs.declared.raw.RawName.{RawName}
+use Rattle.token_reader.specs.declared.raw.RawName.{RawName}
 use Rattle.clif_insts.specs.declared.raw.RawInst.{RawInst}
 use Rattle.clif_insts.specs.declared.raw.RawOperands.{RawOperands}
 use Rattle.clif_insts.specs.declared.raw.RawOperands.TheVariants as operands
-use Rattle.clif_insts.specs.Grammar.{commas, inst}
-use Rattle.clif_insts.specs.Reading.{name}
-use Rattle.clif_insts.specs.Values.{commas_value}
+use Rattle.token_reader.specs.Grammar.{commas}
+use Rattle.clif_insts.specs.Grammar.{inst}
+use Rattle.token_reader.specs.Reading.{name}
+use Rattle.token_reader.specs.Values.{commas_value}
 use Rattle.clif_insts.specs.InstValues.{raw, inst_value}
 use Rattle.clif_insts.specs.OfForm.{IsOfForm, InstFormed}
 use Rattle.clif_insts.proofs.Formed.{Formed, each_front, each_behind, then_formed, or_formed, also_formed, inst_formed}
@@ -30,7 +31,7 @@ use Rattle.clif_read.specs.LineValues.{LinePart, Whole, Values, made_value, debu
 use Rattle.clif_read.specs.ModuleValues.{block_value, function_value, module_value}
 use Rattle.clif_read.specs.Lines.{returns, is_return}
 use Rattle.clif_read.specs.Texts.{IsModule}
-use Rattle.clif_read.specs.Stretches.{IsModuleText}
+use Rattle.clif_read.specs.Texts.{IsModuleText}
 use Rattle.clif_read.specs.Formed.{LineFormed, BlockFormed, FunctionFormed, IsFormed}
 use Rattle.clif_read.proofs.LineEnds.{return_code, line_ends, line_or_values_ends}
 use Rattle.clif_read.proofs.ModuleMarks.{module_marked}

@@ -3,10 +3,10 @@ use Rattle.std.proofs.Common.{ℕ, Bool, true, false, List, [], ◌∷◌, ◌++
 use Rattle.grammar.specs.Rules.{Opt, Many, ◌>>=◌}
 use Rattle.clif_words.specs.declared.class.Class.TheVariants as classes
 use Rattle.clif_words.specs.Terminals.{◌then◌, left_brace, right_brace, colon, cold}
-use Rattle.clif_insts.specs.declared.raw.RawName.{RawName}
-use Rattle.clif_insts.specs.Reading.{name_at}
-use Rattle.clif_insts.specs.Values.{perhaps}
-use Rattle.clif_insts.proofs.Seen.{Is, then_is, map_is, opt_is, many_is, name_is}
+use Rattle.token_reader.specs.declared.raw.RawName.{RawName}
+use Rattle.token_reader.specs.Reading.{name_at}
+use Rattle.token_reader.specs.Values.{perhaps}
+use Rattle.token_reader.proofs.Seen.{Is, then_is, map_is, opt_is, many_is, name_is}
 use Rattle.clif_read.specs.declared.raw.RawFuncName.{RawFuncName}
 use Rattle.clif_read.specs.declared.raw.RawSignature.{RawSignature}
 use Rattle.clif_read.specs.declared.raw.RawDecl.{RawDecl}

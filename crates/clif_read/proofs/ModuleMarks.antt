@@ -7,12 +7,13 @@ use Rattle.grammar.specs.Rules.{Lexeme, Rule, Opt, Many, Tree}
 use Rattle.clif_words.specs.declared.class.Class.TheVariants as classes
 use Rattle.clif_words.specs.Classes.{code}
 use Rattle.clif_words.specs.Terminals.{◌then◌, ◌or◌, comma, arrow, value, sig, header, srcloc}
-use Rattle.clif_insts.specs.declared.raw.RawName.{RawName}
+use Rattle.token_reader.specs.declared.raw.RawName.{RawName}
 use Rattle.clif_insts.specs.declared.raw.RawInst.{RawInst}
 use Rattle.clif_insts.specs.declared.raw.RawOperands.TheVariants as operands
-use Rattle.clif_insts.specs.Grammar.{commas, inst, number}
-use Rattle.clif_insts.specs.Reading.{name}
-use Rattle.clif_insts.specs.Values.{◌otherwise◌, either, perhaps, never, commas_value, number_value}
+use Rattle.token_reader.specs.Grammar.{commas, number}
+use Rattle.clif_insts.specs.Grammar.{inst}
+use Rattle.token_reader.specs.Reading.{name}
+use Rattle.token_reader.specs.Values.{◌otherwise◌, either, perhaps, never, commas_value, number_value}
 use Rattle.clif_insts.specs.InstValues.{raw, inst_value}
 use Rattle.clif_insts.specs.Marks.{Mark, Spot, Word, Opcode, Number, Name, name_marks, names_marks, number_marks, offset_marks, operand_marks, inst_marks}
 use Rattle.clif_insts.proofs.Marked.{Among, done, pass, take, Marked, marked_same, unmarked, token_marked, word_marked, spot_marked, both_marked, second_marked, first_marked, either_marked, refused_marked, perhaps_marked, many_marked, chain_marked, each_marked, commas_marked, perhaps_list, within_marked}

@@ -6,10 +6,10 @@ use Rattle.ir_core.specs.declared.signatures.Conv.{Conv}
 use Rattle.ir_core.specs.declared.signatures.Conv.TheVariants as convs
 use Rattle.clif_words.specs.declared.class.Class.TheVariants as classes
 use Rattle.clif_words.specs.Terminals.{◌then◌, ◌or◌, right_paren, arrow, ext}
-use Rattle.clif_insts.specs.Reading.{name_at}
-use Rattle.clif_insts.specs.Values.{perhaps}
-use Rattle.clif_insts.proofs.Seen.{Is, then_is, map_is, opt_is, alt_is, name_is}
-use Rattle.clif_insts.proofs.PartLaws.{type_is, commas_is}
+use Rattle.token_reader.specs.Reading.{name_at}
+use Rattle.token_reader.specs.Values.{perhaps}
+use Rattle.token_reader.proofs.Seen.{Is, then_is, map_is, opt_is, alt_is, name_is}
+use Rattle.token_reader.proofs.TypeLaws.{type_is, commas_is}
 use Rattle.clif_read.specs.declared.raw.RawAttribute.{RawAttribute}
 use Rattle.clif_read.specs.declared.raw.RawParam.{RawParam}
 use Rattle.clif_read.specs.declared.raw.RawSignature.{RawSignature}

@@ -4,11 +4,11 @@ use Rattle.std.proofs.lemmas.List.{append-nil}
 use Rattle.grammar.specs.Rules.{Lexeme, Kind, Syntax, UnknownOpcode, Unsupported, Tree, Answers, Out, read, read_all, heads_any, ◌>>=◌}
 use Rattle.grammar.proofs.Exactness.{complete}
 use Rattle.grammar.proofs.Exact.{exact}
-use Rattle.clif_insts.specs.declared.stop.Stop.{Stop}
-use Rattle.clif_insts.specs.declared.stop.Stop.TheVariants as stops
-use Rattle.clif_insts.specs.Reading.{Stops}
-use Rattle.clif_insts.specs.Next.{spot_or}
-use Rattle.clif_insts.specs.Values.{seen}
+use Rattle.token_reader.specs.declared.stop.Stop.{Stop}
+use Rattle.token_reader.specs.declared.stop.Stop.TheVariants as stops
+use Rattle.token_reader.specs.Reading.{Stops}
+use Rattle.token_reader.specs.Next.{spot_or}
+use Rattle.token_reader.specs.Values.{seen}
 use Rattle.clif_read.specs.declared.raw.RawModule.{RawModule}
 use Rattle.clif_read.specs.ModuleGrammar.{module_rule}
 use Rattle.clif_read.specs.ModuleValues.{module_value}

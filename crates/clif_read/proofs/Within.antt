@@ -15,12 +15,12 @@ use Rattle.clif_lex.proofs.Readings.{fault_inside_text}
 use Rattle.clif_words.specs.Lexemes.{lexemes}
 use Rattle.clif_words.specs.TextTokens.{IsTextToken, AreTextTokens}
 use Rattle.clif_words.proofs.TextTokens.{text_tokens}
-use Rattle.clif_insts.specs.Next.{spot_or}
+use Rattle.token_reader.specs.Next.{spot_or}
 use Rattle.clif_insts.proofs.Formed.{each_behind}
 use Rattle.clif_read.specs.declared.raw.RawModule.{RawModule}
 use Rattle.clif_read.specs.Formed.{IsFormed}
 use Rattle.clif_read.specs.Texts.{IsModule, Broken, Stopped}
-use Rattle.clif_read.specs.Stretches.{IsModuleText, IsFirstFault, IsFaultOf}
+use Rattle.clif_read.specs.Texts.{IsModuleText, IsFirstFault, IsFaultOf}
 use Rattle.clif_read.proofs.ModuleFormed.{module_formed, text_formed}
 
 spot_within : (len : ℕ) (rest : List Lexeme) → Each (IsTextToken len) rest → spot_or len rest ≤ len

@@ -4,7 +4,7 @@ use Rattle.grammar.specs.Rules.{Lexeme, Out, heads, ◌>>=◌}
 use Rattle.clif_words.specs.declared.class.Class.{Class}
 use Rattle.clif_words.specs.declared.class.Class.TheVariants as classes
 use Rattle.clif_words.specs.Terminals.{codes_of}
-use Rattle.clif_insts.specs.Reading.{next_is, name_at}
+use Rattle.token_reader.specs.Reading.{next_is, name_at}
 use Rattle.clif_read.specs.declared.raw.RawAttribute.{RawAttribute}
 use Rattle.clif_read.specs.declared.raw.RawAttribute.TheVariants as attributes
 use Rattle.clif_read.specs.DeclarationValues.{ext_of}

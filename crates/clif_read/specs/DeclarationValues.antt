@@ -3,11 +3,11 @@ use Rattle.std.specs.Prelude.{List, [], ◌∷◌, ◌==◌, Bool, true, false, 
 use Rattle.grammar.specs.Rules.{Lexeme, Opt, Tree}
 use Rattle.ir_core.specs.declared.signatures.Conv.{Conv}
 use Rattle.ir_core.specs.declared.signatures.Conv.TheVariants as convs
-use Rattle.clif_insts.specs.declared.raw.RawNumber.{RawNumber}
+use Rattle.token_reader.specs.declared.raw.RawNumber.{RawNumber}
 use Rattle.clif_words.specs.Terminals.{◌then◌, ◌or◌, comma, equals, ext, align, colocated, sig}
-use Rattle.clif_insts.specs.Grammar.{number}
-use Rattle.clif_insts.specs.Reading.{name}
-use Rattle.clif_insts.specs.Values.{◌otherwise◌, perhaps, never, commas_value, any_type_value, number_value}
+use Rattle.token_reader.specs.Grammar.{number}
+use Rattle.token_reader.specs.Reading.{name}
+use Rattle.token_reader.specs.Values.{◌otherwise◌, perhaps, never, commas_value, any_type_value, number_value}
 use Rattle.clif_read.specs.declared.raw.RawAttribute.{RawAttribute}
 use Rattle.clif_read.specs.declared.raw.RawAttribute.TheVariants as attributes
 use Rattle.clif_read.specs.declared.raw.RawParam.{RawParam}

@@ -4,10 +4,10 @@ use Rattle.grammar.specs.Rules.{Lexeme, Unsupported, Out, ◌>>=◌}
 use Rattle.clif_words.specs.declared.class.Class.{Class}
 use Rattle.clif_words.specs.declared.class.Class.TheVariants as classes
 use Rattle.clif_words.specs.Terminals.{codes_of}
-use Rattle.clif_insts.specs.declared.raw.RawNumber.{RawNumber}
-use Rattle.clif_insts.specs.Reading.{next_is, name_at, refuse, each, with_front}
-use Rattle.clif_insts.specs.Names.{text_at}
-use Rattle.clif_insts.specs.Numbers.{number_at}
+use Rattle.token_reader.specs.declared.raw.RawNumber.{RawNumber}
+use Rattle.token_reader.specs.Reading.{next_is, name_at, refuse, each, with_front}
+use Rattle.token_reader.specs.Names.{text_at}
+use Rattle.token_reader.specs.Numbers.{number_at}
 use Rattle.clif_read.specs.declared.raw.RawFuncName.{RawFuncName}
 use Rattle.clif_read.specs.declared.raw.RawFuncName.TheVariants as names
 use Rattle.clif_read.specs.declared.raw.RawCalleeSig.{RawCalleeSig}

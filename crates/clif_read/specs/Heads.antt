@@ -3,8 +3,8 @@ use Rattle.std.specs.Prelude.{ℕ, if◌then◌else◌, List, [], ◌∷◌, len
 use Rattle.grammar.specs.Rules.{Lexeme, Out, ◌>>=◌}
 use Rattle.clif_words.specs.declared.class.Class.TheVariants as classes
 use Rattle.clif_words.specs.Classes.{code}
-use Rattle.clif_insts.specs.Reading.{next_is, name_at, each, with_front, commas_at}
-use Rattle.clif_insts.specs.Types.{type_at}
+use Rattle.token_reader.specs.Reading.{next_is, name_at, each, with_front, commas_at}
+use Rattle.token_reader.specs.Types.{type_at}
 use Rattle.clif_read.specs.declared.raw.RawBlockParam.{RawBlockParam}
 
 -- ---- headers

@@ -3,8 +3,8 @@
 use Rattle.std.specs.Prelude.{◌≡◌, Bool, true, false, not, ◌≤◌, List, [], ◌++◌, map, count_by}
 use Rattle.grammar.specs.Rules.{Lexeme, Rule, Opt, Many, Tree, Begins}
 use Rattle.clif_words.specs.Terminals.{◌then◌, ◌or◌, ext}
-use Rattle.clif_insts.specs.Grammar.{any_type}
-use Rattle.clif_insts.specs.Values.{◌otherwise◌, perhaps}
+use Rattle.token_reader.specs.Grammar.{any_type}
+use Rattle.token_reader.specs.Values.{◌otherwise◌, perhaps}
 use Rattle.clif_read.specs.declared.raw.RawAttribute.{RawAttribute}
 use Rattle.clif_read.specs.declared.raw.RawAttribute.TheVariants.{Uext, Sext, Vmctx, Sret}
 use Rattle.clif_read.specs.Alike.{Means}

@@ -3,11 +3,12 @@
 --      | [ Srcloc ] [ "<" tag { "," tag } ">" ] [ vN { "," vN } "=" ] inst
 use Rattle.std.specs.Prelude.{ℕ, List, [], map, Option, Some, None}
 use Rattle.grammar.specs.Rules.{Rule, Opt, Many, Tree}
-use Rattle.clif_insts.specs.declared.raw.RawName.{RawName}
+use Rattle.token_reader.specs.declared.raw.RawName.{RawName}
 use Rattle.clif_words.specs.Terminals.{◌then◌, ◌or◌, srcloc, value, arrow, equals}
-use Rattle.clif_insts.specs.Grammar.{commas, whole_inst}
-use Rattle.clif_insts.specs.Reading.{name}
-use Rattle.clif_insts.specs.Values.{◌otherwise◌, perhaps, commas_value}
+use Rattle.token_reader.specs.Grammar.{commas}
+use Rattle.clif_insts.specs.Grammar.{whole_inst}
+use Rattle.token_reader.specs.Reading.{name}
+use Rattle.token_reader.specs.Values.{◌otherwise◌, perhaps, commas_value}
 use Rattle.clif_insts.specs.InstValues.{whole_value}
 use Rattle.clif_read.specs.declared.raw.RawTag.{RawTag}
 use Rattle.clif_read.specs.declared.raw.RawLine.{RawLine}

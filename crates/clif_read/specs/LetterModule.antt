@@ -4,8 +4,8 @@
 use Rattle.std.specs.Prelude.{[], ◌∷◌, map}
 use Rattle.grammar.specs.Rules.{Rule, Opt, Many, Tree}
 use Rattle.clif_words.specs.Terminals.{◌then◌, header, function_word, left_brace, right_brace, colon, block, cold}
-use Rattle.clif_insts.specs.Reading.{name}
-use Rattle.clif_insts.specs.Values.{perhaps}
+use Rattle.token_reader.specs.Reading.{name}
+use Rattle.token_reader.specs.Values.{perhaps}
 use Rattle.clif_read.specs.declared.raw.RawBlock.{RawBlock}
 use Rattle.clif_read.specs.declared.raw.RawFunction.{RawFunction}
 use Rattle.clif_read.specs.declared.raw.RawModule.{RawModule}

@@ -10,7 +10,6 @@ pub mod Tags
 pub mod Lines
 pub mod Modules
 pub mod Texts
-pub mod Stretches
 pub mod Alike
 pub mod LetterLines
 pub mod LetterModule

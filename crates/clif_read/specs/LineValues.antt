@@ -2,13 +2,14 @@
 use Rattle.std.specs.Prelude.{ℕ, List, [], ◌∷◌, map, Option, Some, None, ◌⊎◌}
 use Rattle.grammar.specs.Rules.{Opt, Many, Tree}
 use Rattle.clif_words.specs.declared.class.Class.TheVariants as classes
-use Rattle.clif_insts.specs.declared.raw.RawName.{RawName}
+use Rattle.token_reader.specs.declared.raw.RawName.{RawName}
 use Rattle.clif_insts.specs.declared.raw.RawInst.{RawInst}
 use Rattle.clif_insts.specs.declared.raw.RawOperands.TheVariants as operands
 use Rattle.clif_words.specs.Terminals.{◌then◌, ◌or◌, comma, arrow, value}
-use Rattle.clif_insts.specs.Grammar.{commas, inst}
-use Rattle.clif_insts.specs.Reading.{name}
-use Rattle.clif_insts.specs.Values.{◌otherwise◌, perhaps, commas_value, number_value}
+use Rattle.token_reader.specs.Grammar.{commas}
+use Rattle.clif_insts.specs.Grammar.{inst}
+use Rattle.token_reader.specs.Reading.{name}
+use Rattle.token_reader.specs.Values.{◌otherwise◌, perhaps, commas_value, number_value}
 use Rattle.clif_insts.specs.InstValues.{raw, inst_value}
 use Rattle.clif_read.specs.declared.raw.RawTag.{RawTag}
 use Rattle.clif_read.specs.declared.raw.RawTag.TheVariants as tag_kinds

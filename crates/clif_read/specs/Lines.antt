@@ -5,12 +5,12 @@ use Rattle.grammar.specs.Rules.{Lexeme, Out, heads, firsts, ◌>>=◌}
 use Rattle.clif_words.specs.declared.class.Class.TheVariants as classes
 use Rattle.clif_insts.specs.declared.opening.Opening.{Opening}
 use Rattle.clif_insts.specs.declared.opening.Opening.TheVariants.{AfterResults, AfterTags, LineStart}
-use Rattle.clif_insts.specs.declared.raw.RawName.{RawName}
+use Rattle.token_reader.specs.declared.raw.RawName.{RawName}
 use Rattle.clif_insts.specs.declared.raw.RawInst.{RawInst}
 use Rattle.clif_insts.specs.declared.raw.RawOperands.{RawOperands}
 use Rattle.clif_insts.specs.declared.raw.RawOperands.TheVariants as operands
-use Rattle.clif_insts.specs.declared.stop.Stop.{Stop}
-use Rattle.clif_insts.specs.Reading.{Gives, next_is, name_at}
+use Rattle.token_reader.specs.declared.stop.Stop.{Stop}
+use Rattle.token_reader.specs.Reading.{Gives, next_is, name_at}
 use Rattle.clif_insts.specs.Arguments.{more_values_at, values_at}
 use Rattle.clif_insts.specs.Forms.{inst_at}
 use Rattle.clif_read.specs.declared.raw.RawTag.{RawTag}

@@ -8,7 +8,8 @@ use Rattle.clif_words.specs.Terminals.{◌then◌, ◌or◌, refused, header, fu
 use Rattle.clif_words.specs.Terminals.{left_paren, right_paren, left_brace, right_brace, comma, colon, equals, arrow}
 use Rattle.clif_words.specs.Terminals.{less, greater, conv, cold, ext, vmctx, sret, explicit_slot, align, colocated}
 use Rattle.clif_words.specs.Terminals.{value, block, slot, sig, callee}
-use Rattle.clif_insts.specs.Grammar.{commas, number, any_type, inst}
+use Rattle.token_reader.specs.Grammar.{commas, number, any_type}
+use Rattle.clif_insts.specs.Grammar.{inst}
 
 -- ---- signatures and declarations
 

@@ -2,8 +2,8 @@
 use Rattle.std.specs.Prelude.{List, [], ◌∷◌, map, Bool, true, false}
 use Rattle.grammar.specs.Rules.{Opt, Tree}
 use Rattle.clif_words.specs.Terminals.{cold}
-use Rattle.clif_insts.specs.Reading.{name}
-use Rattle.clif_insts.specs.Values.{perhaps, commas_value, any_type_value}
+use Rattle.token_reader.specs.Reading.{name}
+use Rattle.token_reader.specs.Values.{perhaps, commas_value, any_type_value}
 use Rattle.clif_read.specs.declared.raw.RawBlockParam.{RawBlockParam}
 use Rattle.clif_read.specs.declared.raw.RawBlock.{RawBlock}
 use Rattle.clif_read.specs.declared.raw.RawFunction.{RawFunction}

@@ -3,7 +3,7 @@ use Rattle.std.specs.Prelude.{Bool, true, false, if◌then◌else◌, List, [], 
 use Rattle.grammar.specs.Rules.{Lexeme, Syntax, Out, heads_any, ◌>>=◌}
 use Rattle.clif_words.specs.declared.class.Class.TheVariants as classes
 use Rattle.clif_words.specs.Classes.{code}
-use Rattle.clif_insts.specs.Reading.{next_is, name_at, each, with_front}
+use Rattle.token_reader.specs.Reading.{next_is, name_at, each, with_front}
 use Rattle.clif_read.specs.declared.raw.RawBlockParam.{RawBlockParam}
 use Rattle.clif_read.specs.declared.raw.RawBlock.{RawBlock}
 use Rattle.clif_read.specs.declared.raw.RawFunction.{RawFunction}

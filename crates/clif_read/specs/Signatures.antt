@@ -6,8 +6,8 @@ use Rattle.ir_core.specs.declared.signatures.Conv.TheVariants as convs
 use Rattle.clif_words.specs.declared.class.Class.{Class}
 use Rattle.clif_words.specs.declared.class.Class.TheVariants as classes
 use Rattle.clif_words.specs.Terminals.{codes_of}
-use Rattle.clif_insts.specs.Reading.{next_is, name_at, commas_at}
-use Rattle.clif_insts.specs.Types.{type_at}
+use Rattle.token_reader.specs.Reading.{next_is, name_at, commas_at}
+use Rattle.token_reader.specs.Types.{type_at}
 use Rattle.clif_read.specs.declared.raw.RawParam.{RawParam}
 use Rattle.clif_read.specs.declared.raw.RawSignature.{RawSignature}
 use Rattle.clif_read.specs.DeclarationValues.{convention_of}

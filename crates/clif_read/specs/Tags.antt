@@ -3,8 +3,8 @@ use Rattle.std.specs.Prelude.{if◌then◌else◌, List, [], ◌∷◌, Ok}
 use Rattle.grammar.specs.Rules.{Lexeme, Out, heads, ◌>>=◌}
 use Rattle.clif_words.specs.declared.class.Class.TheVariants as classes
 use Rattle.clif_words.specs.Terminals.{codes_of}
-use Rattle.clif_insts.specs.Reading.{name_at, commas_at}
-use Rattle.clif_insts.specs.Numbers.{number_at}
+use Rattle.token_reader.specs.Reading.{name_at, commas_at}
+use Rattle.token_reader.specs.Numbers.{number_at}
 use Rattle.clif_read.specs.declared.raw.RawTag.{RawTag}
 use Rattle.clif_read.specs.declared.raw.RawTag.TheVariants as tag_kinds
 

@@ -1,13 +1,13 @@
 //! Attributes of parameters and results.
 
 ghost use Rattle.std.specs.Prelude.{◌≡◌, ◌∷◌, [], ◌<◌, ◌≤◌, length, IfOk, IfErr};
-ghost use Rattle.clif_insts.specs.declared.stop.Stop.TheVariants.{NoMemory};
-ghost use Rattle.clif_insts.specs.Reading.{Gives, same};
+ghost use Rattle.token_reader.specs.declared.stop.Stop.TheVariants.{NoMemory};
+ghost use Rattle.token_reader.specs.Reading.{Gives, same};
 ghost use Rattle.clif_read.specs.DeclarationValues as values;
 ghost use Rattle.clif_read.specs.Attributes as spec;
 
 use crate::raw::RawAttribute;
-use clif_insts::{Reader, Stop, one_item};
+use token_reader::{Reader, Stop, one_item};
 use clif_words::Class;
 use std::alloc::Global;
 

@@ -3,12 +3,12 @@
 ghost use Rattle.std.specs.Prelude.{◌≡◌, ◌<◌, ◌≤◌, length, IfOk};
 ghost use Rattle.grammar.specs.Rules.{heads};
 ghost use Rattle.clif_words.specs.Terminals.{codes_of};
-ghost use Rattle.clif_insts.specs.Reading.{Gives, same};
+ghost use Rattle.token_reader.specs.Reading.{Gives, same};
 ghost use Rattle.clif_read.specs.Declarations as spec;
 
 use crate::raw::{RawCalleeSig, RawDecl, RawFuncName};
 use crate::signatures::signature;
-use clif_insts::{RawNumber, Reader, Stop, number};
+use token_reader::{RawNumber, Reader, Stop, number};
 use clif_words::Class;
 use std::alloc::Global;
 

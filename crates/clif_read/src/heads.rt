@@ -1,11 +1,11 @@
 //! What stands at the head of a module and of a block.
 
 ghost use Rattle.std.specs.Prelude.{◌<◌, ◌≤◌, length, IfOk};
-ghost use Rattle.clif_insts.specs.Reading.{Gives, same};
+ghost use Rattle.token_reader.specs.Reading.{Gives, same};
 ghost use Rattle.clif_read.specs.Heads as spec;
 
 use crate::raw::RawBlockParam;
-use clif_insts::{Items, Reader, Stop, any_type, joined_by_commas};
+use token_reader::{Items, Reader, Stop, any_type, joined_by_commas};
 use clif_words::Class;
 use std::alloc::Global;
 

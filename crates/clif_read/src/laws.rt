@@ -3,7 +3,7 @@
 
 ghost use Rattle.std.specs.Prelude.{◌≡◌, List};
 ghost use Rattle.grammar.specs.Rules.{Lexeme, Answers, read, read_all};
-ghost use Rattle.clif_insts.specs.Values.{seen};
+ghost use Rattle.token_reader.specs.Values.{seen};
 ghost use Rattle.clif_read.specs.Alike.{Alike};
 ghost use Rattle.clif_read.specs.ModuleGrammar.{lines, module_rule};
 ghost use Rattle.clif_read.specs.LineValues.{lines_value};

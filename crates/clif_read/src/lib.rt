@@ -1,4 +1,4 @@
-//! Reading modules of CLIF.
+//! Reading modules of CLIF, by the calling thread.
 #![tactic(auto)]
 
 mod attributes;
@@ -9,20 +9,13 @@ mod lines;
 mod modules;
 mod raw;
 mod signatures;
-mod stretches;
 mod tags;
 mod texts;
-mod token_ranges;
 
 pub use declarations::func_name;
-pub use modules::all_functions;
+pub use modules::{all_functions, whole_module};
 pub use raw::{
     RawAttribute, RawBlock, RawBlockParam, RawCalleeSig, RawDecl, RawFuncName, RawFunction,
     RawLine, RawModule, RawParam, RawSignature, RawTag,
 };
-pub use stretches::{
-    STRETCH, front_end, read_front, read_in_stretches, read_text, read_text_alone, read_text_by,
-    stretch_end,
-};
-pub use texts::read_raw_alone;
-pub use token_ranges::{read_in_shares, read_raw, read_raw_by};
+pub use texts::{read_raw_alone, read_text_alone};

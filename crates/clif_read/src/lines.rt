@@ -2,7 +2,7 @@
 
 ghost use Rattle.std.specs.Prelude.{◌≡◌, ◌<◌, ◌≤◌, length, IfOk};
 ghost use Rattle.grammar.specs.Rules.{heads, firsts, member};
-ghost use Rattle.clif_insts.specs.Reading.{Gives, same};
+ghost use Rattle.token_reader.specs.Reading.{Gives, same};
 ghost use Rattle.clif_words.specs.Classes.{code};
 ghost use Rattle.clif_read.specs.ModuleGrammar as grammar;
 ghost use Rattle.clif_read.specs.LineValues as meaning;
@@ -10,10 +10,8 @@ ghost use Rattle.clif_read.specs.Lines as spec;
 
 use crate::raw::{RawLine, RawTag};
 use crate::tags::debug_tags;
-use clif_insts::{
-    Opening, RawInst, RawName, RawNames, RawOperands, Reader, Stop, any_inst, more_names,
-    more_values, one_item,
-};
+use clif_insts::{Opening, RawInst, RawNames, RawOperands, any_inst, more_names, more_values};
+use token_reader::{RawName, Reader, Stop, one_item};
 use clif_words::Class;
 use ir_core::List;
 use std::alloc::Global;
@@ -152,7 +150,7 @@ fn add_plain_line(
 }
 
 /// Results behind tags, and their instruction.
-#[tactic(auto, unfolding(crate::specs::Lines::tagged_results_at, clif_insts::specs::Reading::commas_at))]
+#[tactic(auto, unfolding(crate::specs::Lines::tagged_results_at, token_reader::specs::Reading::commas_at))]
 fn add_tagged_results(
     alloc: Global,
     reader: &mut Reader<'_>,

@@ -1,16 +1,16 @@
 //! Blocks, functions and modules.
 
 ghost use Rattle.std.specs.Prelude.{◌<◌, ◌≤◌, length, IfOk, IfSome};
-ghost use Rattle.clif_insts.specs.Reading.{Gives, same};
+ghost use Rattle.token_reader.specs.Reading.{Gives, same};
 ghost use Rattle.clif_read.specs.Modules as spec;
-ghost use Rattle.clif_read.specs.Stretches.{Functions};
+ghost use Rattle.clif_read.specs.Texts.{Functions};
 
 use crate::declarations::{decls, func_name};
 use crate::heads::{block_params, headers};
 use crate::lines::block_lines;
 use crate::raw::{RawBlock, RawBlockParam, RawFunction, RawModule};
 use crate::signatures::signature;
-use clif_insts::{Reader, Stop, one_item};
+use token_reader::{Reader, Stop, one_item};
 use clif_words::Class;
 use ir_core::List;
 use std::alloc::Global;
@@ -143,7 +143,7 @@ fn raw_module(alloc: Global, reader: &mut Reader<'_>) -> Result<RawModule, Stop>
 
 /// A module, and nothing behind it.
 #[tactic(auto, unfolding(crate::specs::Modules::whole_module_at))]
-pub(crate) fn whole_module(alloc: Global, reader: &mut Reader<'_>) -> Result<RawModule, Stop>
+pub fn whole_module(alloc: Global, reader: &mut Reader<'_>) -> Result<RawModule, Stop>
     ensures is { Gives same reader.new result (spec.whole_module_at reader.old) }
 {
     let found = raw_module(alloc, reader)?;

@@ -1,7 +1,8 @@
 //! Modules as the grammar reads them, with names that are not looked up yet. Each type stands for a rule of the grammar
 //! and has a field for each of its parts; a spot is the first byte of a word or number.
 
-use clif_insts::{RawInst, RawName, RawNames, RawNumber};
+use clif_insts::{RawInst, RawNames};
+use token_reader::{RawName, RawNumber};
 use ir_core::{Conv, List, Ty};
 
 /// A word behind the type of a parameter or result.

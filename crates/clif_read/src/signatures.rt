@@ -1,13 +1,13 @@
 //! Signatures.
 
 ghost use Rattle.std.specs.Prelude.{◌≡◌, ◌<◌, ◌≤◌, length, IfOk};
-ghost use Rattle.clif_insts.specs.Reading.{Gives, same};
+ghost use Rattle.token_reader.specs.Reading.{Gives, same};
 ghost use Rattle.clif_read.specs.DeclarationValues as values;
 ghost use Rattle.clif_read.specs.Signatures as spec;
 
 use crate::attributes::attributes;
 use crate::raw::{RawParam, RawSignature};
-use clif_insts::{Items, Reader, Stop, any_type, joined_by_commas};
+use token_reader::{Items, Reader, Stop, any_type, joined_by_commas};
 use clif_words::Class;
 use ir_core::{Conv, List};
 use std::alloc::Global;

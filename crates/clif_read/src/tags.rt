@@ -1,11 +1,11 @@
 //! Debug tags.
 
 ghost use Rattle.std.specs.Prelude.{◌<◌, length, IfOk};
-ghost use Rattle.clif_insts.specs.Reading.{Gives, same};
+ghost use Rattle.token_reader.specs.Reading.{Gives, same};
 ghost use Rattle.clif_read.specs.Tags as spec;
 
 use crate::raw::RawTag;
-use clif_insts::{Items, Reader, Stop, joined_by_commas, number};
+use token_reader::{Items, Reader, Stop, joined_by_commas, number};
 use clif_words::Class;
 use std::alloc::Global;
 

@@ -17,7 +17,7 @@ use Rattle.ir_core.proofs.Ranges.{map_append}
 use Rattle.ir_core.proofs.Splitting.{block_definitions}
 use Rattle.ir_semantics.specs.Renaming.{Renaming}
 use Rattle.clif_insts.specs.declared.raw.RawInst.{RawInst}
-use Rattle.clif_insts.specs.declared.raw.RawName.{RawName}
+use Rattle.token_reader.specs.declared.raw.RawName.{RawName}
 use Rattle.clif_read.specs.declared.raw.RawBlock.{RawBlock}
 use Rattle.clif_read.specs.declared.raw.RawBlockParam.{RawBlockParam}
 use Rattle.clif_read.specs.declared.raw.RawFunction.{RawFunction}

@@ -7,7 +7,8 @@ ghost use Rattle.clif_meaning.specs.Instructions.{known};
 ghost use Rattle.clif_meaning.specs.Meaning.{types_for};
 
 use crate::forms::{FormTypes, form_results};
-use clif_insts::{RawInst, RawName};
+use clif_insts::RawInst;
+use token_reader::RawName;
 use clif_lines::WordNumbers;
 use clif_names::gives_type;
 use clif_read::{RawBlock, RawBlockParam, RawLine};

@@ -5,7 +5,7 @@ use Rattle.clif_lex.specs.declared.faults.TextKind.{TextKind}
 use Rattle.clif_lex.specs.declared.spans.Token.{Token}
 use Rattle.clif_lex.specs.Places.{line_at}
 use Rattle.clif_read.specs.declared.raw.RawModule.{RawModule}
-use Rattle.clif_read.specs.Stretches.{IsModuleText}
+use Rattle.clif_read.specs.Texts.{IsModuleText}
 use Rattle.clif_names.proofs.FaultLaws.{one_first_fault}
 use Rattle.clif_meaning.specs.Reads.{alone}
 use Rattle.clif_meaning.proofs.OneMeaning.{one_meaning}

@@ -3,7 +3,7 @@ use Rattle.std.proofs.Common.{◌≡◌, ℕ, suc, ◌≤◌, ◌<◌, Bool, tru
 use Rattle.std.specs.Str.{bytes_eq}
 use Rattle.std.specs.Prelude.{codes}
 use Rattle.grammar.specs.Rules.{Lexeme, Rule}
-use Rattle.clif_insts.specs.Next.{spot_or}
+use Rattle.token_reader.specs.Next.{spot_or}
 use Rattle.clif_insts.proofs.Formed.{each_behind}
 use Rattle.ir_core.specs.Lists.{Each}
 use Rattle.clif_lex.specs.declared.spans.TokenKind.{TokenKind}

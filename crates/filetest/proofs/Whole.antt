@@ -12,7 +12,7 @@ use Rattle.clif_lex.specs.Lexing.{tokens_of, Gives}
 use Rattle.clif_meaning.specs.Meaning.{HasBlocks}
 use Rattle.clif_meaning.proofs.ModuleLaws.{meant_is_module}
 use Rattle.clif_read.specs.declared.raw.RawModule.{RawModule}
-use Rattle.clif_read.specs.Stretches.{IsFirstFault}
+use Rattle.clif_read.specs.Texts.{IsFirstFault}
 use Rattle.clif_read.specs.Texts.{IsModule, Stopped}
 use Rattle.clif_words.specs.Lexemes.{lexemes}
 use Rattle.ir_core.specs.Module.{Module}

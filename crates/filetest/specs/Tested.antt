@@ -6,7 +6,7 @@ use Rattle.clif_lex.specs.declared.faults.TextErr.TheVariants as text_err
 use Rattle.clif_lex.specs.declared.spans.Token.{Token}
 use Rattle.clif_lex.specs.Lexing.{tokens_of}
 use Rattle.clif_read.specs.declared.raw.RawModule.{RawModule}
-use Rattle.clif_read.specs.Stretches.{IsFirstFault}
+use Rattle.clif_read.specs.Texts.{IsFirstFault}
 use Rattle.clif_read.specs.Texts.{IsModule}
 use Rattle.clif_words.specs.Lexemes.{lexemes}
 use Rattle.clif_check.specs.Faults.{FirstOfRaw, IsAcceptedRaw}

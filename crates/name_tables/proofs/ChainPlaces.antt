@@ -15,7 +15,7 @@ use Rattle.name_tables.specs.declared.links.Link.TheVariants.{Value}
 use Rattle.name_tables.specs.declared.links.End.{End}
 use Rattle.name_tables.specs.declared.links.End.TheVariants.{At, Nowhere}
 use Rattle.name_tables.specs.Links as places
-use Rattle.clif_insts.specs.declared.raw.RawName.{RawName}
+use Rattle.token_reader.specs.declared.raw.RawName.{RawName}
 use Rattle.name_tables.specs.declared.firsts.Def.{Def}
 use Rattle.name_tables.specs.declared.tables.Tables.{Tables}
 use Rattle.name_tables.specs.Taking.{declare}

@@ -2,7 +2,7 @@
 use Rattle.std.proofs.Common.{◌≡◌, ℕ, zero, suc, ◌<◌, List, [], ◌∷◌, length, get_or, Option, None, Some, map, refl, ap, arith}
 use Rattle.std.specs.Prelude.{nat_eq, fold, position}
 use Rattle.std.proofs.lemmas.List.{length-map}
-use Rattle.clif_insts.specs.declared.raw.RawName.{RawName}
+use Rattle.token_reader.specs.declared.raw.RawName.{RawName}
 use Rattle.clif_read.specs.declared.raw.RawFunction.{RawFunction}
 use Rattle.name_tables.specs.declared.firsts.Def.{Def}
 use Rattle.name_tables.specs.declared.links.Link.TheVariants.{Value, To}

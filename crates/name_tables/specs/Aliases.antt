@@ -2,7 +2,7 @@
 use Rattle.std.specs.Prelude.{◌≡◌, ℕ, ◌+◌, ◌<◌, nat_eq, List, length, take, get_or, Option, None, Some, fold, position}
 use Rattle.std.specs.Prelude.{zip}
 use Rattle.ir_core.specs.Size.{total}
-use Rattle.clif_insts.specs.declared.raw.RawName.{RawName}
+use Rattle.token_reader.specs.declared.raw.RawName.{RawName}
 use Rattle.name_tables.specs.declared.firsts.Def.{Def}
 use Rattle.name_tables.specs.declared.links.Link.{Link}
 use Rattle.name_tables.specs.declared.links.Link.TheVariants.{Value, Missing, To}

@@ -1,6 +1,6 @@
 -- Chains of alias lines: from a word to the definition that it stands for in the end.
 use Rattle.std.specs.Prelude.{◌≡◌, ℕ, zero, suc, nat_eq, List, [], ◌∷◌, Option, None, Some, find, flat_map, length}
-use Rattle.clif_insts.specs.declared.raw.RawName.{RawName}
+use Rattle.token_reader.specs.declared.raw.RawName.{RawName}
 use Rattle.name_tables.specs.declared.firsts.Def.{Def}
 use Rattle.name_tables.specs.Words.{place_in}
 

@@ -1,7 +1,7 @@
 -- What a raw function defines, in order of the text: slots, signatures, callees, blocks and values. A value is defined
 -- by a parameter of a block, as a result of an instruction, or by an alias line.
 use Rattle.std.specs.Prelude.{List, [], ◌∷◌, ◌++◌, None, Some, map, flat_map}
-use Rattle.clif_insts.specs.declared.raw.RawName.{RawName}
+use Rattle.token_reader.specs.declared.raw.RawName.{RawName}
 use Rattle.name_tables.specs.declared.firsts.Def.{Def}
 use Rattle.clif_read.specs.declared.raw.RawBlockParam.{RawBlockParam}
 use Rattle.clif_read.specs.declared.raw.RawLine.{RawLine}

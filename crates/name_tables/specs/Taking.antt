@@ -2,7 +2,7 @@
 use Rattle.std.specs.Prelude.{ℕ, Bool, nat_eq, position, is_none, nat_lt, length, unwrap_or, List, [], ◌∷◌, ◌++◌, None}
 use Rattle.std.specs.Prelude.{if◌then◌else◌}
 use Rattle.ir_text.specs.Writable.{greatest_number}
-use Rattle.clif_insts.specs.declared.raw.RawName.{RawName}
+use Rattle.token_reader.specs.declared.raw.RawName.{RawName}
 use Rattle.name_tables.specs.declared.names.Names.{Names}
 use Rattle.name_tables.specs.Least.{earlier_spot}
 

@@ -1,7 +1,7 @@
 -- What a raw function uses, in order of the text: the words of each kind that stand in its instructions, targets, debug
 -- tags, alias lines and callee declarations.
 use Rattle.std.specs.Prelude.{List, [], ◌∷◌, ◌++◌, map, flat_map}
-use Rattle.clif_insts.specs.declared.raw.RawName.{RawName}
+use Rattle.token_reader.specs.declared.raw.RawName.{RawName}
 use Rattle.clif_insts.specs.declared.raw.RawArg.{RawArg}
 use Rattle.clif_insts.specs.declared.raw.RawArg.TheVariants as arg
 use Rattle.clif_insts.specs.declared.raw.RawTarget.{RawTarget}

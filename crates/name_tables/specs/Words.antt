@@ -1,6 +1,6 @@
 -- Words of one kind by place in the text, and what may be wrong with them.
 use Rattle.std.specs.Prelude.{◌≡◌, ℕ, suc, ◌<◌, List, [], ◌∷◌, slice_get, Some, map, nat_eq, if◌then◌else◌}
-use Rattle.clif_insts.specs.declared.raw.RawName.{RawName}
+use Rattle.token_reader.specs.declared.raw.RawName.{RawName}
 
 abbrev pub IsDefined : List RawName → ℕ → Type 0
 IsDefined defs n = (i : ℕ) × (d : RawName) × (slice_get defs i ≡ Some d) × (d.number ≡ n)

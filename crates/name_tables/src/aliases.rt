@@ -6,7 +6,7 @@ use crate::firsts::Def;
 use crate::links::{End, Link};
 use crate::spots::earlier_spot;
 use crate::words::Words;
-use clif_insts::RawName;
+use token_reader::RawName;
 use std::alloc::{AllocError, Global};
 
 /// What stands behind a definition: a value, or the place of the word that it stands for.

@@ -1,7 +1,7 @@
 //! The first definitions of values, in order.
 ghost use Rattle.std.specs.Prelude.{◌≡◌, ◌++◌, ◌∷◌, [], length, OnOk};
 
-use clif_insts::RawName;
+use token_reader::RawName;
 use std::alloc::{AllocError, Global};
 use std::marker::Model;
 

@@ -4,7 +4,7 @@ ghost use Rattle.name_tables.specs.Taking as spec;
 
 use crate::spots::earlier_spot;
 use crate::words::Words;
-use clif_insts::RawName;
+use token_reader::RawName;
 use std::alloc::{AllocError, Global};
 
 /// The greatest number that a word may have.

@@ -5,7 +5,7 @@ ghost use Rattle.name_tables.specs.Defining as spec;
 
 use crate::firsts::{Def, Firsts};
 use crate::names::Names;
-use clif_insts::RawName;
+use token_reader::RawName;
 use clif_read::{RawBlock, RawBlockParam, RawDecl, RawFunction, RawLine};
 use std::alloc::{AllocError, Global};
 

@@ -20,7 +20,7 @@ use Rattle.ir_core.specs.declared.signatures.Sig.{Sig}
 use Rattle.ir_core.specs.declared.signatures.Ty.{Ty}
 use Rattle.ir_core.specs.Lists.{Each}
 use Rattle.ir_core.specs.Module.{Function}
-use Rattle.clif_insts.specs.declared.raw.RawName.{RawName}
+use Rattle.token_reader.specs.declared.raw.RawName.{RawName}
 use Rattle.clif_read.specs.declared.raw.RawDecl.{RawDecl}
 use Rattle.name_tables.specs.Definitions.{slot_names, sig_names, callee_names}
 use Rattle.clif_meaning.specs.Meaning as says

@@ -10,7 +10,7 @@ use Rattle.ir_core.specs.Module.{Function, Module}
 use Rattle.ir_core.specs.WellFormed.{IsModule, WellFormed, DifferentNames}
 use Rattle.ir_core.proofs.Equal.{equal_name}
 use Rattle.ir_text.specs.Writable.{FunctionWritable}
-use Rattle.clif_insts.specs.declared.raw.RawName.{RawName}
+use Rattle.token_reader.specs.declared.raw.RawName.{RawName}
 use Rattle.clif_read.specs.declared.raw.RawFuncName.{RawFuncName}
 use Rattle.clif_read.specs.declared.raw.RawFuncName.TheVariants as func_names
 use Rattle.clif_read.specs.declared.raw.RawFunction.{RawFunction}
@@ -26,7 +26,7 @@ use Rattle.text_read_back.specs.Bare as bare
 use Rattle.text_read_back.specs.Defining.{number_of}
 use Rattle.text_read_back.specs.RawOf as raws
 use Rattle.text_read_back.specs.ReadsBack.{ReadsBack}
-use Rattle.clif_read.specs.Stretches.{IsModuleText}
+use Rattle.clif_read.specs.Texts.{IsModuleText}
 use Rattle.clif_read.specs.declared.raw.RawModule.{RawModule}
 use Rattle.ir_text.specs.Text.{text_of}
 use Rattle.names_read_back.proofs.Names.{found_is, ends}

@@ -15,7 +15,7 @@ use Rattle.ir_core.specs.declared.declarations.Callee.{Callee}
 use Rattle.ir_core.specs.declared.signatures.Sig.{Sig}
 use Rattle.ir_core.specs.Uses.{values_used, blocks_used, slots_used, slots_shown, sigs_used, callees_used}
 use Rattle.ir_core.specs.WellFormed.{declared, LineWellFormed, WellFormed}
-use Rattle.clif_insts.specs.declared.raw.RawName.{RawName}
+use Rattle.token_reader.specs.declared.raw.RawName.{RawName}
 use Rattle.name_tables.specs.declared.firsts.Def.{Def}
 use Rattle.name_tables.specs.Definitions.{Param, Line as Written, value_def, step_defs, block_steps, value_defs, slot_names, sig_names, callee_names}
 use Rattle.name_tables.specs.Words.{place_among, place_in}

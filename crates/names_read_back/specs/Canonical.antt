@@ -5,7 +5,7 @@ use Rattle.ir_core.specs.WellFormed.{IsModule}
 use Rattle.ir_semantics.specs.Canon.{canonical_module}
 use Rattle.ir_text.specs.Writable.{Writable}
 use Rattle.ir_text.specs.Text.{text_of}
-use Rattle.clif_read.specs.Stretches.{IsModuleText}
+use Rattle.clif_read.specs.Texts.{IsModuleText}
 use Rattle.clif_read.specs.declared.raw.RawModule.{RawModule}
 use Rattle.clif_lex.specs.declared.faults.TextKind.TheVariants.{Duplicate}
 use Rattle.clif_names.specs.Faults.{IsFault}

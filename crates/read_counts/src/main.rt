@@ -5,7 +5,8 @@
 #![tactic(auto)]
 
 use clif_lex::{TextErr, tokens};
-use clif_read::{RawModule, read_raw, read_text};
+use clif_read::RawModule;
+use read_workers::{read_raw, read_text};
 use clk_flow::{StdSource, read_whole};
 use std::alloc::Global;
 use std::env;

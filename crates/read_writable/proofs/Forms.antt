@@ -19,9 +19,9 @@ use Rattle.ir_text.specs.Writable.{conversion, ResultTypes, OpForm, AccessForm, 
 use Rattle.clif_words.specs.declared.class.Class.TheVariants as classes
 use Rattle.clif_words.specs.declared.opcodes.Opcode.{Opcode}
 use Rattle.clif_words.specs.declared.opcodes.Opcode.TheVariants as opcode
-use Rattle.clif_insts.specs.declared.raw.RawName.{RawName}
+use Rattle.token_reader.specs.declared.raw.RawName.{RawName}
 use Rattle.clif_insts.specs.declared.raw.RawFlag.{RawFlag}
-use Rattle.clif_insts.specs.declared.raw.RawNumber.{RawNumber}
+use Rattle.token_reader.specs.declared.raw.RawNumber.{RawNumber}
 use Rattle.clif_insts.specs.declared.raw.RawEntry.{RawEntry}
 use Rattle.clif_insts.specs.declared.raw.RawOperands.{RawOperands}
 use Rattle.clif_insts.specs.declared.raw.RawOperands.TheVariants as form

@@ -13,8 +13,8 @@ use Rattle.clif_words.specs.declared.opcodes.Opcode.TheVariants as opcode
 use Rattle.clif_words.specs.Classes.{code}
 use Rattle.clif_words.specs.OpcodeForms.{form}
 use Rattle.clif_words.specs.Terminals.{codes_of}
-use Rattle.clif_insts.specs.declared.raw.RawName.{RawName}
-use Rattle.clif_insts.specs.declared.raw.RawNumber.{RawNumber}
+use Rattle.token_reader.specs.declared.raw.RawName.{RawName}
+use Rattle.token_reader.specs.declared.raw.RawNumber.{RawNumber}
 use Rattle.clif_insts.specs.declared.raw.RawOperands.{RawOperands}
 use Rattle.clif_insts.specs.declared.raw.RawOperands.TheVariants as operands
 use Rattle.clif_insts.specs.OfForm.{operand_forms, IsOfForm}

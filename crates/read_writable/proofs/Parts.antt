@@ -12,8 +12,8 @@ use Rattle.ir_core.proofs.Members.{each_left, each_right}
 use Rattle.ir_semantics.specs.Renaming.{Renaming}
 use Rattle.ir_text.specs.Writable.{greatest_number, is_name_byte, NameWritable, SlotWritable, OffsetWritable, CodeWritable, TagWritable, EntryTagWritable, ValueArg, NormalArg, TableArg, TargetWritable, TableWritable}
 use Rattle.clif_lex.specs.Bytes.{is_word_byte}
-use Rattle.clif_insts.specs.declared.raw.RawName.{RawName}
-use Rattle.clif_insts.specs.declared.raw.RawNumber.{RawNumber}
+use Rattle.token_reader.specs.declared.raw.RawName.{RawName}
+use Rattle.token_reader.specs.declared.raw.RawNumber.{RawNumber}
 use Rattle.clif_insts.specs.declared.raw.RawArg.{RawArg}
 use Rattle.clif_insts.specs.declared.raw.RawArg.TheVariants as arg
 use Rattle.clif_insts.specs.declared.raw.RawTarget.{RawTarget}

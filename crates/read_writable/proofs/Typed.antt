@@ -11,7 +11,7 @@ use Rattle.ir_core.proofs.Ranges.{map_append}
 use Rattle.ir_core.proofs.Walking.{type_found}
 use Rattle.ir_text.specs.Writable.{ResultTypes}
 use Rattle.clif_insts.specs.declared.raw.RawInst.{RawInst}
-use Rattle.clif_insts.specs.declared.raw.RawName.{RawName}
+use Rattle.token_reader.specs.declared.raw.RawName.{RawName}
 use Rattle.clif_read.specs.declared.raw.RawTag.{RawTag}
 use Rattle.clif_read.specs.declared.raw.RawLine.TheVariants as line
 use Rattle.clif_read.specs.declared.raw.RawFunction.{RawFunction}

@@ -12,7 +12,7 @@ use Rattle.ir_semantics.specs.Renaming.{Renaming}
 use Rattle.ir_text.specs.Writable.{LineWritable, FunctionWritable}
 use Rattle.clif_lex.specs.declared.faults.TextKind.TheVariants.{Duplicate, TooLarge}
 use Rattle.clif_insts.specs.declared.raw.RawInst.{RawInst}
-use Rattle.clif_insts.specs.declared.raw.RawName.{RawName}
+use Rattle.token_reader.specs.declared.raw.RawName.{RawName}
 use Rattle.clif_insts.specs.Marks.{Mark, Spot, MarkFormed, names_marks, inst_marks}
 use Rattle.clif_insts.specs.OfForm.{InstFormed}
 use Rattle.clif_read.specs.declared.raw.RawTag.{RawTag}

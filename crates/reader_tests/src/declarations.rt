@@ -1,7 +1,7 @@
 //! Names, signatures, declarations and heads of blocks in texts: what is read, and where reading stops.
 
 use crate::modules::{fault, read};
-use clif_insts::{RawName, RawNumber};
+use token_reader::{RawName, RawNumber};
 use clif_read::{RawAttribute, RawCalleeSig, RawDecl, RawFuncName, RawFunction, RawSignature};
 use ir_core::{Conv, Ty};
 

@@ -1,6 +1,7 @@
 //! What no clause says: that the definitions are what the text form of CLIF asks for, and that instructions are read.
 
-use clif_insts::{Opening, Reader, Stop, SyntaxErr, any_inst, inst};
+use clif_insts::{Opening, SyntaxErr, any_inst, inst};
+use token_reader::{Reader, Stop};
 use clif_lex::tokens;
 use clif_words::{Opcode, opcode_at};
 use std::alloc::Global;

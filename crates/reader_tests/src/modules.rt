@@ -2,7 +2,8 @@
 
 use clif_insts::RawOperands;
 use clif_lex::{TextErr, TextKind, place, tokens};
-use clif_read::{RawLine, RawModule, read_raw};
+use clif_read::{RawLine, RawModule};
+use read_workers::read_raw;
 use std::alloc::{AllocError, Global};
 use std::thread::Threads;
 

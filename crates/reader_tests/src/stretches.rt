@@ -2,9 +2,8 @@
 
 use crate::modules::read;
 use clif_lex::{TextErr, tokens};
-use clif_read::{
-    RawModule, read_in_shares, read_in_stretches, read_raw_by, read_text, read_text_by,
-};
+use clif_read::RawModule;
+use read_workers::{read_token_ranges, read_text_ranges, read_raw_by, read_text, read_text_by};
 use std::alloc::{AllocError, Global};
 use std::thread::Threads;
 
@@ -46,7 +45,7 @@ fn reads_in_stretches(rt: HostRuntime) -> Result<(), AllocError> {
     let text = text_with(rt.alloc(), "v1 = iadd v0, v0")?;
     for workers in WORKERS {
         for size in SIZES {
-            match read_in_stretches(&rt, rt.alloc(), text.as_bytes(), workers, size) {
+            match read_text_ranges(&rt, rt.alloc(), text.as_bytes(), workers, size) {
                 Some(found) => {
                     assert_eq!(rt; found.headers.as_slice().len(), 1);
                     assert_eq!(rt; found.functions.as_slice().len(), 3);
@@ -82,7 +81,7 @@ fn reads_in_shares(rt: HostRuntime) -> Result<(), AllocError> {
         Ok(list) => {
             for workers in WORKERS {
                 for size in SHARES {
-                    match read_in_shares(&rt, rt.alloc(), bytes, &list, workers, size) {
+                    match read_token_ranges(&rt, rt.alloc(), bytes, &list, workers, size) {
                         Some(found) => assert_eq!(rt; counts(Ok(found)), (1, 3, None)),
                         None => assert!(rt; false),
                     }

@@ -3,12 +3,12 @@ use Rattle.std.proofs.Common.{◌≡◌, ℕ, true, cond, List, [], ◌∷◌, l
 use Rattle.grammar.specs.Rules.{Lexeme, Kind, Syntax, UnknownOpcode, Unsupported, Rule, Tree, Out, Cut, Begins, Answers, StopsAt, good, heads_any, read, ◌>>=◌}
 use Rattle.grammar.proofs.Binds.{ok_is}
 use Rattle.grammar.proofs.Exact.{exact}
-use Rattle.clif_insts.specs.declared.stop.Stop.{Stop}
-use Rattle.clif_insts.specs.declared.stop.Stop.TheVariants as stops
-use Rattle.clif_insts.specs.Next.{spot_or}
-use Rattle.clif_insts.specs.Reading.{Stops}
-use Rattle.clif_insts.specs.Values.{seen}
-use Rattle.clif_insts.proofs.Seen.{Is}
+use Rattle.token_reader.specs.declared.stop.Stop.{Stop}
+use Rattle.token_reader.specs.declared.stop.Stop.TheVariants as stops
+use Rattle.token_reader.specs.Next.{spot_or}
+use Rattle.token_reader.specs.Reading.{Stops}
+use Rattle.token_reader.specs.Values.{seen}
+use Rattle.token_reader.proofs.Seen.{Is}
 use Rattle.script_text.specs.Lexed.{lexed}
 use Rattle.script_text.specs.Reading.{finish_at, whole}
 use Rattle.script_text.specs.Scripts.{Reads, GoesNoFurther, StopsIn, Refuses, error_at}

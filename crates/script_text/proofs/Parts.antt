@@ -4,9 +4,9 @@ use Rattle.grammar.specs.Rules.{Lexeme, Rule, Opt, Many, Tree, Out, token, ◌>>
 use Rattle.clif_words.specs.Terminals.{◌then◌}
 use Rattle.clk_num.specs.declared.op.TrapCode.TheVariants.{User}
 use Rattle.ir_semantics.specs.Machine.{HostAct, Reply, Returns, HostTraps, Throws}
-use Rattle.clif_insts.specs.Reading.{same}
-use Rattle.clif_insts.specs.Values.{perhaps, seen}
-use Rattle.clif_insts.proofs.Seen.{Is, then_is, map_is, opt_is, alt_is, many_is}
+use Rattle.token_reader.specs.Reading.{same}
+use Rattle.token_reader.specs.Values.{perhaps, seen}
+use Rattle.token_reader.proofs.Seen.{Is, then_is, map_is, opt_is, alt_is, many_is}
 use Rattle.script_text.specs.declared.terminal.Terminal.{Terminal}
 use Rattle.script_text.specs.declared.terminal.Terminal.TheVariants as terminals
 use Rattle.script_text.specs.Terminals.{code}

@@ -3,7 +3,7 @@ use Rattle.std.specs.Prelude.{◌≡◌, ℕ, List, [], ◌∷◌, length, codes
 use Rattle.grammar.specs.Rules.{Rule, Tree, read_all}
 use Rattle.clk_num.specs.declared.op.TrapCode.TheVariants.{IntDivz, User}
 use Rattle.ir_semantics.specs.Machine.{HostAct, Reply, Returns, HostTraps, Throws}
-use Rattle.clif_insts.specs.Next.{spot_or}
+use Rattle.token_reader.specs.Next.{spot_or}
 use Rattle.script_text.specs.Lexed.{lexed}
 use Rattle.script_text.specs.Grammar as grammar
 use Rattle.script_text.specs.Values.{script_value, number_list_value}

@@ -4,7 +4,7 @@ use Rattle.grammar.specs.Rules.{Lexeme, Syntax, Out, heads, heads_any, token, â—
 use Rattle.clk_num.specs.declared.op.TrapCode.{TrapCode}
 use Rattle.clk_num.specs.declared.op.TrapCode.TheVariants.{User}
 use Rattle.ir_semantics.specs.Machine.{HostAct, Reply, Returns, HostTraps, Throws}
-use Rattle.clif_insts.specs.Reading.{each, with_front}
+use Rattle.token_reader.specs.Reading.{each, with_front}
 use Rattle.script_text.specs.declared.terminal.Terminal.{Terminal}
 use Rattle.script_text.specs.declared.terminal.Terminal.TheVariants as terminals
 use Rattle.script_text.specs.Terminals.{code}

@@ -1,9 +1,9 @@
 -- Which readings a text has, and where a text that has none goes wrong.
 use Rattle.std.specs.Prelude.{◌≡◌, ℕ, List, [], ◌∷◌, ◌++◌, length}
 use Rattle.grammar.specs.Rules.{Lexeme, Rule, Tree, Cut, Derives, Begins}
-use Rattle.clif_insts.specs.Next.{spot_or}
-use Rattle.clif_insts.specs.declared.stop.Stop.{Stop}
-use Rattle.clif_insts.specs.declared.stop.Stop.TheVariants as stops
+use Rattle.token_reader.specs.Next.{spot_or}
+use Rattle.token_reader.specs.declared.stop.Stop.{Stop}
+use Rattle.token_reader.specs.declared.stop.Stop.TheVariants as stops
 use Rattle.script_text.specs.declared.scripts.ScriptErr.{ScriptErr}
 use Rattle.script_text.specs.declared.scripts.ScriptErr.TheVariants.{BadScript, NoMemory}
 use Rattle.script_text.specs.Lexed.{lexed}

@@ -4,8 +4,8 @@ use Rattle.grammar.specs.Rules.{Lexeme, Rule, Tree}
 use Rattle.clk_num.specs.declared.op.TrapCode.{TrapCode}
 use Rattle.clk_num.specs.declared.op.TrapCode.TheVariants.{StkOvf, IntOvf, HeapOob, IntDivz, BadToint, User}
 use Rattle.ir_semantics.specs.Machine.{HostAct, Reply, Returns, HostTraps, Throws}
-use Rattle.clif_insts.specs.Reading.{same}
-use Rattle.clif_insts.specs.Values.{◌otherwise◌, perhaps}
+use Rattle.token_reader.specs.Reading.{same}
+use Rattle.token_reader.specs.Values.{◌otherwise◌, perhaps}
 use Rattle.script_text.specs.Grammar as grammar
 
 abbrev pub commas_value : {A : Type 0} (a : Rule) → (Tree a → A) → Tree (grammar.commas a) → List A

@@ -1,7 +1,7 @@
 //! What a reply does.
 
 ghost use Rattle.std.specs.Prelude.{◌≡◌, ◌<◌, length, IfOk};
-ghost use Rattle.clif_insts.specs.Reading.{Gives, same};
+ghost use Rattle.token_reader.specs.Reading.{Gives, same};
 ghost use Rattle.host_script.specs.Script.{act_of};
 ghost use Rattle.script_text.specs.Reading as spec;
 ghost use Rattle.script_text.specs.Values.{trap_of};
@@ -9,7 +9,7 @@ ghost use Rattle.script_text.specs.Values.{trap_of};
 use crate::reader::Reader;
 use crate::terminal::Terminal;
 use crate::values::{payload, returned};
-use clif_insts::Stop;
+use token_reader::Stop;
 use clk_num::TrapCode;
 use host_script::Act;
 use ir_core::List;

@@ -1,15 +1,15 @@
 //! The tokens of a script, read one after the other.
 
 ghost use Rattle.std.specs.Prelude.{◌≡◌, ◌≢◌, ◌<◌, length, map, IfOk, IfErr};
-ghost use Rattle.clif_insts.specs.declared.stop.Stop.TheVariants.{NoMemory};
-ghost use Rattle.clif_insts.specs.Next.{spot_or};
-ghost use Rattle.clif_insts.specs.Reading.{Gives};
+ghost use Rattle.token_reader.specs.declared.stop.Stop.TheVariants.{NoMemory};
+ghost use Rattle.token_reader.specs.Next.{spot_or};
+ghost use Rattle.token_reader.specs.Reading.{Gives};
 ghost use Rattle.script_text.specs.Symbols.{lexeme_of};
 ghost use Rattle.script_text.specs.Reading as spec;
 
 use crate::symbol::Symbol;
 use crate::terminal::Terminal;
-use clif_insts::Stop;
+use token_reader::Stop;
 use std::marker::Model;
 
 /// The tokens that are still to be read. Contracts see them as the grammar does.

@@ -1,7 +1,7 @@
 //! Replies.
 
 ghost use Rattle.std.specs.Prelude.{◌≡◌, ◌<◌, ◌≤◌, length, map, IfOk};
-ghost use Rattle.clif_insts.specs.Reading.{Gives};
+ghost use Rattle.token_reader.specs.Reading.{Gives};
 ghost use Rattle.host_script.specs.Script.{reply_of};
 ghost use Rattle.script_text.specs.Reading as spec;
 
@@ -9,7 +9,7 @@ use crate::acts::act;
 use crate::reader::Reader;
 use crate::terminal::Terminal;
 use crate::writes::writes;
-use clif_insts::{Stop, one_item};
+use token_reader::{Stop, one_item};
 use host_script::Reply;
 use ir_core::List;
 use std::alloc::Global;

@@ -1,7 +1,7 @@
 //! Scripts and lists of numbers.
 
 ghost use Rattle.std.specs.Prelude.{◌≡◌, map, IfOk, IfErr};
-ghost use Rattle.clif_insts.specs.Reading.{Gives};
+ghost use Rattle.token_reader.specs.Reading.{Gives};
 ghost use Rattle.host_script.specs.Script.{replies_of, reply_of};
 ghost use Rattle.script_text.specs.declared.scripts.ScriptErr.TheVariants.{NoMemory};
 ghost use Rattle.script_text.specs.Grammar as grammar;
@@ -14,7 +14,7 @@ use crate::reader::Reader;
 use crate::replies::replies;
 use crate::symbols::lexed;
 use crate::values::numbers;
-use clif_insts::Stop;
+use token_reader::Stop;
 use host_script::{Reply, Script};
 use ir_core::List;
 use std::alloc::{AllocError, AllocFailed, Global};

@@ -1,14 +1,14 @@
 //! The writes of a reply.
 
 ghost use Rattle.std.specs.Prelude.{◌≡◌, ◌<◌, ◌≤◌, length, IfOk};
-ghost use Rattle.clif_insts.specs.Reading.{Gives, same};
+ghost use Rattle.token_reader.specs.Reading.{Gives, same};
 ghost use Rattle.script_text.specs.Symbols.{lexeme_of};
 ghost use Rattle.script_text.specs.Reading as spec;
 
 use crate::reader::Reader;
 use crate::symbol::Symbol;
 use crate::terminal::Terminal;
-use clif_insts::{Stop, one_item};
+use token_reader::{Stop, one_item};
 use std::alloc::Global;
 
 /// A number that is not negative.

@@ -9,7 +9,7 @@ use Rattle.clif_read.specs.declared.raw.RawFunction.{RawFunction}
 use Rattle.clif_read.specs.declared.raw.RawModule.{RawModule}
 use Rattle.clif_read.specs.ModuleGrammar.{function, module_rule}
 use Rattle.clif_read.specs.ModuleValues.{function_value}
-use Rattle.clif_read.specs.Stretches.{IsModuleText}
+use Rattle.clif_read.specs.Texts.{IsModuleText}
 use Rattle.test_directives.specs.Placing.{AreAscending}
 use Rattle.test_directives.specs.Tests.{first_spot}
 

@@ -7,7 +7,7 @@ use Rattle.std.proofs.lemmas.List.Folds.{list_any-append}
 use Rattle.grammar.specs.Rules.{Lexeme, Kind, Syntax, Rule, Tok, Seq, Alt, Opt, Many, Tree, Out, heads, heads_any, member, firsts, read, read_all, repeat, ◌>>=◌}
 use Rattle.clif_lex.specs.Bytes.{is_blank}
 use Rattle.ir_core.specs.Lookup.{and_then}
-use Rattle.clif_insts.specs.Values.{◌otherwise◌}
+use Rattle.token_reader.specs.Values.{◌otherwise◌}
 use Rattle.test_directives.specs.Blanks.{trim_front}
 use Rattle.test_directives.specs.declared.marks.Mark.{Mark}
 use Rattle.test_directives.specs.declared.marks.Mark.TheVariants.{Blank, LeftParen, RightParen, LeftBracket, RightBracket, Equals, Bang, Other}

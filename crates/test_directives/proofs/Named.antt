@@ -2,7 +2,7 @@
 use Rattle.std.proofs.Common.{◌≡◌, ℕ, Bool, true, false, cond, List, Option, Some, None, Result, Ok, Err, refl, sym, ap, ◌∙◌}
 use Rattle.grammar.specs.Rules.{Lexeme, Kind, Syntax, Tree, Out, ◌>>=◌, heads_any, read}
 use Rattle.grammar.proofs.Binds.{ok_is}
-use Rattle.clif_insts.specs.Values.{seen}
+use Rattle.token_reader.specs.Values.{seen}
 use Rattle.clif_read.specs.Declarations.{func_name_at}
 use Rattle.clif_read.specs.DeclarationValues.{func_name_value}
 use Rattle.clif_read.specs.ModuleGrammar.{func_name}

@@ -4,7 +4,7 @@ use Rattle.std.proofs.lemmas.Bool.Decides.{nat_tests}
 use Rattle.std.specs.List.{prefix_len, list_all}
 use Rattle.grammar.specs.Rules.{Lexeme, Rule, Tok, Seq, Alt, Opt, Many, Tree, Out, heads, heads_any, member, firsts, read}
 use Rattle.ir_core.specs.Lookup.{and_then}
-use Rattle.clif_insts.specs.Values.{◌otherwise◌, perhaps}
+use Rattle.token_reader.specs.Values.{◌otherwise◌, perhaps}
 use Rattle.test_directives.specs.Blanks.{trim_front}
 use Rattle.test_directives.specs.declared.marks.Mark.{Mark}
 use Rattle.test_directives.specs.declared.marks.Mark.TheVariants.{Blank, LeftParen, RightParen, LeftBracket, RightBracket, Equals, Bang, Other}

@@ -9,7 +9,7 @@ use Rattle.clif_lex.specs.declared.spans.Token.{Token}
 use Rattle.clif_lex.specs.Bytes.{semicolon}
 use Rattle.clif_lex.specs.Lexing.{tokens_of}
 use Rattle.clif_words.specs.Lexemes.{lexemes}
-use Rattle.clif_insts.specs.Values.{◌otherwise◌, perhaps}
+use Rattle.token_reader.specs.Values.{◌otherwise◌, perhaps}
 use Rattle.clif_read.specs.declared.raw.RawFuncName.{RawFuncName}
 use Rattle.clif_read.specs.declared.raw.RawFuncName.TheVariants as raw_name
 use Rattle.clif_read.specs.ModuleGrammar.{func_name}

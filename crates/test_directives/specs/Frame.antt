@@ -2,7 +2,7 @@
 use Rattle.std.specs.Prelude.{◌≡◌, ℕ, true, refl, List, ◌∷◌, map, Option, Some, None, Ok, Err}
 use Rattle.grammar.specs.Rules.{Lexeme, Rule, Tok, Opt, Many, Tree, good, read_all}
 use Rattle.clif_words.specs.Terminals.{◌then◌, ◌or◌}
-use Rattle.clif_insts.specs.Values.{◌otherwise◌}
+use Rattle.token_reader.specs.Values.{◌otherwise◌}
 use Rattle.test_directives.specs.declared.marks.Mark.{Mark}
 use Rattle.test_directives.specs.declared.marks.Mark.TheVariants.{Blank, LeftParen, RightParen, LeftBracket}
 use Rattle.test_directives.specs.declared.marks.Mark.TheVariants.{RightBracket, Equals, Bang, Other}

@@ -1,11 +1,11 @@
 //! Names of functions, as the canonical text spells them.
 ghost use Rattle.std.specs.Prelude.{◌≡◌, ◌≢◌, None, IfOk};
-ghost use Rattle.clif_insts.specs.declared.stop.Stop.TheVariants.{NoMemory};
+ghost use Rattle.token_reader.specs.declared.stop.Stop.TheVariants.{NoMemory};
 ghost use Rattle.clif_lex.specs.Spelling.{AreIn};
 ghost use Rattle.test_directives.specs.Directives as spec;
 ghost use Rattle.test_directives.specs.Names as spec_names;
 
-use clif_insts::{Reader, Stop};
+use token_reader::{Reader, Stop};
 use clif_lex::{LexErr, Tokens, tokens};
 use clif_read::{RawFuncName, RawFunction, func_name};
 use indexmap::IndexMap;

@@ -2,7 +2,7 @@
 ghost use Rattle.std.specs.Prelude.{◌≡◌, ◌≤◌, length, map, All, IfErr, IfOk, None, Ok};
 ghost use Rattle.clif_lex.specs.Lexing.{tokens_of};
 ghost use Rattle.clif_lex.specs.Spelling.{AreIn, StandFrom};
-ghost use Rattle.clif_read.specs.Stretches.{IsModuleText};
+ghost use Rattle.clif_read.specs.Texts.{IsModuleText};
 ghost use Rattle.test_directives.specs.declared.tests.DirectiveErr.TheVariants.{NoMemory};
 ghost use Rattle.test_directives.specs.Placing.{placed_of, AreAscending, InOrder};
 ghost use Rattle.test_directives.specs.Reading as spec;

@@ -16,9 +16,9 @@ use Rattle.ir_text.specs.TextInstructions as insts_text
 use Rattle.ir_text.specs.Writable.{LineWritable}
 use Rattle.clif_words.specs.declared.class.Class.TheVariants as classes
 use Rattle.clif_words.specs.Terminals.{one, cold}
-use Rattle.clif_insts.specs.declared.raw.RawName.{RawName}
-use Rattle.clif_insts.specs.Grammar.{any_type}
-use Rattle.clif_insts.specs.Values.{perhaps, any_type_value}
+use Rattle.token_reader.specs.declared.raw.RawName.{RawName}
+use Rattle.token_reader.specs.Grammar.{any_type}
+use Rattle.token_reader.specs.Values.{perhaps, any_type_value}
 use Rattle.clif_read.specs.declared.raw.RawBlockParam.{RawBlockParam}
 use Rattle.clif_read.specs.declared.raw.RawBlock.{RawBlock}
 use Rattle.clif_read.specs.declared.raw.RawLine.{RawLine}

@@ -18,10 +18,10 @@ use Rattle.clif_words.specs.Table.{all_words}
 use Rattle.clif_words.specs.Terminals as terms
 use Rattle.clif_words.specs.Terminals.{◌then◌, ◌or◌, one}
 use Rattle.clif_words.specs.Words.{word_meaning}
-use Rattle.clif_insts.specs.declared.raw.RawName.{RawName}
-use Rattle.clif_insts.specs.declared.raw.RawNumber.{RawNumber}
-use Rattle.clif_insts.specs.Grammar.{number}
-use Rattle.clif_insts.specs.Values.{perhaps}
+use Rattle.token_reader.specs.declared.raw.RawName.{RawName}
+use Rattle.token_reader.specs.declared.raw.RawNumber.{RawNumber}
+use Rattle.token_reader.specs.Grammar.{number}
+use Rattle.token_reader.specs.Values.{perhaps}
 use Rattle.clif_read.specs.declared.raw.RawCalleeSig.{RawCalleeSig}
 use Rattle.clif_read.specs.declared.raw.RawCalleeSig.TheVariants as callee_sigs
 use Rattle.clif_read.specs.declared.raw.RawDecl.{RawDecl}

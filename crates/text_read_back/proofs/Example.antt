@@ -23,7 +23,7 @@ use Rattle.clif_words.specs.Opcodes.{opcode_of}
 use Rattle.clif_words.specs.Table.{all_words}
 use Rattle.clif_words.specs.Words.{word_meaning}
 use Rattle.clif_insts.specs.declared.raw.RawInst.{RawInst}
-use Rattle.clif_insts.specs.declared.raw.RawName.{RawName}
+use Rattle.token_reader.specs.declared.raw.RawName.{RawName}
 use Rattle.clif_insts.specs.declared.raw.RawOperands.TheVariants as operands
 use Rattle.clif_insts.specs.InstValues.{raw}
 use Rattle.clif_read.specs.declared.raw.RawBlock.{RawBlock}

@@ -15,7 +15,8 @@ use Rattle.clif_insts.specs.declared.raw.RawFlag.{RawFlag}
 use Rattle.clif_insts.specs.declared.raw.RawFlag.TheVariants as words
 use Rattle.clif_insts.specs.Flags.{flag_of}
 use Rattle.clif_insts.specs.Grammar.{plain_flag, flags}
-use Rattle.clif_insts.specs.Values.{◌otherwise◌, plain_flag_value, flags_value}
+use Rattle.token_reader.specs.Values.{◌otherwise◌}
+use Rattle.clif_insts.specs.Values.{plain_flag_value, flags_value}
 use Rattle.text_read_back.proofs.Stretches.{clear}
 use Rattle.text_read_back.specs.RawOf as raws
 use Rattle.text_read_back.proofs.Told.{lexeme_as, s_at, Reads, Closed, left, right}

@@ -21,18 +21,19 @@ use Rattle.clif_words.specs.Table.{all_words}
 use Rattle.clif_words.specs.Terminals as terms
 use Rattle.clif_words.specs.Terminals.{◌then◌, ◌or◌, one}
 use Rattle.clif_words.specs.Words.{word_meaning}
-use Rattle.clif_insts.specs.declared.raw.RawName.{RawName}
-use Rattle.clif_insts.specs.declared.raw.RawNumber.{RawNumber}
-use Rattle.clif_insts.specs.declared.raw.RawOpcode.{RawOpcode}
+use Rattle.token_reader.specs.declared.raw.RawName.{RawName}
+use Rattle.token_reader.specs.declared.raw.RawNumber.{RawNumber}
+use Rattle.token_reader.specs.declared.raw.RawOpcode.{RawOpcode}
 use Rattle.clif_insts.specs.declared.raw.RawFlag.{RawFlag}
 use Rattle.clif_insts.specs.declared.raw.RawTarget.{RawTarget}
 use Rattle.clif_insts.specs.declared.raw.RawEntry.{RawEntry}
 use Rattle.clif_insts.specs.declared.raw.RawTrap.{RawTrap}
 use Rattle.clif_insts.specs.declared.raw.RawOperands.TheVariants as operands
-use Rattle.clif_insts.specs.Grammar.{number, refused_type, suffix, suffix_i64, any_trap, flags, address, slot_address, target, normal_target, table, args, target_list}
+use Rattle.token_reader.specs.Grammar.{number, refused_type, suffix, suffix_i64}
+use Rattle.clif_insts.specs.Grammar.{any_trap, flags, address, slot_address, target, normal_target, table, args, target_list}
 use Rattle.clif_insts.specs.InstValues as v
 use Rattle.clif_insts.specs.InstValues.{raw, inst_value}
-use Rattle.clif_insts.specs.Values.{offset_value}
+use Rattle.token_reader.specs.Values.{offset_value}
 use Rattle.text_read_back.proofs.NumberTokens.{is_64_bits}
 use Rattle.text_read_back.specs.Bare.{bare_inst, bare_number, bare_option}
 use Rattle.text_read_back.specs.RawOf as raws

@@ -20,11 +20,11 @@ use Rattle.clif_words.specs.declared.class.Class.TheVariants as classes
 use Rattle.clif_words.specs.Table.{all_words}
 use Rattle.clif_words.specs.Terminals.{one, value}
 use Rattle.clif_words.specs.Words.{word_meaning}
-use Rattle.clif_insts.specs.declared.raw.RawName.{RawName}
+use Rattle.token_reader.specs.declared.raw.RawName.{RawName}
 use Rattle.clif_insts.specs.declared.raw.RawInst.{RawInst}
 use Rattle.clif_insts.specs.declared.raw.RawOperands.TheVariants as operands
 use Rattle.clif_insts.specs.InstValues.{raw, inst_value}
-use Rattle.clif_insts.specs.Reading.{name}
+use Rattle.token_reader.specs.Reading.{name}
 use Rattle.clif_read.specs.declared.raw.RawLine.{RawLine}
 use Rattle.clif_read.specs.declared.raw.RawLine.TheVariants as raw_lines
 use Rattle.clif_read.specs.declared.raw.RawTag.{RawTag}

@@ -22,7 +22,7 @@ use Rattle.clif_words.specs.declared.class.Class.TheVariants as classes
 use Rattle.clif_words.specs.Table.{all_words}
 use Rattle.clif_words.specs.Terminals.{◌or◌, one, condition, value, ret, exn, left_paren, right_paren, ◌then◌}
 use Rattle.clif_words.specs.Words.{word_meaning}
-use Rattle.clif_insts.specs.declared.raw.RawName.{RawName}
+use Rattle.token_reader.specs.declared.raw.RawName.{RawName}
 use Rattle.clif_insts.specs.declared.raw.RawArg.{RawArg}
 use Rattle.clif_insts.specs.declared.raw.RawArg.TheVariants as raw_args
 use Rattle.clif_insts.specs.declared.raw.RawTarget.{RawTarget}
@@ -30,9 +30,11 @@ use Rattle.clif_insts.specs.declared.raw.RawEntry.{RawEntry}
 use Rattle.clif_insts.specs.declared.raw.RawTrap.{RawTrap}
 use Rattle.clif_insts.specs.declared.raw.RawTrap.TheVariants as raw_traps
 use Rattle.clif_insts.specs.Codes.{condition_of, trap_of}
-use Rattle.clif_insts.specs.Grammar.{commas, any_trap, call_to, target, normal_target, handler, target_list, entry_name, entry, table, args}
-use Rattle.clif_insts.specs.Reading.{name}
-use Rattle.clif_insts.specs.Values.{perhaps, ◌otherwise◌, commas_value, condition_value, trap_value, args_value, value_arg, target_value, branch_value, normal_value, handler_value, target_list_value, entry_name_value, entry_value, table_value}
+use Rattle.token_reader.specs.Grammar.{commas}
+use Rattle.clif_insts.specs.Grammar.{any_trap, call_to, target, normal_target, handler, target_list, entry_name, entry, table, args}
+use Rattle.token_reader.specs.Reading.{name}
+use Rattle.token_reader.specs.Values.{perhaps, ◌otherwise◌, commas_value}
+use Rattle.clif_insts.specs.Values.{condition_value, trap_value, args_value, value_arg, target_value, branch_value, normal_value, handler_value, target_list_value, entry_name_value, entry_value, table_value}
 use Rattle.text_read_back.specs.Bare.{bare_name, bare_option, bare_arg, bare_target, bare_entry, bare_trap}
 use Rattle.text_read_back.specs.RawOf as raws
 use Rattle.text_read_back.proofs.Spellable.{ValueFits, BlockFits, ArgReads, TargetReads, EntryReads}

@@ -6,7 +6,8 @@ use Rattle.clif_words.specs.declared.class.Class.{Class}
 use Rattle.clif_words.specs.Terminals as terms
 use Rattle.clif_words.specs.Terminals.{◌then◌}
 use Rattle.clif_insts.specs.declared.raw.RawInst.{RawInst}
-use Rattle.clif_insts.specs.Grammar.{number, suffix, suffix_i64, any_trap, flags, address, slot_address, target, normal_target, table, args, target_list, inst}
+use Rattle.token_reader.specs.Grammar.{number, suffix, suffix_i64}
+use Rattle.clif_insts.specs.Grammar.{any_trap, flags, address, slot_address, target, normal_target, table, args, target_list, inst}
 use Rattle.clif_insts.specs.InstValues as v
 use Rattle.clif_insts.specs.InstValues.{inst_value}
 use Rattle.text_read_back.specs.Bare.{bare_inst}

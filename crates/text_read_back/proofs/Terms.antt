@@ -24,12 +24,12 @@ use Rattle.clif_words.specs.Lexemes.{number_class}
 use Rattle.clif_words.specs.Table.{all_words}
 use Rattle.clif_words.specs.Terminals.{one, signed}
 use Rattle.clif_words.specs.Words.{word_meaning}
-use Rattle.clif_insts.specs.declared.raw.RawName.{RawName}
-use Rattle.clif_insts.specs.declared.raw.RawNumber.{RawNumber}
-use Rattle.clif_insts.specs.declared.raw.RawOpcode.{RawOpcode}
-use Rattle.clif_insts.specs.Grammar.{commas, number, any_type, suffix}
-use Rattle.clif_insts.specs.Reading.{name, opcode}
-use Rattle.clif_insts.specs.Values.{commas_value, any_type_value, suffix_value, opt_suffix_value, number_value, offset_value}
+use Rattle.token_reader.specs.declared.raw.RawName.{RawName}
+use Rattle.token_reader.specs.declared.raw.RawNumber.{RawNumber}
+use Rattle.token_reader.specs.declared.raw.RawOpcode.{RawOpcode}
+use Rattle.token_reader.specs.Grammar.{commas, number, any_type, suffix}
+use Rattle.token_reader.specs.Reading.{name, opcode}
+use Rattle.token_reader.specs.Values.{commas_value, any_type_value, suffix_value, opt_suffix_value, number_value, offset_value}
 use Rattle.text_read_back.proofs.Decimals.{decimal_digits, decimal_some}
 use Rattle.text_read_back.proofs.NumberTokens.{digit_no_sign, is_64_bits, below, signed_spells, decimal_magnitude}
 use Rattle.text_read_back.proofs.Stretches.{is_word}

@@ -13,7 +13,7 @@ use Rattle.clif_words.specs.declared.class.Class.TheVariants as classes
 use Rattle.clif_words.specs.Classes.{code}
 use Rattle.clif_words.specs.Lexemes.{meaning_of, amount_of, name_of, lexeme, is_comment, lexemes}
 use Rattle.clif_words.specs.Terminals.{one}
-use Rattle.clif_insts.specs.Grammar.{commas}
+use Rattle.token_reader.specs.Grammar.{commas}
 use Rattle.text_read_back.proofs.Stretches.{front, clear, tokens_at, seen_in, seen_at}
 
 -- ---- the tokens of pieces, as the grammar sees them

@@ -1,8 +1,8 @@
 -- A raw module without its spots: each of them is 0. What a text says doesn't depend on where its words stand.
 use Rattle.std.specs.Prelude.{ℕ, map, Option, Some, None}
-use Rattle.clif_insts.specs.declared.raw.RawName.{RawName}
-use Rattle.clif_insts.specs.declared.raw.RawNumber.{RawNumber}
-use Rattle.clif_insts.specs.declared.raw.RawOpcode.{RawOpcode}
+use Rattle.token_reader.specs.declared.raw.RawName.{RawName}
+use Rattle.token_reader.specs.declared.raw.RawNumber.{RawNumber}
+use Rattle.token_reader.specs.declared.raw.RawOpcode.{RawOpcode}
 use Rattle.clif_insts.specs.declared.raw.RawArg.{RawArg}
 use Rattle.clif_insts.specs.declared.raw.RawArg.TheVariants as args
 use Rattle.clif_insts.specs.declared.raw.RawTarget.{RawTarget}

@@ -41,9 +41,9 @@ use Rattle.ir_text.specs.Words.{op_word}
 use Rattle.clif_words.specs.Opcodes.{opcode_of}
 use Rattle.clif_words.specs.Words.{word_meaning}
 use Rattle.clif_insts.specs.InstValues.{raw}
-use Rattle.clif_insts.specs.declared.raw.RawName.{RawName}
-use Rattle.clif_insts.specs.declared.raw.RawNumber.{RawNumber}
-use Rattle.clif_insts.specs.declared.raw.RawOpcode.{RawOpcode}
+use Rattle.token_reader.specs.declared.raw.RawName.{RawName}
+use Rattle.token_reader.specs.declared.raw.RawNumber.{RawNumber}
+use Rattle.token_reader.specs.declared.raw.RawOpcode.{RawOpcode}
 use Rattle.clif_insts.specs.declared.raw.RawArg.{RawArg}
 use Rattle.clif_insts.specs.declared.raw.RawArg.TheVariants as raw_args
 use Rattle.clif_insts.specs.declared.raw.RawTarget.{RawTarget}

@@ -2,7 +2,7 @@
 use Rattle.std.specs.Prelude.{◌≡◌, List, ℕ}
 use Rattle.ir_core.specs.Module.{Module}
 use Rattle.ir_text.specs.Text.{text_of}
-use Rattle.clif_read.specs.Stretches.{IsModuleText}
+use Rattle.clif_read.specs.Texts.{IsModuleText}
 use Rattle.clif_read.specs.declared.raw.RawModule.{RawModule}
 use Rattle.text_read_back.specs.Bare.{bare_module}
 use Rattle.text_read_back.specs.RawOf.{raw_of}

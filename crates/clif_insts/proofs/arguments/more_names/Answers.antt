@@ -1,9 +1,9 @@
 use Rattle.std.proofs.Common.{[], ◌∷◌, length, refl, sym, ◌∙◌, arith}
 use Rattle.clif_words.specs.declared.class.Class.TheVariants as classes
 use Rattle.clif_words.specs.Classes.{code}
-use Rattle.clif_insts.specs.Reading.{name_at, comma_at, more_at}
+use Rattle.token_reader.specs.Reading.{name_at, comma_at, more_at}
 use Rattle.clif_insts.specs.Arguments.{more_values_at}
-use Rattle.clif_insts.proofs.Loops.{is_done}
+use Rattle.token_reader.proofs.Loops.{is_done}
 use Rattle.clif_insts.proofs.arguments.more_names.Goals as goal
 
 pub returns-else-next_is-clause-is : goal.returns-else-next_is-clause-is

@@ -2,9 +2,9 @@ use Rattle.std.proofs.Common.{[], ◌∷◌, ◌++◌, length, sym, ◌∙◌, a
 use Rattle.std.proofs.lemmas.Result.{err_from_is_err_and}
 use Rattle.clif_words.specs.Classes.{code}
 use Rattle.clif_words.specs.Terminals.{codes_of}
-use Rattle.clif_insts.specs.Reading.{each, with_front}
+use Rattle.token_reader.specs.Reading.{each, with_front}
 use Rattle.clif_insts.specs.Flags.{ordered_flag_at, begins_plain_flag, ordered_flags_at}
-use Rattle.clif_insts.proofs.Loops.{goes_on, fails, is_done}
+use Rattle.token_reader.proofs.Loops.{goes_on, fails, is_done}
 use Rattle.clif_insts.proofs.flags.ordered_flags.Goals as goal
 
 pub list-preserved : goal.list-preserved

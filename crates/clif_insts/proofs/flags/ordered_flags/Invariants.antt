@@ -1,9 +1,9 @@
 use Rattle.std.proofs.Common.{◌∷◌, [], ◌++◌, ◌≤◌, length}
 use Rattle.clif_words.specs.Classes.{code}
 use Rattle.clif_words.specs.Terminals.{codes_of}
-use Rattle.clif_insts.specs.Reading.{each, with_front}
+use Rattle.token_reader.specs.Reading.{each, with_front}
 use Rattle.clif_insts.specs.Flags.{ordered_flag_at, begins_plain_flag}
-use Rattle.clif_insts.proofs.Loops.{Keeps}
+use Rattle.token_reader.proofs.Loops.{Keeps}
 use Rattle.clif_insts.proofs.flags.ordered_flags.Given as goal
 
 abbrev pub invariant-list : goal.invariant-list

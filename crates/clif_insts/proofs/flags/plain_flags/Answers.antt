@@ -2,9 +2,9 @@ use Rattle.std.proofs.Common.{List, [], length, sym, ◌∙◌, arith}
 use Rattle.std.proofs.lemmas.Result.{err_from_is_err_and}
 use Rattle.clif_insts.specs.declared.raw.RawFlag.{RawFlag}
 use Rattle.clif_words.specs.Terminals.{codes_of}
-use Rattle.clif_insts.specs.Reading.{each, with_front}
+use Rattle.token_reader.specs.Reading.{each, with_front}
 use Rattle.clif_insts.specs.Flags.{plain_flag_at, begins_plain_flag, plain_flags_at}
-use Rattle.clif_insts.proofs.Loops.{goes_on, fails, is_done}
+use Rattle.token_reader.proofs.Loops.{goes_on, fails, is_done}
 use Rattle.clif_insts.proofs.flags.plain_flags.Goals as goal
 
 pub list-preserved : goal.list-preserved

@@ -1,9 +1,9 @@
 use Rattle.std.proofs.Common.{List, [], ◌≤◌, length}
 use Rattle.clif_insts.specs.declared.raw.RawFlag.{RawFlag}
 use Rattle.clif_words.specs.Terminals.{codes_of}
-use Rattle.clif_insts.specs.Reading.{each, with_front}
+use Rattle.token_reader.specs.Reading.{each, with_front}
 use Rattle.clif_insts.specs.Flags.{plain_flag_at, begins_plain_flag}
-use Rattle.clif_insts.proofs.Loops.{Keeps}
+use Rattle.token_reader.proofs.Loops.{Keeps}
 use Rattle.clif_insts.proofs.flags.plain_flags.Given as goal
 
 abbrev pub invariant-list : goal.invariant-list

@@ -1,5 +1,5 @@
 use Rattle.std.proofs.Common.{ℕ, ◌∷◌, [], sym, ap, ap₂, ◌∙◌}
-use Rattle.clif_insts.specs.declared.raw.RawName.{RawName}
+use Rattle.token_reader.specs.declared.raw.RawName.{RawName}
 use Rattle.clif_meaning.specs.Instructions.{value_at}
 use Rattle.clif_lines.specs.WordRenaming.{renaming}
 use Rattle.clif_lines.proofs.Parting.{map_one, map_two}

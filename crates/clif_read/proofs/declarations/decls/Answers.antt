@@ -2,8 +2,8 @@ use Rattle.std.proofs.Common.{List, [], length, sym, ◌∙◌, arith}
 use Rattle.std.proofs.lemmas.Result.{err_from_is_err_and}
 use Rattle.clif_words.specs.Terminals.{codes_of}
 use Rattle.clif_read.specs.declared.raw.RawDecl.{RawDecl}
-use Rattle.clif_insts.specs.Reading.{each, with_front}
-use Rattle.clif_insts.proofs.Loops.{goes_on, fails, is_done}
+use Rattle.token_reader.specs.Reading.{each, with_front}
+use Rattle.token_reader.proofs.Loops.{goes_on, fails, is_done}
 use Rattle.clif_read.specs.Declarations.{begins_decl, decl_at, decls_at}
 use Rattle.clif_read.proofs.declarations.decls.Goals as goal
 

@@ -1,8 +1,8 @@
 use Rattle.std.proofs.Common.{List, [], ◌≤◌, length}
 use Rattle.clif_words.specs.Terminals.{codes_of}
 use Rattle.clif_read.specs.declared.raw.RawDecl.{RawDecl}
-use Rattle.clif_insts.specs.Reading.{each, with_front}
-use Rattle.clif_insts.proofs.Loops.{Keeps}
+use Rattle.token_reader.specs.Reading.{each, with_front}
+use Rattle.token_reader.proofs.Loops.{Keeps}
 use Rattle.clif_read.specs.Declarations.{begins_decl, decl_at}
 use Rattle.clif_read.proofs.declarations.decls.Given as goal
 

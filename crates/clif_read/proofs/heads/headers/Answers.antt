@@ -2,8 +2,8 @@ use Rattle.std.proofs.Common.{ℕ, List, [], ◌∷◌, length, sym, ◌∙◌, 
 use Rattle.std.proofs.lemmas.Result.{err_from_is_err_and}
 use Rattle.clif_words.specs.declared.class.Class.TheVariants as classes
 use Rattle.clif_words.specs.Classes.{code}
-use Rattle.clif_insts.specs.Reading.{each, with_front}
-use Rattle.clif_insts.proofs.Loops.{goes_on, fails, is_done}
+use Rattle.token_reader.specs.Reading.{each, with_front}
+use Rattle.token_reader.proofs.Loops.{goes_on, fails, is_done}
 use Rattle.clif_read.specs.Heads.{header_at, headers_at}
 use Rattle.clif_read.proofs.heads.headers.Goals as goal
 

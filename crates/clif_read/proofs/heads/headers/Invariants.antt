@@ -1,8 +1,8 @@
 use Rattle.std.proofs.Common.{ℕ, List, [], ◌∷◌, ◌≤◌, length}
 use Rattle.clif_words.specs.declared.class.Class.TheVariants as classes
 use Rattle.clif_words.specs.Classes.{code}
-use Rattle.clif_insts.specs.Reading.{each, with_front}
-use Rattle.clif_insts.proofs.Loops.{Keeps}
+use Rattle.token_reader.specs.Reading.{each, with_front}
+use Rattle.token_reader.proofs.Loops.{Keeps}
 use Rattle.clif_read.specs.Heads.{header_at}
 use Rattle.clif_read.proofs.heads.headers.Given as goal
 

@@ -1,5 +1,5 @@
 use Rattle.std.proofs.Common.{sym, ◌∙◌}
-use Rattle.clif_read.proofs.StretchLaws.{all_read}
+use Rattle.clif_read.proofs.Functions.{all_read}
 use Rattle.clif_read.proofs.modules.all_functions.Goals as goal
 
 pub returns : goal.returns

@@ -3,9 +3,9 @@ use Rattle.std.proofs.lemmas.Result.{err_from_is_err_and}
 use Rattle.clif_words.specs.declared.class.Class.TheVariants as classes
 use Rattle.clif_read.specs.declared.raw.RawFunction.{RawFunction}
 use Rattle.clif_words.specs.Classes.{code}
-use Rattle.clif_insts.specs.Reading.{each, with_front}
+use Rattle.token_reader.specs.Reading.{each, with_front}
 use Rattle.clif_read.specs.Modules.{function_at, functions_at}
-use Rattle.clif_insts.proofs.Loops.{goes_on, fails, is_done}
+use Rattle.token_reader.proofs.Loops.{goes_on, fails, is_done}
 use Rattle.clif_read.proofs.modules.functions.Goals as goal
 
 pub list-preserved : goal.list-preserved

@@ -2,9 +2,9 @@ use Rattle.std.proofs.Common.{[], ◌∷◌, length, sym, ◌∙◌, arith}
 use Rattle.std.proofs.lemmas.Result.{err_from_is_err_and}
 use Rattle.clif_words.specs.declared.class.Class.TheVariants as classes
 use Rattle.clif_words.specs.Classes.{code}
-use Rattle.clif_insts.specs.Reading.{each, with_front}
+use Rattle.token_reader.specs.Reading.{each, with_front}
 use Rattle.clif_read.specs.Modules.{block_at, more_blocks_at}
-use Rattle.clif_insts.proofs.Loops.{goes_on, fails, is_done}
+use Rattle.token_reader.proofs.Loops.{goes_on, fails, is_done}
 use Rattle.clif_read.proofs.modules.more_blocks.Goals as goal
 
 pub list-preserved : goal.list-preserved

@@ -1,9 +1,9 @@
 use Rattle.std.proofs.Common.{◌∷◌, [], ◌≤◌, length}
 use Rattle.clif_words.specs.declared.class.Class.TheVariants as classes
 use Rattle.clif_words.specs.Classes.{code}
-use Rattle.clif_insts.specs.Reading.{each, with_front}
+use Rattle.token_reader.specs.Reading.{each, with_front}
 use Rattle.clif_read.specs.Modules.{block_at}
-use Rattle.clif_insts.proofs.Loops.{Keeps}
+use Rattle.token_reader.proofs.Loops.{Keeps}
 use Rattle.clif_read.proofs.modules.more_blocks.Given as goal
 
 abbrev pub invariant-list : goal.invariant-list

@@ -1,5 +1,5 @@
 use Rattle.std.proofs.Common.{◌≡◌, map, sym, ap, subst, ◌∙◌}
-use Rattle.clif_insts.specs.Reading.{Stops}
+use Rattle.token_reader.specs.Reading.{Stops}
 use Rattle.script_text.specs.Symbols.{lexeme_of}
 use Rattle.script_text.specs.Lexed.{lexed}
 use Rattle.script_text.specs.Grammar.{number_list_is_good}

@@ -1,5 +1,5 @@
 use Rattle.std.proofs.Common.{◌≡◌, map, sym, ap, subst, ◌∙◌}
-use Rattle.clif_insts.specs.Reading.{Stops}
+use Rattle.token_reader.specs.Reading.{Stops}
 use Rattle.host_script.specs.Script.{reply_of}
 use Rattle.script_text.specs.Symbols.{lexeme_of}
 use Rattle.script_text.specs.Lexed.{lexed}

@@ -1,5 +1,5 @@
 use Rattle.std.proofs.Common.{rules, ◌≡◌}
-use Rattle.clif_insts.proofs.Views.{some_at, if_some}
+use Rattle.token_reader.proofs.Views.{some_at, if_some}
 use Rattle.script_text.specs.Symbols.{lexeme, lexeme_of}
 use Rattle.script_text.proofs.Tokens.{one_more}
 use Rattle.script_text.proofs.symbols.symbols.Goals as goal

@@ -1,8 +1,8 @@
 use Rattle.std.proofs.Common.{◌≡◌, [], ◌∷◌, ◌++◌, length, sym, ap, ◌∙◌, arith, rules, to_z, of_z}
 use Rattle.std.specs.Int.{w128}
 use Rattle.std.proofs.lemmas.Result.{err_from_is_err_and}
-use Rattle.clif_insts.specs.Reading.{each, with_front}
-use Rattle.clif_insts.proofs.Loops.{goes_on, fails, is_done}
+use Rattle.token_reader.specs.Reading.{each, with_front}
+use Rattle.token_reader.proofs.Loops.{goes_on, fails, is_done}
 use Rattle.script_text.specs.declared.terminal.Terminal.TheVariants as terminals
 use Rattle.script_text.specs.Terminals.{code}
 use Rattle.script_text.specs.Reading.{comma_at, more_at, value_at}

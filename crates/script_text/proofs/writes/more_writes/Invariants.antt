@@ -1,6 +1,6 @@
 use Rattle.std.proofs.Common.{◌∷◌, [], ◌≤◌, length}
-use Rattle.clif_insts.specs.Reading.{each, with_front}
-use Rattle.clif_insts.proofs.Loops.{Keeps}
+use Rattle.token_reader.specs.Reading.{each, with_front}
+use Rattle.token_reader.proofs.Loops.{Keeps}
 use Rattle.script_text.specs.declared.terminal.Terminal.TheVariants as terminals
 use Rattle.script_text.specs.Terminals.{code}
 use Rattle.script_text.specs.Reading.{comma_at, write_at}

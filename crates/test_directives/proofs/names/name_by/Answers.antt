@@ -1,9 +1,9 @@
 use Rattle.std.proofs.Common.{◌≡◌, ℕ, Bool, true, false, not, List, Option, Some, None, Ok, Err, IfOk, Result, refl, sym, ap, subst, ◌∙◌}
 use Rattle.grammar.specs.Rules.{Lexeme}
 use Rattle.grammar.proofs.Sets.{not_true}
-use Rattle.clif_insts.specs.declared.stop.Stop.{Stop}
-use Rattle.clif_insts.specs.declared.stop.Stop.TheVariants as stops
-use Rattle.clif_insts.specs.Reading.{Stops}
+use Rattle.token_reader.specs.declared.stop.Stop.{Stop}
+use Rattle.token_reader.specs.declared.stop.Stop.TheVariants as stops
+use Rattle.token_reader.specs.Reading.{Stops}
 use Rattle.clif_lex.specs.declared.spans.Token.{Token}
 use Rattle.clif_read.specs.Declarations.{func_name_at}
 use Rattle.clif_words.specs.Lexemes.{lexemes}

@@ -1,5 +1,5 @@
 use Rattle.std.proofs.lemmas.Option.{IfSome_then}
-use Rattle.clif_read.proofs.StretchLaws.{stretch_read}
+use Rattle.read_workers.proofs.RangeLaws.{stretch_read}
 use Rattle.clif_check.proofs.MeantLaws.{functions_have_blocks, meant_follow}
 use Rattle.clif_check.proofs.stretches.TextRangesRangesFunc.read_stretch.Goals as goal
 

@@ -1,7 +1,0 @@
-use Rattle.std.proofs.Common.{ap, ◌∙◌}
-use Rattle.clif_words.specs.Lexemes.{lexemes}
-use Rattle.clif_insts.proofs.Ends.{drop_range}
-use Rattle.clif_insts.proofs.reader.Reader.between.Goals as goal
-
-pub returns : goal.returns
-returns c = c.find.ensures.same ∙ ap (lexemes c.args.text.now) (drop_range c.args.tokens.now c.args.from c.args.«end» c.requires.ordered)

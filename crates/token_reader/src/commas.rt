@@ -1,0 +1,70 @@
+//! Items with commas between them.
+
+ghost use Rattle.std.specs.Prelude.{List, ◌<◌, ◌≤◌, length, IfOk};
+ghost use Rattle.grammar.specs.Rules.{Lexeme, Out};
+ghost use Rattle.token_reader.specs.Reading.{Gives, same};
+ghost use Rattle.token_reader.specs.Reading as spec;
+
+use crate::lists::one_item;
+use crate::reader::Reader;
+use crate::stop::Stop;
+use clif_words::Class;
+use std::alloc::Global;
+
+/// Items of a kind, which are read one by one.
+pub trait Items<T> {
+    /// The item that stands in front of these tokens, read from left to right.
+    ghost item_at: { Self → List Lexeme → Out T };
+
+    /// Reads an item.
+    fn item(&self, alloc: Global, reader: &mut Reader<'_>) -> Result<T, Stop>
+        ensures is { Gives same reader.new result (item_at self.now reader.old) }
+        ensures shorter { IfOk result (λ _. length reader.new < length reader.old) };
+}
+
+#[tactic(auto, unfolding(crate::specs::Reading::comma_at))]
+#[inline]
+fn behind_comma<T, I: Items<T>>(
+    alloc: Global,
+    reader: &mut Reader<'_>,
+    items: &I,
+) -> Result<T, Stop>
+    ensures is { Gives same reader.new result (spec.comma_at (I.item_at items.now) reader.old) }
+    ensures shorter { IfOk result (λ _. length reader.new < length reader.old) }
+{
+    reader.take(Class::Comma)?;
+    items.item(alloc, reader)
+}
+
+/// Items behind commas, after those in front.
+pub fn behind_commas<T: Drop, I: Items<T>>(
+    alloc: Global,
+    reader: &mut Reader<'_>,
+    items: &I,
+    front: Vec<T>,
+) -> Result<Vec<T>, Stop>
+    ensures is { Gives (λ x. x.items) reader.new result (spec.more_at (I.item_at items.now) front.items reader.old) }
+    ensures shorter { IfOk result (λ _. length reader.new ≤ length reader.old) }
+{
+    let mut list = front;
+    'list: while reader.next_is(Class::Comma) {
+        let item = behind_comma(alloc, reader, items)?;
+        list.push(item)?;
+    }
+    Ok(list)
+}
+
+/// Items joined by commas, one at least.
+#[tactic(auto, unfolding(crate::specs::Reading::commas_at))]
+pub fn joined_by_commas<T: Drop, I: Items<T>>(
+    alloc: Global,
+    reader: &mut Reader<'_>,
+    items: &I,
+) -> Result<Vec<T>, Stop>
+    ensures is { Gives (λ x. x.items) reader.new result (spec.commas_at (I.item_at items.now) reader.old) }
+    ensures shorter { IfOk result (λ _. length reader.new < length reader.old) }
+{
+    let first = items.item(alloc, reader)?;
+    let front = one_item(alloc, first)?;
+    behind_commas(alloc, reader, items, front)
+}

@@ -1,0 +1,114 @@
+//! Types and suffixes.
+
+ghost use Rattle.std.specs.Prelude.{◌≡◌, ◌≢◌, ◌<◌, ◌≤◌, length, IfOk, IfErr};
+ghost use Rattle.token_reader.specs.declared.stop.Stop.TheVariants.{NoMemory};
+ghost use Rattle.token_reader.specs.Reading.{Gives, same};
+ghost use Rattle.token_reader.specs.Types as spec;
+
+use crate::raw::RawName;
+use crate::reader::Reader;
+use crate::stop::Stop;
+use clif_words::Class;
+use ir_core::Ty;
+
+/// A type but `i64`, by its place among the words of its class.
+fn type_of(number: u64) -> Ty
+    ensures { result ≡ spec.type_of number }
+{
+    match number {
+        0 => Ty::I8,
+        1 => Ty::I16,
+        2 => Ty::I32,
+        _ => Ty::I128,
+    }
+}
+
+/// A type.
+#[tactic(auto, unfolding(crate::specs::Types::type_at))]
+pub fn any_type(reader: &mut Reader<'_>) -> Result<Ty, Stop>
+    ensures is { Gives same reader.new result (spec.type_at reader.old) }
+    ensures no_memory { IfErr result (λ e. e ≢ NoMemory) }
+    ensures shorter { IfOk result (λ _. length reader.new < length reader.old) }
+{
+    if reader.next_is(Class::Ty) {
+        let word = reader.take(Class::Ty)?;
+        Ok(type_of(word.number))
+    } else if reader.next_is(Class::TyI64) {
+        reader.take(Class::TyI64)?;
+        Ok(Ty::I64)
+    } else {
+        Err(if reader.next_is(Class::RefusedType) {
+            Stop::Unsupported
+        } else {
+            Stop::Syntax
+        })
+    }
+}
+
+/// `.T`
+#[tactic(auto, unfolding(crate::specs::Types::suffix_at))]
+pub fn suffix(reader: &mut Reader<'_>) -> Result<Ty, Stop>
+    ensures is { Gives same reader.new result (spec.suffix_at reader.old) }
+    ensures no_memory { IfErr result (λ e. e ≢ NoMemory) }
+    ensures shorter { IfOk result (λ _. length reader.new < length reader.old) }
+{
+    reader.take(Class::Dot)?;
+    any_type(reader)
+}
+
+/// `[.T]`
+#[tactic(auto, unfolding(crate::specs::Types::opt_suffix_at))]
+pub fn opt_suffix(reader: &mut Reader<'_>) -> Result<Option<Ty>, Stop>
+    ensures is { Gives same reader.new result (spec.opt_suffix_at reader.old) }
+    ensures no_memory { IfErr result (λ e. e ≢ NoMemory) }
+    ensures shorter { IfOk result (λ _. length reader.new ≤ length reader.old) }
+{
+    if reader.next_is(Class::Dot) {
+        Ok(Some(suffix(reader)?))
+    } else {
+        Ok(None)
+    }
+}
+
+/// `i64`, and no other type.
+#[tactic(auto, unfolding(crate::specs::Types::i64_at))]
+pub fn i64_type(reader: &mut Reader<'_>) -> Result<RawName, Stop>
+    ensures is { Gives same reader.new result (spec.i64_at reader.old) }
+    ensures no_memory { IfErr result (λ e. e ≢ NoMemory) }
+    ensures shorter { IfOk result (λ _. length reader.new < length reader.old) }
+{
+    if reader.next_is(Class::TyI64) {
+        reader.take(Class::TyI64)
+    } else {
+        Err(if reader.next_is(Class::RefusedType) {
+            Stop::Unsupported
+        } else {
+            Stop::Syntax
+        })
+    }
+}
+
+/// `.i64`
+#[tactic(auto, unfolding(crate::specs::Types::suffix_i64_at))]
+pub fn suffix_i64(reader: &mut Reader<'_>) -> Result<RawName, Stop>
+    ensures is { Gives same reader.new result (spec.suffix_i64_at reader.old) }
+    ensures no_memory { IfErr result (λ e. e ≢ NoMemory) }
+    ensures shorter { IfOk result (λ _. length reader.new < length reader.old) }
+{
+    reader.take(Class::Dot)?;
+    i64_type(reader)
+}
+
+/// `[.i64]`
+#[tactic(auto, unfolding(crate::specs::Types::opt_suffix_i64_at))]
+pub fn opt_suffix_i64(reader: &mut Reader<'_>) -> Result<Option<RawName>, Stop>
+    ensures is { Gives same reader.new result (spec.opt_suffix_i64_at reader.old) }
+    ensures no_memory { IfErr result (λ e. e ≢ NoMemory) }
+    ensures shorter { IfOk result (λ _. length reader.new ≤ length reader.old) }
+{
+    if reader.next_is(Class::Dot) {
+        Ok(Some(suffix_i64(reader)?))
+    } else {
+        Ok(None)
+    }
+}

@@ -1,6 +1,6 @@
 -- The grammar of instructions, as EBNF is written: `Opt a` is `[ a ]`, `Many a` is `{ a }`, and `commas a` is
--- `a { "," a }`. The words that a place refuses in its own way are rules too: an unknown opcode, and opcodes, types, flags and
--- table entries of CLIF that are left out.
+-- `a { "," a }`. The words that a place refuses in its own way are rules too: an unknown opcode, and opcodes, types,
+-- flags and table entries of CLIF that are left out.
 use Rattle.std.specs.Prelude.{◌≡◌, ℕ, true, not, List, [], ◌∷◌, refl}
 use Rattle.std.specs.List.{filter}
 use Rattle.grammar.specs.Rules.{Rule, Opt, Many, Refuse, UnknownOpcode, Unsupported, member, good}

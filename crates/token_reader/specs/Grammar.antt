@@ -1,5 +1,5 @@
--- The grammar of items behind commas, types and numbers, as EBNF is written: `commas a` is `a { "," a }`. A type that is
--- left out is a rule too: its word is refused.
+-- The grammar of items behind commas, types and numbers, as EBNF is written: `commas a` is `a { "," a }`. A type that
+-- is left out is a rule too: its word is refused.
 use Rattle.std.specs.Prelude.{[], ◌∷◌}
 use Rattle.grammar.specs.Rules.{Rule, Many, Unsupported}
 use Rattle.clif_words.specs.declared.class.Class.TheVariants as classes

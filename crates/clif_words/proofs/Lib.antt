@@ -5,3 +5,4 @@ mod Places
 mod Values
 pub mod TextTokens
 pub mod Codes
+pub mod OpcodePlaces

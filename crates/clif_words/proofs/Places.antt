@@ -5,13 +5,9 @@ use Rattle.std.specs.List.{list_all}
 use Rattle.std.specs.Str.{bytes_eq}
 use Rattle.std.proofs.lemmas.Bool.{lt-ltb, ltb-true}
 use Rattle.std.proofs.lemmas.Slice.Eq.{bytes_eq-Decides}
-use Rattle.clif_words.specs.declared.items.Meaning.{Meaning}
-use Rattle.clif_words.specs.declared.opcodes.OpcodeRow.{OpcodeRow}
 use Rattle.clif_words.specs.declared.words.TheConstants.{PLACES, SHIFTS}
-use Rattle.clif_words.specs.declared.words.Entry.{Entry}
 use Rattle.clif_words.specs.Table.{Row, all_words}
-use Rattle.clif_words.specs.Opcodes.{rows_from}
-use Rattle.clif_words.specs.Words.{look_up, means, row_of}
+use Rattle.clif_words.specs.Words.{Meaning, look_up, means}
 
 pub both : (a b : Bool) → (a && b) ≡ true → (a ≡ true) × (b ≡ true)
 both true true e = (refl, refl)
@@ -115,35 +111,33 @@ pub short_word : (word : List ℕ) → length word < 2 → look_up all_words wor
 unfolding all_words
 short_word word short = look_up-none (λ word. nat_lt (length word) 2) all_words word refl (lt-ltb (length word) 2 short)
 
--- a word looked for in the row at a place
-one_row : (entries : List Entry) (n : ℕ) (d : Entry) → n < length entries → take 1 (drop n (map row_of entries)) ≡ row_of (get_or entries n d) ∷ []
-one_row [] n d below = absurd (omega arith)
-one_row (e ∷ es) zero d below = refl
-one_row (e ∷ es) (suc n) d below = one_row es n d (omega arith)
+-- a word looked for in the row at a place, of a table that is kept as rows of another type
+one_row : {A : Type 0} (row : A → Row) (table : List A) (n : ℕ) (d : A) → n < length table → take 1 (drop n (map row table)) ≡ row (get_or table n d) ∷ []
+one_row row [] n d below = absurd (omega arith)
+one_row row (x ∷ xs) zero d below = refl
+one_row row (x ∷ xs) (suc n) d below = one_row row xs n d (omega arith)
 
-pub look_up-row : (entries : List Entry) (n : ℕ) (d : Entry) (word : List ℕ) → n < length entries → look_up (row_of (get_or entries n d) ∷ []) word ≡ look_up (take 1 (drop n (map row_of entries))) word
-look_up-row entries n d word below = rw (one_row entries n d below) refl
+pub look_up-row : {A : Type 0} (row : A → Row) (table : List A) (n : ℕ) (d : A) (word : List ℕ) → n < length table → look_up (row (get_or table n d) ∷ []) word ≡ look_up (take 1 (drop n (map row table))) word
+look_up-row row table n d word below = rw (one_row row table n d below) refl
 
--- the row m of the opcodes, whose first has the number k
-opcode_row : (table : List OpcodeRow) (others : List Row) (k m n : ℕ) (d : OpcodeRow) → m ≡ k + n → n < length table
-    → take 1 (drop n (rows_from k table ++ others)) ≡ rows_from m (get_or table n d ∷ [])
-opcode_row [] others k m n d is below = absurd (omega arith)
-opcode_row (row ∷ table) others k m zero d is below = let e : m ≡ k = omega (arith, is) in rw e refl
-opcode_row (row ∷ table) others k m (suc n) d is below = opcode_row table others (k + 1) m n d (omega (arith, is)) (omega arith)
+-- a row of the first of two tables, and one of the second
+front_row : (table others : List Row) (n : ℕ) → n < length table → take 1 (drop n table) ≡ take 1 (drop n (table ++ others))
+front_row [] others n below = absurd (omega arith)
+front_row (x ∷ xs) others zero below = refl
+front_row (x ∷ xs) others (suc n) below = front_row xs others n (omega arith)
 
--- and one behind them
-row_behind : (table : List OpcodeRow) (others : List Row) (k m n : ℕ) → m ≡ length table + n → drop m (rows_from k table ++ others) ≡ drop n others
-row_behind [] others k m n is = let e : m ≡ n = omega (arith, is) in rw e refl
-row_behind (row ∷ table) others k zero n is = absurd (omega (arith, is))
-row_behind (row ∷ table) others k (suc m) n is = row_behind table others (k + 1) m n (omega (arith, is))
+row_behind : (table others : List Row) (m n : ℕ) → m ≡ length table + n → drop m (table ++ others) ≡ drop n others
+row_behind [] others m n is = let e : m ≡ n = omega (arith, is) in rw e refl
+row_behind (row ∷ table) others zero n is = absurd (omega (arith, is))
+row_behind (row ∷ table) others (suc m) n is = row_behind table others m n (omega (arith, is))
 
--- a word looked for in the row at a number, where the opcodes come first and other words behind them
-module _ (table : List OpcodeRow) (others all : List Row) (is : all ≡ rows_from 0 table ++ others) where
-  pub look_up-opcode : (n : ℕ) (d : OpcodeRow) (word : List ℕ) → n < length table → look_up (rows_from n (get_or table n d ∷ [])) word ≡ look_up (take 1 (drop n all)) word
-  look_up-opcode n d word below = rw (is, opcode_row table others 0 n n d (omega arith) below) refl
+-- a word looked for in the row at a number, where some rows come first and others behind them
+module _ (table others all : List Row) (is : all ≡ table ++ others) where
+  pub look_up-front : (n : ℕ) (word : List ℕ) → n < length table → look_up (take 1 (drop n table)) word ≡ look_up (take 1 (drop n all)) word
+  look_up-front n word below = rw (is, front_row table others n below) refl
 
-  pub look_up-other : (m n : ℕ) (word : List ℕ) → m ≡ length table + n → look_up (take 1 (drop n others)) word ≡ look_up (take 1 (drop m all)) word
-  look_up-other m n word at = rw (is, row_behind table others 0 m n at) refl
+  pub look_up-others : (m n : ℕ) (word : List ℕ) → m ≡ length table + n → look_up (take 1 (drop n others)) word ≡ look_up (take 1 (drop m all)) word
+  look_up-others m n word at = rw (is, row_behind table others m n at) refl
 
 -- two rows, one after the other
 pub two_rows : (table : List Row) (n : ℕ) (word : List ℕ) (m : Meaning) → look_up (take 1 (drop n table)) word ≡ Some m → look_up (take 2 (drop n table)) word ≡ Some m

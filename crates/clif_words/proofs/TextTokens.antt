@@ -1,5 +1,5 @@
 -- The tokens of a text are what the grammar may take them for.
-use Rattle.std.proofs.Common.{◌≡◌, ◌≢◌, ℕ, zero, suc, ◌+◌, ◌-◌, ◌==◌, ◌^◌, ◌<◌, ◌≤◌, Bool, true, false, not, ◌&&◌, ◌||◌, cond, nat_lt, List, [], ◌∷◌, ◌++◌, length, map, drop, Option, Some, None, Ok, refl, sym, ap, subst, ◌∙◌, arith}
+use Rattle.std.proofs.Common.{◌≡◌, ◌≢◌, ℕ, zero, suc, ◌+◌, ◌-◌, ◌==◌, ◌^◌, ◌<◌, ◌≤◌, Bool, true, false, not, ◌&&◌, ◌||◌, cond, nat_lt, List, [], ◌∷◌, ◌++◌, length, map, drop, Option, Some, None, Ok, refl, sym, subst, ◌∙◌, arith}
 use Rattle.std.specs.List.{list_all}
 use Rattle.std.specs.Str.{bytes_eq}
 use Rattle.std.proofs.lemmas.Bool.{ltb-true, eqb-true, eq-eqb}
@@ -9,7 +9,7 @@ use Rattle.clif_lex.specs.declared.spans.TokenKind.{TokenKind}
 use Rattle.clif_lex.specs.declared.spans.TokenKind.TheVariants as kinds
 use Rattle.clif_lex.specs.declared.spans.Token.{Token}
 use Rattle.clif_lex.specs.Bytes.{percent, is_word_byte, is_sign, first, second}
-use Rattle.clif_lex.specs.Numbers.{is_in_range, is_wide, spelled_number}
+use Rattle.clif_lex.specs.Numbers.{is_in_range, is_wide}
 use Rattle.clif_lex.specs.Spans.{spelling}
 use Rattle.clif_lex.specs.Lexing.{tokens_of}
 use Rattle.clif_lex.specs.Spelling.{IsTokenIn, StandFrom, spells}
@@ -17,13 +17,12 @@ use Rattle.clif_lex.proofs.Amounts.{wide}
 use Rattle.clif_lex.proofs.Readings.{tokens_stand}
 use Rattle.clif_words.specs.declared.class.Class.{Class}
 use Rattle.clif_words.specs.declared.class.Class.TheVariants as classes
-use Rattle.clif_words.specs.declared.items.Meaning.{Meaning}
 use Rattle.clif_words.specs.Classes.{code}
 use Rattle.clif_words.specs.Opcodes.{opcode_of}
 use Rattle.clif_words.specs.OpcodeForms.{form}
 use Rattle.clif_words.specs.Table.{Row, all_words}
-use Rattle.clif_words.specs.Words.{look_up, means, stems, refused_stems, is_refused, is_lanes, is_plain, stem, digits, digits_len, decimal_after, entity_number, of_stem, or_numbered, numbered_meaning, word_meaning}
-use Rattle.clif_words.specs.Lexemes.{mark_class, number_class, meaning_of, meaning, amount_of, is_number, name_of, lexeme, is_comment, lexemes}
+use Rattle.clif_words.specs.Words.{Meaning, look_up, means, stems, is_refused, is_lanes, is_plain, stem, digits, digits_len, decimal_after, entity_number, of_stem, or_numbered, numbered_meaning, word_meaning}
+use Rattle.clif_words.specs.Lexemes.{mark_class, number_class, meaning_of, amount_of, name_of, lexeme, is_comment, lexemes}
 use Rattle.clif_words.specs.TextTokens.{is_form, IsTextToken, RiseFrom, AreTextTokens}
 use Rattle.clif_words.proofs.Places.{both}
 

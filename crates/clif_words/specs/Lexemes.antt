@@ -12,9 +12,8 @@ use Rattle.clif_words.specs.declared.class.Class.{Class}
 use Rattle.clif_words.specs.declared.class.Class.TheVariants.{Header, Name, Unsigned, Signed, Srcloc, Arrow, Other}
 use Rattle.clif_words.specs.declared.class.Class.TheVariants.{LeftParen, RightParen, LeftBrace, RightBrace, LeftBracket}
 use Rattle.clif_words.specs.declared.class.Class.TheVariants.{RightBracket, Comma, Colon, Equals, Dot, Less, Greater}
-use Rattle.clif_words.specs.declared.items.Meaning.{Meaning}
 use Rattle.clif_words.specs.Classes.{code}
-use Rattle.clif_words.specs.Words.{means, word_meaning}
+use Rattle.clif_words.specs.Words.{Meaning, means, word_meaning}
 
 abbrev pub mark_class : ℕ → Class
 mark_class byte =

@@ -7,3 +7,4 @@ pub mod Opcodes
 pub mod OpcodeForms
 pub mod Printed
 pub mod TextTokens
+pub mod Seen

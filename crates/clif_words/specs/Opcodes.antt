@@ -1,5 +1,5 @@
 -- The opcodes in the order of the table, and how each is spelled.
-use Rattle.std.specs.Prelude.{ℕ, ◌+◌, List, [], ◌∷◌, codes, slice_get, Option, Some, None}
+use Rattle.std.specs.Prelude.{ℕ, List, [], ◌∷◌, codes, slice_get, Option, Some, None}
 use Rattle.clk_num.specs.declared.op.Cc.TheVariants as cc
 use Rattle.clk_num.specs.declared.op.Op.TheVariants as ops
 use Rattle.clk_num.specs.declared.width.Width.TheVariants as widths
@@ -18,8 +18,7 @@ use Rattle.clif_words.specs.declared.opcodes.Opcode.TheVariants.{Istore16, Istor
 use Rattle.clif_words.specs.declared.opcodes.Opcode.TheVariants.{Nop, SequencePoint, Jump, Brif, BrTable, Return, Trap}
 use Rattle.clif_words.specs.declared.opcodes.Opcode.TheVariants.{Trapz, Trapnz, Call, ReturnCall, TryCall, CallIndirect}
 use Rattle.clif_words.specs.declared.opcodes.Opcode.TheVariants.{ReturnCallIndirect, TryCallIndirect}
-use Rattle.clif_words.specs.declared.opcodes.OpcodeRow.{OpcodeRow}
-use Rattle.clif_words.specs.Table.{Row, imm_word}
+use Rattle.clif_words.specs.Table.{imm_word}
 
 -- each opcode once; its number is its place here
 abbrev pub all_opcodes : List Opcode
@@ -123,7 +122,84 @@ word CallIndirect = codes "call_indirect"
 word ReturnCallIndirect = codes "return_call_indirect"
 word TryCallIndirect = codes "try_call_indirect"
 
--- a row of the table of opcodes, as a row of the table of words, with its place for its number
-abbrev pub rows_from : ℕ → List OpcodeRow → List Row
-rows_from n [] = []
-rows_from n (row ∷ rows) = record { word = row.0.now; class = row.2; number = n } ∷ rows_from (n + 1) rows
+-- the number of the opcode, its place among them all
+abbrev pub place : Opcode → ℕ
+place Iconst = 0
+place Iadd = 1
+place Isub = 2
+place Imul = 3
+place Band = 4
+place Bor = 5
+place Bxor = 6
+place Smin = 7
+place Smax = 8
+place Umin = 9
+place Umax = 10
+place Umulhi = 11
+place Smulhi = 12
+place Udiv = 13
+place Urem = 14
+place Sdiv = 15
+place Srem = 16
+place Ishl = 17
+place Ushr = 18
+place Sshr = 19
+place Rotl = 20
+place Rotr = 21
+place UaddOverflow = 22
+place SaddOverflow = 23
+place UsubOverflow = 24
+place SsubOverflow = 25
+place Iconcat = 26
+place Ineg = 27
+place Bnot = 28
+place Iabs = 29
+place Clz = 30
+place Ctz = 31
+place Popcnt = 32
+place Bitrev = 33
+place Bswap = 34
+place Isplit = 35
+place Icmp = 36
+place Select = 37
+place Uextend = 38
+place Sextend = 39
+place Ireduce = 40
+place IaddImm = 41
+place ImulImm = 42
+place BandImm = 43
+place BorImm = 44
+place BxorImm = 45
+place IshlImm = 46
+place UshrImm = 47
+place SshrImm = 48
+place IcmpImm = 49
+place Load = 50
+place Uload8 = 51
+place Sload8 = 52
+place Uload16 = 53
+place Sload16 = 54
+place Uload32 = 55
+place Sload32 = 56
+place Store = 57
+place Istore8 = 58
+place Istore16 = 59
+place Istore32 = 60
+place StackLoad = 61
+place StackStore = 62
+place FuncAddr = 63
+place Nop = 64
+place SequencePoint = 65
+place Jump = 66
+place Brif = 67
+place BrTable = 68
+place Return = 69
+place Trap = 70
+place Trapz = 71
+place Trapnz = 72
+place Call = 73
+place ReturnCall = 74
+place TryCall = 75
+place CallIndirect = 76
+place ReturnCallIndirect = 77
+place TryCallIndirect = 78

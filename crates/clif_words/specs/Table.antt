@@ -45,6 +45,11 @@ abbrev pub numbered_each : List Group → List Row
 numbered_each [] = []
 numbered_each (g ∷ gs) = rows g.class 0 g.words ++ numbered_each gs
 
+-- words of one class that the grammar does not tell apart: each has the number 0
+abbrev pub alike : Class → List (List ℕ) → List Group
+alike class [] = []
+alike class (word ∷ words) = group class (word ∷ []) ∷ alike class words
+
 -- the opcode of an operation with an immediate number
 abbrev pub imm_word : Op → List ℕ
 imm_word op = op_word op ++ codes "_imm"
@@ -171,7 +176,7 @@ other_words =
     -- `i64`
     group TyI64 (type_word ty.I64 ∷ []) ∷
     -- a type of another kind
-    group RefusedType (codes "f16" ∷ codes "f32" ∷ codes "f64" ∷ codes "f128" ∷ codes "r32" ∷ codes "r64" ∷ []) ∷
+    (alike RefusedType (codes "f16" ∷ codes "f32" ∷ codes "f64" ∷ codes "f128" ∷ codes "r32" ∷ codes "r64" ∷ []) ++
     -- `uext` or `sext`
     group Ext (codes "uext" ∷ codes "sext" ∷ []) ∷
     -- `vmctx`, a purpose of a parameter and a memory flag
@@ -203,8 +208,9 @@ other_words =
     group Condition (condition_word cc.Eq ∷ condition_word cc.Ne ∷ condition_word cc.Slt ∷ condition_word cc.Sge
     ∷ condition_word cc.Sgt ∷ condition_word cc.Sle ∷ condition_word cc.Ult ∷ condition_word cc.Uge ∷
     condition_word cc.Ugt ∷ condition_word cc.Ule ∷ []) ∷
-    []
+    [])
 
 -- no word stands in it twice
 unfoldable pub all_words : List Row
-all_words = numbered_through 0 opcodes ++ rows RefusedOpcode 0 refused_opcodes ++ numbered_each other_words
+all_words =
+    numbered_through 0 opcodes ++ numbered_each (alike RefusedOpcode refused_opcodes) ++ numbered_each other_words

@@ -8,17 +8,15 @@ use Rattle.clif_lex.specs.Bytes.{first}
 use Rattle.clif_words.specs.declared.class.Class.{Class}
 use Rattle.clif_words.specs.declared.class.Class.TheVariants.{Block, Callee, Exn, Other, RefusedDecl, RefusedType, Ret}
 use Rattle.clif_words.specs.declared.class.Class.TheVariants.{Sig, Slot, Tag, UserName, UserTrap, Value}
-use Rattle.clif_words.specs.declared.words.Entry.{Entry}
-use Rattle.clif_words.specs.declared.items.Meaning.{Meaning}
-use Rattle.clif_words.specs.Table.{Row, group, rows, numbered_each, all_words}
+use Rattle.clif_words.specs.Table.{Row, group, alike, numbered_each, all_words}
 
 -- a class, and which of its words it is
+pub record Meaning : Type 0 where
+  pub class : Class
+  pub number : ℕ
+
 abbrev pub means : Class → ℕ → Meaning
 means class number = record { class = class; number = number }
-
--- a row of a table, as the code keeps it
-abbrev pub row_of : Entry → Row
-row_of e = record { word = e.0.now; class = e.1; number = e.2 }
 
 -- the first row of a table that has the word
 abbrev pub look_up : List Row → List ℕ → Option Meaning
@@ -42,9 +40,8 @@ stems = numbered_each (
 
 -- words that begin another declaration where a number follows them, which may have leading zeros
 unfoldable pub refused_stems : List Row
-refused_stems =
-    rows RefusedDecl 0 (codes "gv" ∷ codes "dss" ∷ codes "dt" ∷ codes "const" ∷ codes "heap" ∷ codes "table"
-    ∷ codes "userextname" ∷ [])
+refused_stems = numbered_each (alike RefusedDecl (
+    codes "gv" ∷ codes "dss" ∷ codes "dt" ∷ codes "const" ∷ codes "heap" ∷ codes "table" ∷ codes "userextname" ∷ []))
 
 unfoldable pub is_refused : List ℕ → Bool
 is_refused stem = is_some (look_up refused_stems stem)

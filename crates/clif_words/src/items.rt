@@ -1,36 +1,22 @@
 //! What tokens are to the grammar.
 
 ghost use Rattle.std.specs.Prelude.{◌≡◌, ◌+◌, ◌==◌, ◌&&◌, ◌||◌, not, ◌<◌, ◌≤◌, ◌^◌, List, [], ◌∷◌, length, take, drop};
-ghost use Rattle.std.specs.Prelude.{slice_get, IfSome, map};
+ghost use Rattle.std.specs.Prelude.{slice_get, option_map, IfSome, map};
 ghost use Rattle.std.specs.Str.{bytes_eq};
 ghost use Rattle.std.specs.Char.{digit_value, is_ascii_digit};
 ghost use Rattle.std.specs.List.{suffix_len, prefix_len};
 ghost use Rattle.clif_lex.specs.Bytes.{first, is_sign};
 ghost use Rattle.clif_lex.specs.Spelling.{AreIn};
 ghost use Rattle.clif_words.specs.declared.class.Class.TheVariants.{Value};
+ghost use Rattle.clif_words.specs.Seen.{seen, seen_word, entity_class, opcode_row, word_row, stem_row};
 ghost use Rattle.clif_words.specs.Table as table;
-ghost use Rattle.clif_words.specs.Opcodes as opcodes;
 ghost use Rattle.clif_words.specs.Words as words;
 ghost use Rattle.clif_words.specs.Lexemes as spec;
 
-use crate::class::Class;
+use crate::meanings::{Entity, Meaning, Word};
 use crate::opcodes::{OpcodeRow, opcode_rows};
 use crate::words::*;
 use clif_lex::{TokenKind, Tokens};
-
-/// What a token is to the grammar: its class, and which of the words of the class it is.
-#[derive(Clone, Copy, Debug)]
-pub struct Meaning {
-    pub class: Class,
-    pub number: u64,
-}
-
-#[inline]
-fn means(class: Class, number: u64) -> Meaning
-    ensures { result ≡ words.means class number }
-{
-    Meaning { class, number }
-}
 
 /// The byte at the front, or 0 in an empty text.
 #[inline]
@@ -59,63 +45,72 @@ fn spells(word: &[u8], spelling: &[u8]) -> bool
     true
 }
 
-/// The meaning of a word, if the row has it.
+/// What the word is, if the row has it.
 #[inline]
-fn row_meaning(row: &Entry, word: &[u8]) -> Option<Meaning>
-    ensures { result ≡ words.look_up (words.row_of row.now ∷ []) word.now }
+fn row_word(row: &Entry, word: &[u8]) -> Option<Word>
+    ensures { option_map seen_word result ≡ words.look_up (word_row row.now ∷ []) word.now }
 {
     if spells(row.0.as_bytes(), word) {
-        Some(means(row.1, row.2))
+        Some(row.1)
     } else {
         None
     }
 }
 
-/// The first row of the table that has the word.
+/// What the first row of the table that has the word says that it is.
 #[inline]
-fn look_up(table: &[Entry], word: &[u8]) -> Option<Meaning>
-    ensures { result ≡ words.look_up (map words.row_of table.now) word.now }
+fn look_up(table: &[Entry], word: &[u8]) -> Option<Word>
+    ensures { option_map seen_word result ≡ words.look_up (map word_row table.now) word.now }
 {
     for row in table {
         if spells(row.0.as_bytes(), word) {
-            return Some(means(row.1, row.2));
+            return Some(row.1);
         }
     }
     None
 }
 
-/// The meaning of a word, if the row at this place has it.
+/// What the word is, if the row at this place has it.
 #[inline]
-fn entry_meaning(entries: &[Entry], place: usize, word: &[u8]) -> Option<Meaning>
+fn entry_word(entries: &[Entry], place: usize, word: &[u8]) -> Option<Word>
     requires { place < length entries.now }
-    ensures { result ≡ words.look_up (take 1 (drop place (map words.row_of entries.now))) word.now }
+    ensures { option_map seen_word result ≡ words.look_up (take 1 (drop place (map word_row entries.now))) word.now }
 {
-    row_meaning(&entries[place], word)
+    row_word(&entries[place], word)
 }
 
-/// The meaning of a word, if the opcode with this number is spelled so.
+/// The opcode that the word is, if the row has it.
 #[inline]
-fn opcode_meaning(row: &OpcodeRow, number: usize, word: &[u8]) -> Option<Meaning>
-    ensures { result ≡ words.look_up (opcodes.rows_from number (row.now ∷ [])) word.now }
+fn row_opcode(row: &OpcodeRow, word: &[u8]) -> Option<Word>
+    ensures { option_map seen_word result ≡ words.look_up (opcode_row row.now ∷ []) word.now }
 {
     if spells(row.0.as_bytes(), word) {
-        Some(means(row.2, number as u64))
+        Some(Word::Opcode(row.1))
     } else {
         None
     }
 }
 
-/// The meaning of a word, if the row with this number has it: the opcodes come first, behind them the other words.
+/// The opcode that the word is, if the row at this place has it.
 #[inline]
-fn meaning_at(number: usize, word: &[u8]) -> Option<Meaning>
+fn opcode_word(opcodes: &[OpcodeRow], place: usize, word: &[u8]) -> Option<Word>
+    requires { place < length opcodes.now }
+    ensures { option_map seen_word result ≡ words.look_up (take 1 (drop place (map opcode_row opcodes.now))) word.now }
+{
+    row_opcode(&opcodes[place], word)
+}
+
+/// What the word is, if the row with this number has it: the opcodes come first, behind them the other words.
+#[inline]
+fn word_at(number: usize, word: &[u8]) -> Option<Word>
     requires { number < length table.all_words }
-    ensures { result ≡ words.look_up (take 1 (drop number table.all_words)) word.now }
+    ensures { option_map seen_word result ≡ words.look_up (take 1 (drop number table.all_words)) word.now }
 {
     let opcodes = opcode_rows();
     if number < opcodes.len() {
-        opcode_meaning(&opcodes[number], number, word)
+        opcode_word(opcodes, number, word)
     } else {
-        entry_meaning(&WORDS, number - opcodes.len(), word)
+        entry_word(&WORDS, number - opcodes.len(), word)
     }
 }
 
@@ -134,18 +129,18 @@ fn row_number(word: &[u8]) -> usize
     PLACES[(sum / 64 + shift) % 256] as usize
 }
 
-/// The meaning of a word that has one of its own.
+/// What a word is that stands in the tables.
 #[inline]
-fn own_meaning(word: &[u8]) -> Option<Meaning>
-    ensures { result ≡ words.look_up table.all_words word.now }
+fn own_word(word: &[u8]) -> Option<Word>
+    ensures { option_map seen_word result ≡ words.look_up table.all_words word.now }
 {
     if word.len() < 2 {
         return None;
     }
     let number = row_number(word);
-    match meaning_at(number, word) {
-        Some(meaning) => Some(meaning),
-        None => meaning_at(number + 1, word),
+    match word_at(number, word) {
+        Some(found) => Some(found),
+        None => word_at(number + 1, word),
     }
 }
 
@@ -223,11 +218,24 @@ fn is_lanes(stem: &[u8]) -> bool
     }
 }
 
-/// The class of the words that a number makes of the stem.
-fn entity(stem: &[u8]) -> Option<Meaning>
-    ensures { result ≡ words.look_up words.stems stem.now }
+/// What the first row of the table that has the stem says that its words name.
+fn entity_in(table: &[Stem], stem: &[u8]) -> Option<Entity>
+    ensures { option_map (λ e. words.means (entity_class e) 0) result
+        ≡ words.look_up (map stem_row table.now) stem.now }
 {
-    look_up(&STEMS, stem)
+    for row in table {
+        if spells(row.0.as_bytes(), stem) {
+            return Some(row.1);
+        }
+    }
+    None
+}
+
+/// What the words name that a number makes of the stem.
+fn entity(stem: &[u8]) -> Option<Entity>
+    ensures { option_map (λ e. words.means (entity_class e) 0) result ≡ words.look_up words.stems stem.now }
+{
+    entity_in(&STEMS, stem)
 }
 
 /// Whether the stem and a number begin another declaration.
@@ -237,29 +245,29 @@ fn is_refused(stem: &[u8]) -> bool
     look_up(&REFUSED_STEMS, stem).is_some()
 }
 
-/// The meaning of a word with a number behind it.
+/// What a word with a number behind it is.
 #[tactic(auto, unfolding(crate::specs::Words::numbered_meaning))]
-fn numbered_meaning(word: &[u8]) -> Meaning
-    ensures { result ≡ words.numbered_meaning word.now }
+fn numbered_word(word: &[u8]) -> Word
+    ensures { seen_word result ≡ words.numbered_meaning word.now }
 {
     let count = digits_len(word);
     if count == 0 {
-        return means(Class::Other, 0);
+        return Word::Other;
     }
     let (stem, digits) = word.split_at(word.len() - count);
     if let Some(entity) = entity(stem) {
         return if is_plain(digits) {
-            means(entity.class, entity_number(digits))
+            Word::Entity(entity, entity_number(digits))
         } else {
-            means(Class::Other, 0)
+            Word::Other
         };
     }
     if is_refused(stem) {
-        means(Class::RefusedDecl, 0)
+        Word::RefusedDecl
     } else if is_lanes(stem) {
-        means(Class::RefusedType, 0)
+        Word::RefusedType
     } else {
-        means(Class::Other, 0)
+        Word::Other
     }
 }
 
@@ -281,75 +289,75 @@ fn value_number(digits: &[u8]) -> Option<u64>
     Some(number)
 }
 
-/// The meaning of a word, whatever it is.
+/// What a word is, whatever it is.
 #[tactic(auto, unfolding(crate::specs::Words::word_meaning))]
-fn any_meaning(word: &[u8]) -> Meaning
-    ensures { result ≡ words.word_meaning word.now }
+fn any_word(word: &[u8]) -> Word
+    ensures { seen_word result ≡ words.word_meaning word.now }
 {
-    match own_meaning(word) {
-        Some(meaning) => meaning,
-        None => numbered_meaning(word),
+    match own_word(word) {
+        Some(found) => found,
+        None => numbered_word(word),
     }
 }
 
-/// The meaning of a word.
+/// What a word is to the grammar.
 #[inline]
-pub fn word_meaning(word: &[u8]) -> Meaning
-    ensures { result ≡ words.word_meaning word.now }
+pub fn word_meaning(word: &[u8]) -> Word
+    ensures { seen_word result ≡ words.word_meaning word.now }
 {
     match word.split_first() {
         Some((letter, digits)) if *letter == b'v' => match value_number(digits) {
-            Some(number) => means(Class::Value, number),
-            None => any_meaning(word),
+            Some(number) => Word::Entity(Entity::Value, number),
+            None => any_word(word),
         },
-        _ => any_meaning(word),
+        _ => any_word(word),
     }
 }
 
-fn mark_class(byte: u8) -> Class
-    ensures { result ≡ spec.mark_class byte }
+fn mark(byte: u8) -> Meaning
+    ensures { seen result ≡ words.means (spec.mark_class byte) 0 }
 {
     match byte {
-        b'(' => Class::LeftParen,
-        b')' => Class::RightParen,
-        b'{' => Class::LeftBrace,
-        b'}' => Class::RightBrace,
-        b'[' => Class::LeftBracket,
-        b']' => Class::RightBracket,
-        b',' => Class::Comma,
-        b':' => Class::Colon,
-        b'=' => Class::Equals,
-        b'.' => Class::Dot,
-        b'<' => Class::Less,
-        b'>' => Class::Greater,
-        _ => Class::Other,
+        b'(' => Meaning::LeftParen,
+        b')' => Meaning::RightParen,
+        b'{' => Meaning::LeftBrace,
+        b'}' => Meaning::RightBrace,
+        b'[' => Meaning::LeftBracket,
+        b']' => Meaning::RightBracket,
+        b',' => Meaning::Comma,
+        b':' => Meaning::Colon,
+        b'=' => Meaning::Equals,
+        b'.' => Meaning::Dot,
+        b'<' => Meaning::Less,
+        b'>' => Meaning::Greater,
+        _ => Meaning::Other,
     }
 }
 
-fn number_class(number: &[u8]) -> Class
-    ensures { result ≡ spec.number_class number.now }
+fn number(spelling: &[u8]) -> Meaning
+    ensures { seen result ≡ words.means (spec.number_class spelling.now) 0 }
 {
-    match front(number) {
-        b'+' | b'-' => Class::Signed,
-        _ => Class::Unsigned,
+    match front(spelling) {
+        b'+' | b'-' => Meaning::Signed,
+        _ => Meaning::Unsigned,
     }
 }
 
-/// The meaning of a token of the text.
+/// What a token of the text is to the grammar.
 #[inline]
 pub fn token_meaning(text: &[u8], tokens: &Tokens, i: usize) -> Meaning
     requires inside { AreIn text.now tokens.now }
     requires below { i < length tokens.now }
-    ensures { IfSome (slice_get tokens.now i) (λ token. result ≡ spec.meaning text.now token) }
+    ensures { IfSome (slice_get tokens.now i) (λ token. seen result ≡ spec.meaning text.now token) }
 {
     match tokens.get(i).kind {
-        TokenKind::Header => means(Class::Header, 0),
-        TokenKind::Comment => means(Class::Other, 0),
-        TokenKind::Name => means(Class::Name, 0),
-        TokenKind::Word => word_meaning(tokens.spelling(text, i)),
-        TokenKind::Number => means(number_class(tokens.spelling(text, i)), 0),
-        TokenKind::Srcloc => means(Class::Srcloc, 0),
-        TokenKind::Arrow => means(Class::Arrow, 0),
-        TokenKind::Mark(byte) => means(mark_class(byte), 0),
+        TokenKind::Header => Meaning::Header,
+        TokenKind::Comment => Meaning::Other,
+        TokenKind::Name => Meaning::Name,
+        TokenKind::Word => Meaning::Word(word_meaning(tokens.spelling(text, i))),
+        TokenKind::Number => number(tokens.spelling(text, i)),
+        TokenKind::Srcloc => Meaning::Srcloc,
+        TokenKind::Arrow => Meaning::Arrow,
+        TokenKind::Mark(byte) => mark(byte),
     }
 }

@@ -4,10 +4,12 @@
 mod class;
 mod items;
 pub mod laws;
+mod meanings;
 mod opcodes;
 mod words;
 
 pub use class::Class;
-pub use items::{Meaning, token_meaning, word_meaning};
-pub use opcodes::{OPCODES, Opcode, OpcodeRow, opcode_at, opcode_of, opcode_rows};
-pub use words::Entry;
+pub use items::{token_meaning, word_meaning};
+pub use meanings::{Entity, Extension, Flag, Meaning, NamedTrap, Word};
+pub use opcodes::{OPCODES, Opcode, OpcodeRow, opcode_rows};
+pub use words::{Entry, Stem};

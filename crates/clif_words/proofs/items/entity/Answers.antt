@@ -3,4 +3,4 @@ use Rattle.clif_words.proofs.items.entity.Goals as goal
 
 pub returns : goal.returns
 unfolding stems
-returns c = c.look_up.ensures
+returns c = c.entity_in.ensures

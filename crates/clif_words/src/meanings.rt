@@ -1,0 +1,241 @@
+//! What words and tokens are to the grammar.
+
+ghost use Rattle.std.specs.Prelude.{◌≡◌};
+ghost use Rattle.clif_words.specs.Seen as spec;
+
+use crate::class::Class;
+use crate::opcodes::Opcode;
+use clk_num::Cc;
+use ir_core::{Conv, Ty};
+
+/// How a parameter or a result is extended.
+#[derive(Clone, Copy, Debug, PartialEq, Eq)]
+pub enum Extension {
+    Uext,
+    Sext,
+}
+
+/// A flag of a memory access but `little`, `big` and `vmctx`.
+#[derive(Clone, Copy, Debug, PartialEq, Eq)]
+pub enum Flag {
+    Notrap,
+    Aligned,
+    Readonly,
+    CanMove,
+    Heap,
+    Table,
+}
+
+/// A trap code but `userN`.
+#[derive(Clone, Copy, Debug, PartialEq, Eq)]
+pub enum NamedTrap {
+    StkOvf,
+    IntOvf,
+    HeapOob,
+    IntDivz,
+    BadToint,
+}
+
+/// What a word with a number behind it names.
+#[derive(Clone, Copy, Debug, PartialEq, Eq)]
+pub enum Entity {
+    /// `vN`.
+    Value,
+    /// `blockN`.
+    Block,
+    /// `ssN`.
+    Slot,
+    /// `sigN`.
+    Sig,
+    /// `fnN`.
+    Callee,
+    /// `tagN`.
+    Tag,
+    /// `retN`.
+    Ret,
+    /// `exnN`.
+    Exn,
+    /// `uN`, the first part of a name.
+    UserName,
+    /// `userN`, a trap code.
+    UserTrap,
+}
+
+impl Entity {
+    /// The class of the words that name one.
+    #[inline]
+    pub fn class(self) -> Class
+        ensures { result ≡ spec.entity_class self }
+    {
+        match self {
+            Entity::Value => Class::Value,
+            Entity::Block => Class::Block,
+            Entity::Slot => Class::Slot,
+            Entity::Sig => Class::Sig,
+            Entity::Callee => Class::Callee,
+            Entity::Tag => Class::Tag,
+            Entity::Ret => Class::Ret,
+            Entity::Exn => Class::Exn,
+            Entity::UserName => Class::UserName,
+            Entity::UserTrap => Class::UserTrap,
+        }
+    }
+}
+
+/// What a word is to the grammar.
+#[derive(Clone, Copy, Debug, PartialEq, Eq)]
+pub enum Word {
+    Opcode(Opcode),
+    /// An opcode of another kind.
+    RefusedOpcode,
+    /// `function`.
+    Function,
+    /// A calling convention.
+    Conv(Conv),
+    /// A type.
+    Ty(Ty),
+    /// A type of another kind.
+    RefusedType,
+    /// `uext` or `sext`.
+    Ext(Extension),
+    /// `vmctx`, a purpose of a parameter and a memory flag.
+    Vmctx,
+    /// `sret`.
+    Sret,
+    /// `explicit_slot`.
+    ExplicitSlot,
+    /// `align`.
+    Align,
+    /// `colocated`.
+    Colocated,
+    /// The word of another declaration.
+    RefusedDecl,
+    /// `default`.
+    Default,
+    /// `context`.
+    Context,
+    /// A memory flag but `little`, `big` and `vmctx`.
+    Flag(Flag),
+    /// `little`.
+    Little,
+    /// `big`.
+    Big,
+    /// A trap code but `userN`.
+    TrapCode(NamedTrap),
+    /// A condition of `icmp`.
+    Condition(Cc),
+    /// A word and its number, as `v7`. A number above 2^64 - 1 is taken as that.
+    Entity(Entity, u64),
+    /// Any other word.
+    Other,
+}
+
+impl Word {
+    /// The class of the word.
+    #[inline]
+    pub fn class(self) -> Class
+        ensures { result ≡ (spec.seen_word self).class }
+    {
+        match self {
+            Word::Opcode(opcode) => opcode.form(),
+            Word::RefusedOpcode => Class::RefusedOpcode,
+            Word::Function => Class::Function,
+            Word::Conv(Conv::Cold) => Class::Cold,
+            Word::Conv(_) => Class::Conv,
+            Word::Ty(Ty::I64) => Class::TyI64,
+            Word::Ty(_) => Class::Ty,
+            Word::RefusedType => Class::RefusedType,
+            Word::Ext(_) => Class::Ext,
+            Word::Vmctx => Class::Vmctx,
+            Word::Sret => Class::Sret,
+            Word::ExplicitSlot => Class::ExplicitSlot,
+            Word::Align => Class::Align,
+            Word::Colocated => Class::Colocated,
+            Word::RefusedDecl => Class::RefusedDecl,
+            Word::Default => Class::Default,
+            Word::Context => Class::Context,
+            Word::Flag(_) => Class::Flag,
+            Word::Little => Class::Little,
+            Word::Big => Class::Big,
+            Word::TrapCode(_) => Class::TrapCode,
+            Word::Condition(_) => Class::Condition,
+            Word::Entity(entity, _) => entity.class(),
+            Word::Other => Class::Other,
+        }
+    }
+}
+
+/// What a token is to the grammar.
+#[derive(Clone, Copy, Debug, PartialEq, Eq)]
+pub enum Meaning {
+    Word(Word),
+    /// A line of a filetest's head.
+    Header,
+    /// `%` and a name.
+    Name,
+    /// A number without a sign.
+    Unsigned,
+    /// A number with a sign.
+    Signed,
+    /// A source location.
+    Srcloc,
+    /// `->`.
+    Arrow,
+    /// `(`.
+    LeftParen,
+    /// `)`.
+    RightParen,
+    /// `{`.
+    LeftBrace,
+    /// `}`.
+    RightBrace,
+    /// `[`.
+    LeftBracket,
+    /// `]`.
+    RightBracket,
+    /// `,`.
+    Comma,
+    /// `:`.
+    Colon,
+    /// `=`.
+    Equals,
+    /// `.`.
+    Dot,
+    /// `<`.
+    Less,
+    /// `>`.
+    Greater,
+    /// Any other token.
+    Other,
+}
+
+impl Meaning {
+    /// The class of the token.
+    #[inline]
+    pub fn class(self) -> Class
+        ensures { result ≡ (spec.seen self).class }
+    {
+        match self {
+            Meaning::Word(word) => word.class(),
+            Meaning::Header => Class::Header,
+            Meaning::Name => Class::Name,
+            Meaning::Unsigned => Class::Unsigned,
+            Meaning::Signed => Class::Signed,
+            Meaning::Srcloc => Class::Srcloc,
+            Meaning::Arrow => Class::Arrow,
+            Meaning::LeftParen => Class::LeftParen,
+            Meaning::RightParen => Class::RightParen,
+            Meaning::LeftBrace => Class::LeftBrace,
+            Meaning::RightBrace => Class::RightBrace,
+            Meaning::LeftBracket => Class::LeftBracket,
+            Meaning::RightBracket => Class::RightBracket,
+            Meaning::Comma => Class::Comma,
+            Meaning::Colon => Class::Colon,
+            Meaning::Equals => Class::Equals,
+            Meaning::Dot => Class::Dot,
+            Meaning::Less => Class::Less,
+            Meaning::Greater => Class::Greater,
+            Meaning::Other => Class::Other,
+        }
+    }
+}

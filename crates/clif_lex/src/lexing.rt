@@ -107,7 +107,7 @@ fn any_number_at(at: usize, text: &[u8]) -> Result<Token, LexErr>
 
 /// How many digits stand at the front.
 #[inline]
-fn digit_run(text: &[u8]) -> usize
+pub fn digit_run(text: &[u8]) -> usize
     ensures len { result ≡ prefix_len is_ascii_digit text.now }
     ensures within { result ≤ length text.now }
 {

@@ -11,8 +11,8 @@ mod places;
 mod spans;
 
 pub use faults::{LexErr, Place, TextErr, TextKind};
-pub use lexing::{tokens, tokens_between};
+pub use lexing::{digit_run, tokens, tokens_between};
 pub use lines::next_line_with;
-pub use numbers::number;
+pub use numbers::{digit, number};
 pub use places::place;
 pub use spans::{Token, TokenIter, TokenKind, Tokens, spelling};

@@ -12,7 +12,7 @@ use crate::spans::{Token, spelling};
 
 /// The value of a digit or a letter, or 36 for any other byte.
 #[inline]
-fn digit(c: u8) -> u64
+pub fn digit(c: u8) -> u64
     ensures value { result ≡ digit_value c }
     ensures small { result ≤ 36 }
 {

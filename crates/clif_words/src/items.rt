@@ -3,8 +3,6 @@
 ghost use Rattle.std.specs.Prelude.{◌≡◌, ◌+◌, ◌==◌, ◌&&◌, ◌||◌, not, ◌<◌, ◌≤◌, ◌^◌, List, [], ◌∷◌, length, take, drop};
 ghost use Rattle.std.specs.Prelude.{slice_get, option_map, IfSome, map};
 ghost use Rattle.std.specs.Str.{bytes_eq};
-ghost use Rattle.std.specs.Char.{digit_value, is_ascii_digit};
-ghost use Rattle.std.specs.List.{suffix_len, prefix_len};
 ghost use Rattle.clif_lex.specs.Bytes.{first, is_sign};
 ghost use Rattle.clif_lex.specs.Spelling.{AreIn};
 ghost use Rattle.clif_words.specs.declared.class.Class.TheVariants.{Value};
@@ -16,7 +14,7 @@ ghost use Rattle.clif_words.specs.Lexemes as spec;
 use crate::meanings::{Entity, Meaning, Word};
 use crate::opcodes::{OpcodeRow, opcode_rows};
 use crate::words::*;
-use clif_lex::{TokenKind, Tokens};
+use clif_lex::{TokenKind, Tokens, digit, digit_run};
 
 /// The byte at the front, or 0 in an empty text.
 #[inline]
@@ -144,20 +142,6 @@ fn own_word(word: &[u8]) -> Option<Word>
     }
 }
 
-/// The value of a digit or a letter, or 36 for any other byte.
-#[inline]
-fn digit(c: u8) -> u64
-    ensures value { result ≡ digit_value c }
-    ensures small { result ≤ 36 }
-{
-    match c {
-        b'0'..=b'9' => (c - b'0') as u64,
-        b'A'..=b'Z' => (c - b'A') as u64 + 10,
-        b'a'..=b'z' => (c - b'a') as u64 + 10,
-        _ => 36,
-    }
-}
-
 #[tactic(auto, unfolding(crate::specs::Words::entity_number))]
 /// The number that digits write, or `u64::MAX` where it is above that.
 fn entity_number(digits: &[u8]) -> u64
@@ -180,15 +164,6 @@ fn is_plain(digits: &[u8]) -> bool
     ensures { result ≡ words.is_plain digits.now }
 {
     front(digits) != b'0' || digits.len() == 1
-}
-
-/// How many digits stand at the front.
-#[inline]
-fn digit_run(text: &[u8]) -> usize
-    ensures len { result ≡ prefix_len is_ascii_digit text.now }
-    ensures within { result ≤ length text.now }
-{
-    text.iter().take_while(|c| c.is_ascii_digit()).count()
 }
 
 /// How many digits stand at the end.

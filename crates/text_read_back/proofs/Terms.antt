@@ -18,12 +18,11 @@ use Rattle.ir_text.specs.TextInstructions as text
 use Rattle.ir_text.specs.Words.{type_word}
 use Rattle.clif_words.specs.declared.class.Class.{Class}
 use Rattle.clif_words.specs.declared.class.Class.TheVariants as classes
-use Rattle.clif_words.specs.declared.items.Meaning.{Meaning}
 use Rattle.clif_words.specs.Classes.{code}
 use Rattle.clif_words.specs.Lexemes.{number_class}
 use Rattle.clif_words.specs.Table.{all_words}
 use Rattle.clif_words.specs.Terminals.{one, signed}
-use Rattle.clif_words.specs.Words.{word_meaning}
+use Rattle.clif_words.specs.Words.{Meaning, word_meaning}
 use Rattle.token_reader.specs.declared.raw.RawName.{RawName}
 use Rattle.token_reader.specs.declared.raw.RawNumber.{RawNumber}
 use Rattle.token_reader.specs.declared.raw.RawOpcode.{RawOpcode}

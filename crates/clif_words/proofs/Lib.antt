@@ -6,3 +6,4 @@ mod Values
 pub mod TextTokens
 pub mod Codes
 pub mod OpcodePlaces
+pub mod Told

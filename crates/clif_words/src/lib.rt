@@ -12,4 +12,3 @@ pub use class::Class;
 pub use items::{token_meaning, word_meaning};
 pub use meanings::{Entity, Extension, Flag, Meaning, NamedTrap, Word};
 pub use opcodes::{OPCODES, Opcode, OpcodeRow, opcode_rows};
-pub use words::{Entry, Stem};

@@ -85,6 +85,7 @@ impl Entity {
 /// What a word is to the grammar.
 #[derive(Clone, Copy, Debug, PartialEq, Eq)]
 pub enum Word {
+    /// An opcode that is read.
     Opcode(Opcode),
     /// An opcode of another kind.
     RefusedOpcode,
@@ -168,6 +169,7 @@ impl Word {
 /// What a token is to the grammar.
 #[derive(Clone, Copy, Debug, PartialEq, Eq)]
 pub enum Meaning {
+    /// A word.
     Word(Word),
     /// A line of a filetest's head.
     Header,

@@ -6,3 +6,5 @@ mod Values
 pub mod TextTokens
 pub mod Codes
 pub mod OpcodePlaces
+pub mod ByClass
+pub mod Numbers

@@ -7,4 +7,3 @@ pub mod TextTokens
 pub mod Codes
 pub mod OpcodePlaces
 pub mod ByClass
-pub mod Numbers

@@ -192,7 +192,6 @@ impl Word {
     }
 
     /// The number in the word of an entity; of another word, which of its class it is.
-    #[tactic(auto, using(crate::proofs::Numbers::tag_opcode, crate::proofs::Numbers::tag_extension, crate::proofs::Numbers::tag_flag, crate::proofs::Numbers::tag_trap, crate::proofs::Numbers::tag_condition))]
     #[inline]
     pub fn number(self) -> u64
         ensures { result ≡ (spec.seen_word self).number }

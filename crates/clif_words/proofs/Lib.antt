@@ -6,4 +6,7 @@ mod Values
 pub mod TextTokens
 pub mod Codes
 pub mod OpcodePlaces
-pub mod Told
+<<<<<<< HEAD
+=======
+pub mod ByClass
+>>>>>>> a7a76a041c91b3bdacd1a26684c34d1039dfa29a

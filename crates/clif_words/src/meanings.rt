@@ -82,8 +82,35 @@ impl Entity {
     }
 }
 
+/// Which of its class the word of a calling convention is.
+fn convention_number(convention: Conv) -> u64
+    ensures { result ≡ (spec.seen_convention convention).number }
+{
+    match convention {
+        Conv::Fast | Conv::Cold => 0,
+        Conv::Tail => 1,
+        Conv::SystemV => 2,
+        Conv::WindowsFastcall => 3,
+        Conv::AppleAarch64 => 4,
+        Conv::Probestack => 5,
+        Conv::Winch => 6,
+    }
+}
+
+/// Which of its class the word of a type is.
+fn type_number(ty: Ty) -> u64
+    ensures { result ≡ (spec.seen_type ty).number }
+{
+    match ty {
+        Ty::I8 | Ty::I64 => 0,
+        Ty::I16 => 1,
+        Ty::I32 => 2,
+        Ty::I128 => 3,
+    }
+}
+
 /// What a word is to the grammar.
-#[derive(Clone, Copy, Debug, PartialEq, Eq)]
+#[derive(Clone, Copy, Debug)]
 pub enum Word {
     /// An opcode that is read.
     Opcode(Opcode),
@@ -164,10 +191,28 @@ impl Word {
             Word::Other => Class::Other,
         }
     }
+
+    /// The number in the word of an entity; of another word, which of its class it is.
+    #[inline]
+    pub fn number(self) -> u64
+        ensures { result ≡ (spec.seen_word self).number }
+    {
+        match self {
+            Word::Opcode(opcode) => opcode as u64,
+            Word::Conv(convention) => convention_number(convention),
+            Word::Ty(ty) => type_number(ty),
+            Word::Ext(extension) => extension as u64,
+            Word::Flag(flag) => flag as u64,
+            Word::TrapCode(code) => code as u64,
+            Word::Condition(condition) => condition as u64,
+            Word::Entity(_, number) => number,
+            _ => 0,
+        }
+    }
 }
 
 /// What a token is to the grammar.
-#[derive(Clone, Copy, Debug, PartialEq, Eq)]
+#[derive(Clone, Copy, Debug)]
 pub enum Meaning {
     /// A word.
     Word(Word),
@@ -238,6 +283,17 @@ impl Meaning {
             Meaning::Less => Class::Less,
             Meaning::Greater => Class::Greater,
             Meaning::Other => Class::Other,
+        }
+    }
+
+    /// The number in the word of an entity; of another token, which of its class it is.
+    #[inline]
+    pub fn number(self) -> u64
+        ensures { result ≡ (spec.seen self).number }
+    {
+        match self {
+            Meaning::Word(word) => word.number(),
+            _ => 0,
         }
     }
 }

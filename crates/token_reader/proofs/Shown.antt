@@ -3,11 +3,13 @@ use Rattle.std.proofs.Common.{◌≡◌, ℕ, ◌<◌, ◌≤◌, Bool, true, fa
 use Rattle.std.proofs.lemmas.Bool.{ltb-false, ltb-true}
 use Rattle.grammar.specs.Rules.{Lexeme, heads_any}
 use Rattle.clif_lex.specs.declared.spans.Token.{Token}
-use Rattle.clif_words.specs.declared.items.Meaning.{Meaning}
+use Rattle.clif_words.specs.declared.class.Class.{Class}
+use Rattle.clif_words.specs.Classes.{code}
+use Rattle.clif_words.specs.Seen.{seen}
 use Rattle.clif_words.specs.Lexemes.{lexeme, lexemes, is_comment, Upcoming}
-use Rattle.clif_words.specs.Words.{means}
+use Rattle.clif_words.specs.Words.{Meaning, means}
 use Rattle.token_reader.specs.declared.reader.Next.{Next}
-use Rattle.token_reader.specs.Next.{spot_or}
+use Rattle.token_reader.specs.Next.{spot_or, Tells}
 use Rattle.token_reader.specs.Shown.{IsOf, Shows}
 use Rattle.token_reader.proofs.Views.{drop_some, drop_past, some_at, takes}
 
@@ -39,25 +41,36 @@ left_is text ts i end next within shows = go (nat_lt i end) refl
     go false e = sym (left_none text (take end ts) i (let le = ltb-false i end e in let len = length-take end ts in omega arith))
 
 -- what the next token is
-pub shown_some : (text : List ℕ) (ts : List Token) (next : Next) → Shows text ts next → heads_any (lexemes text ts) ≡ true → Upcoming text ts (Some (means next.class next.number))
+pub shown_some : (text : List ℕ) (ts : List Token) (next : Next) → Shows text ts next → heads_any (lexemes text ts) ≡ true → Upcoming text ts (Some (means next.class (seen next.meaning).number))
 unfolding lexemes
 shown_some text [] next shows left = absurd cc
-shown_some text (t ∷ ts) next shows left = (shows.0, ap Some (sym shows.1.0))
+shown_some text (t ∷ ts) next shows left = (shows.0, ap Some (ap (λ (class : Class). means class (seen next.meaning).number) shows.1.1 ∙ sym shows.1.0))
 
 pub shown_none : (text : List ℕ) (ts : List Token) (next : Next) → Shows text ts next → heads_any (lexemes text ts) ≡ false → Upcoming text ts None
 unfolding lexemes
 shown_none text [] next shows left = refl
 shown_none text (t ∷ ts) next shows left = absurd (let e : true ≡ false = rw (shows.0) at left in cc)
 
-pub front_shown : (text : List ℕ) (ts : List Token) (next : Next) (x : Lexeme) (xs : List Lexeme) → Shows text ts next → lexemes text ts ≡ x ∷ xs → (next.number ≡ x.number) × (next.spot ≡ x.spot)
+pub front_shown : (text : List ℕ) (ts : List Token) (next : Next) (x : Lexeme) (xs : List Lexeme) → Shows text ts next → lexemes text ts ≡ x ∷ xs → ((seen next.meaning).number ≡ x.number) × (next.spot ≡ x.spot)
 unfolding lexemes
 front_shown text [] next x xs shows e = absurd cc
 front_shown text (t ∷ ts) next x xs shows e =
     let whole : lexeme text t ∷ lexemes text ts ≡ x ∷ xs = rw (shows.0) at e in
     let head : lexeme text t ≡ x = cc in
-    (ap (λ (z : Meaning). z.number) (sym shows.1.0) ∙ ap (λ (z : Lexeme). z.number) head, sym shows.1.1 ∙ ap (λ (z : Lexeme). z.spot) head)
+    (ap (λ (z : Meaning). z.number) (sym shows.1.0) ∙ ap (λ (z : Lexeme). z.number) head, sym shows.1.2 ∙ ap (λ (z : Lexeme). z.spot) head)
 
 pub spot_shown : (text : List ℕ) (ts : List Token) (next : Next) (end : ℕ) → Shows text ts next → heads_any (lexemes text ts) ≡ true → next.spot ≡ spot_or end (lexemes text ts)
 unfolding lexemes
 spot_shown text [] next end shows left = absurd cc
-spot_shown text (t ∷ ts) next end shows left = rw (shows.0) (sym shows.1.1)
+spot_shown text (t ∷ ts) next end shows left = rw (shows.0) (sym shows.1.2)
+
+-- what is kept tells what the next token is
+pub shown_tells : (text : List ℕ) (ts : List Token) (next : Next) → Shows text ts next → heads_any (lexemes text ts) ≡ true → Tells (Some next.meaning) (lexemes text ts)
+unfolding lexemes
+shown_tells text [] next shows left = absurd cc
+shown_tells text (t ∷ ts) next shows left =
+    rw (shows.0) (lexeme text t, lexemes text ts, refl, ap (λ (z : Meaning). code z.class) shows.1.0, ap (λ (z : Meaning). z.number) shows.1.0)
+
+pub tells_none : (ts : List Lexeme) → heads_any ts ≡ false → Tells None ts
+tells_none [] left = refl
+tells_none (x ∷ xs) left = absurd cc

@@ -4,7 +4,7 @@ use Rattle.std.proofs.lemmas.Option.{slice_get_within, get_or_from_slice_get, sl
 use Rattle.grammar.specs.Rules.{Lexeme, heads, member}
 use Rattle.clif_lex.specs.declared.spans.Token.{Token}
 use Rattle.clif_words.specs.declared.class.Class.{Class}
-use Rattle.clif_words.specs.declared.items.Meaning.{Meaning}
+use Rattle.clif_words.specs.Words.{Meaning}
 use Rattle.clif_words.specs.Classes.{code}
 use Rattle.clif_words.specs.Lexemes.{lexeme, lexemes, is_comment, is_number, amount_of, meaning, Upcoming}
 use Rattle.clif_lex.specs.declared.spans.TokenKind.{TokenKind}

@@ -1,7 +1,7 @@
 -- What the trees of the grammar mean, one definition a rule: what is made of others, types and numbers.
 use Rattle.std.specs.Prelude.{List, ◌∷◌, map, Option, Some, None, Ok, Err, ◌⊎◌}
 use Rattle.std.proofs.Common.{inl, inr}
-use Rattle.grammar.specs.Rules.{Lexeme, Rule, Opt, Tree, Out}
+use Rattle.grammar.specs.Rules.{Rule, Opt, Tree, Out}
 use Rattle.ir_core.specs.declared.signatures.Ty.{Ty}
 use Rattle.ir_core.specs.declared.signatures.Ty.TheVariants as ty_words
 use Rattle.token_reader.specs.declared.raw.RawNumber.{RawNumber}

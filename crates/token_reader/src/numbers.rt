@@ -28,10 +28,7 @@ pub fn number(reader: &mut Reader<'_>) -> Result<RawNumber, Stop>
 
 /// An offset, if there is one, behind a pointer: so an instruction is no larger for it.
 #[tactic(auto, unfolding(crate::specs::Numbers::offset_at))]
-pub fn offset(
-    alloc: Global,
-    reader: &mut Reader<'_>,
-) -> Result<Option<Boxed<RawNumber>>, Stop>
+pub fn offset(alloc: Global, reader: &mut Reader<'_>) -> Result<Option<Boxed<RawNumber>>, Stop>
     ensures is { Gives same reader.new result (spec.offset_at reader.old) }
     ensures shorter { IfOk result (λ _. length reader.new ≤ length reader.old) }
 {

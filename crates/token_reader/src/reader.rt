@@ -1,15 +1,16 @@
 //! The tokens of a text, read one after the other.
 
 ghost use Rattle.std.specs.Prelude.{◌≡◌, ◌≢◌, ℕ, not, List, ◌∷◌, [], ◌<◌, ◌≤◌, length, take, drop, slice_get};
-ghost use Rattle.std.specs.Prelude.{slice_range, false, IfOk, IfErr, IfSome};
+ghost use Rattle.std.specs.Prelude.{slice_range, true, false, IfOk, IfErr, IfSome};
 ghost use Rattle.grammar.specs.Rules.{Lexeme, heads, heads_any};
 ghost use Rattle.clif_lex.specs.Spelling.{AreIn};
 ghost use Rattle.clif_words.specs.Classes.{code};
 ghost use Rattle.clif_words.specs.Lexemes.{lexemes};
 ghost use Rattle.clif_words.specs.Lexemes as lexeme_specs;
+ghost use Rattle.clif_words.specs.TextTokens.{is_form};
 ghost use Rattle.token_reader.specs.declared.stop.Stop.TheVariants.{NoMemory};
 ghost use Rattle.token_reader.specs.Names as names;
-ghost use Rattle.token_reader.specs.Next.{is_among};
+ghost use Rattle.token_reader.specs.Next.{is_among, Tells};
 ghost use Rattle.token_reader.specs.Next as next;
 ghost use Rattle.token_reader.specs.Reading as spec;
 ghost use Rattle.token_reader.specs.Reading.{Gives, same};
@@ -18,7 +19,7 @@ ghost use Rattle.token_reader.specs.Shown.{IsOf, Shows};
 use crate::raw::{RawName, RawNumber, RawOpcode, RawText};
 use crate::stop::Stop;
 use clif_lex::{TokenKind, Tokens};
-use clif_words::{Class, opcode_of, token_meaning};
+use clif_words::{Class, Meaning, Word, token_meaning};
 use ir_core::List;
 use std::alloc::Global;
 use std::marker::Model;
@@ -28,9 +29,9 @@ use std::marker::Model;
 struct Next {
     /// Its place in the list, or where the reader ends.
     at: usize,
+    /// The class of its meaning, which is asked most.
     class: Class,
-    /// Which of the words of its class it is.
-    number: u64,
+    meaning: Meaning,
     /// Its first byte.
     spot: usize,
 }
@@ -110,8 +111,8 @@ fn keep(next: &mut Next, text: &[u8], tokens: &Tokens, at: usize)
     let spot = tokens.get(at).start;
     let meaning = token_meaning(text, tokens, at);
     next.at = at;
-    next.class = meaning.class;
-    next.number = meaning.number;
+    next.class = meaning.class();
+    next.meaning = meaning;
     next.spot = spot;
 }
 
@@ -156,7 +157,7 @@ impl<'a> Reader<'a> {
         let mut next = Next {
             at: end,
             class: Class::Other,
-            number: 0,
+            meaning: Meaning::Other,
             spot: 0,
         };
         find(&mut next, text, tokens, from, end);
@@ -225,6 +226,18 @@ impl<'a> Reader<'a> {
         }
     }
 
+    /// What the next token is, if there is one.
+    #[inline]
+    pub fn next_meaning(&self) -> Option<Meaning>
+        ensures { Tells result self.now }
+    {
+        if self.is_left() {
+            Some(self.next.meaning)
+        } else {
+            None
+        }
+    }
+
     /// Whether no token is left.
     #[inline]
     pub fn is_at_end(&self) -> bool
@@ -247,7 +260,7 @@ impl<'a> Reader<'a> {
         ensures { (x : Lexeme) (xs : List Lexeme) → self.now ≡ x ∷ xs → result ≡ spec.name x }
     {
         RawName {
-            number: self.next.number,
+            number: self.next.meaning.number(),
             spot: self.next.spot,
         }
     }
@@ -293,7 +306,7 @@ impl<'a> Reader<'a> {
 
     /// Passes over the next token.
     #[inline]
-    fn advance(&mut self)
+    pub fn advance(&mut self)
         requires { self.old ≢ [] }
         ensures { self.new ≡ drop 1 self.old }
     {
@@ -317,19 +330,25 @@ impl<'a> Reader<'a> {
         }
     }
 
-    /// The opcode that a token of this class is.
-    #[tactic(auto, unfolding(crate::specs::Reading::opcode_at))]
+    /// The opcode that a token of this class, the class of a form, is.
     #[inline]
     pub fn take_opcode(&mut self, class: Class) -> Result<RawOpcode, Stop>
+        requires form { is_form (code class) ≡ true }
         ensures is { Gives same self.new result (spec.opcode_at class self.old) }
         ensures no_memory { IfErr result (λ e. e ≢ NoMemory) }
         ensures shorter { IfOk result (λ _. length self.new < length self.old) }
     {
-        let word = self.take(class)?;
-        Ok(RawOpcode {
-            kind: opcode_of(word.number),
-            spot: word.spot,
-        })
+        if !self.next_is(class) {
+            return Err(Stop::Syntax);
+        }
+        match self.next_meaning() {
+            Some(Meaning::Word(Word::Opcode(kind))) => {
+                let spot = self.next.spot;
+                self.advance();
+                Ok(RawOpcode { kind, spot })
+            }
+            _ => Err(Stop::Syntax),
+        }
     }
 
     /// The number that a token of this class spells.

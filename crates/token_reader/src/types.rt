@@ -1,6 +1,6 @@
 //! Types and suffixes.
 
-ghost use Rattle.std.specs.Prelude.{◌≡◌, ◌≢◌, ◌<◌, ◌≤◌, length, IfOk, IfErr};
+ghost use Rattle.std.specs.Prelude.{◌≢◌, ◌<◌, ◌≤◌, length, IfOk, IfErr};
 ghost use Rattle.token_reader.specs.declared.stop.Stop.TheVariants.{NoMemory};
 ghost use Rattle.token_reader.specs.Reading.{Gives, same};
 ghost use Rattle.token_reader.specs.Types as spec;
@@ -8,20 +8,8 @@ ghost use Rattle.token_reader.specs.Types as spec;
 use crate::raw::RawName;
 use crate::reader::Reader;
 use crate::stop::Stop;
-use clif_words::Class;
+use clif_words::{Class, Meaning, Word};
 use ir_core::Ty;
-
-/// A type but `i64`, by its place among the words of its class.
-fn type_of(number: u64) -> Ty
-    ensures { result ≡ spec.type_of number }
-{
-    match number {
-        0 => Ty::I8,
-        1 => Ty::I16,
-        2 => Ty::I32,
-        _ => Ty::I128,
-    }
-}
 
 /// A type.
 #[tactic(auto, unfolding(crate::specs::Types::type_at))]
@@ -30,18 +18,13 @@ pub fn any_type(reader: &mut Reader<'_>) -> Result<Ty, Stop>
     ensures no_memory { IfErr result (λ e. e ≢ NoMemory) }
     ensures shorter { IfOk result (λ _. length reader.new < length reader.old) }
 {
-    if reader.next_is(Class::Ty) {
-        let word = reader.take(Class::Ty)?;
-        Ok(type_of(word.number))
-    } else if reader.next_is(Class::TyI64) {
-        reader.take(Class::TyI64)?;
-        Ok(Ty::I64)
-    } else {
-        Err(if reader.next_is(Class::RefusedType) {
-            Stop::Unsupported
-        } else {
-            Stop::Syntax
-        })
+    match reader.next_meaning() {
+        Some(Meaning::Word(Word::Ty(ty))) => {
+            reader.advance();
+            Ok(ty)
+        }
+        Some(Meaning::Word(Word::RefusedType)) => Err(Stop::Unsupported),
+        _ => Err(Stop::Syntax),
     }
 }
 

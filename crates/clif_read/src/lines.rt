@@ -56,7 +56,7 @@ fn give_to_last(lines: &mut Vec<RawLine>, values: List<RawName>)
 
 /// `-> vN`
 #[tactic(auto, unfolding(crate::specs::Lines::alias_at))]
-fn alias(
+fn add_alias(
     reader: &mut Reader<'_>,
     lines: &mut Vec<RawLine>,
     location: Option<usize>,
@@ -79,7 +79,7 @@ fn alias(
 
 /// The results behind the first one, and their instruction.
 #[tactic(auto, unfolding(crate::specs::Lines::results_at))]
-fn results(
+fn add_results_line(
     alloc: Global,
     reader: &mut Reader<'_>,
     lines: &mut Vec<RawLine>,
@@ -105,7 +105,7 @@ fn results(
 
 /// What begins with a value: an alias, or results and their instruction.
 #[tactic(auto, unfolding(crate::specs::Lines::named_at))]
-fn named(
+fn add_named_line(
     alloc: Global,
     reader: &mut Reader<'_>,
     lines: &mut Vec<RawLine>,
@@ -117,9 +117,9 @@ fn named(
 {
     let first = reader.take(Class::Value)?;
     if reader.next_is(Class::Arrow) {
-        alias(reader, lines, location, first)
+        add_alias(reader, lines, location, first)
     } else {
-        results(alloc, reader, lines, location, first)
+        add_results_line(alloc, reader, lines, location, first)
     }
 }
 
@@ -209,7 +209,7 @@ fn add_located_line(
     ensures shorter { IfOk result (λ _. length reader.new < length reader.old) }
 {
     if reader.next_is(Class::Value) {
-        named(alloc, reader, lines, Some(spot))
+        add_named_line(alloc, reader, lines, Some(spot))
     } else if reader.next_is(Class::Less) {
         add_tagged_line(alloc, reader, lines, Some(spot))
     } else {
@@ -220,7 +220,7 @@ fn add_located_line(
 
 /// A line that does not begin with a value.
 #[tactic(auto, unfolding(crate::specs::Lines::other_line_at))]
-fn other_line(
+fn add_other_line(
     alloc: Global,
     reader: &mut Reader<'_>,
     lines: &mut Vec<RawLine>,
@@ -270,7 +270,7 @@ fn add_values_or_inst(
 
 /// A first value, and those behind it.
 #[tactic(auto, unfolding(crate::specs::Lines::values_or_results_at))]
-fn values_or_results(
+fn add_values_or_results(
     alloc: Global,
     reader: &mut Reader<'_>,
     lines: &mut Vec<RawLine>,
@@ -287,7 +287,7 @@ fn values_or_results(
 
 /// What begins with a value behind a `return`.
 #[tactic(auto, unfolding(crate::specs::Lines::named_or_values_at))]
-fn named_or_values(
+fn add_named_or_values(
     alloc: Global,
     reader: &mut Reader<'_>,
     lines: &mut Vec<RawLine>,
@@ -297,16 +297,16 @@ fn named_or_values(
 {
     let first = reader.take(Class::Value)?;
     if reader.next_is(Class::Arrow) {
-        alias(reader, lines, None, first)
+        add_alias(reader, lines, None, first)
     } else {
-        values_or_results(alloc, reader, lines, first)
+        add_values_or_results(alloc, reader, lines, first)
     }
 }
 
 /// Puts a line behind the others, or behind a `return` its values into it. Tells whether the next line may be values:
 /// this one is a `return`.
 #[tactic(auto, unfolding(crate::specs::Lines::line_at))]
-fn line(
+fn add_line(
     alloc: Global,
     reader: &mut Reader<'_>,
     lines: &mut Vec<RawLine>,
@@ -316,11 +316,11 @@ fn line(
     ensures shorter { IfOk result (λ _. length reader.new < length reader.old) }
 {
     if !reader.next_is(Class::Value) {
-        other_line(alloc, reader, lines)
+        add_other_line(alloc, reader, lines)
     } else if after_return {
-        named_or_values(alloc, reader, lines)
+        add_named_or_values(alloc, reader, lines)
     } else {
-        named(alloc, reader, lines, None)
+        add_named_line(alloc, reader, lines, None)
     }
 }
 
@@ -350,7 +350,7 @@ pub(crate) fn block_lines(alloc: Global, reader: &mut Reader<'_>) -> Result<Vec<
     let mut list = Vec::with_capacity(alloc, FIRST_ROOM)?;
     let mut after_return = false;
     'lines: while begins_line(reader) {
-        after_return = line(alloc, reader, &mut list, after_return)?;
+        after_return = add_line(alloc, reader, &mut list, after_return)?;
     }
     list.shrink_to_fit();
     Ok(list)

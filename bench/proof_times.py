@@ -1,0 +1,56 @@
+#!/usr/bin/env python3
+"""Which functions of a crate cost the prover most.
+
+    python3 bench/proof_times.py CRATE [HOW_MANY]
+
+Checks the crate with one job, and prints the lines of its progress before which most of the processor's time passed:
+the time, in seconds, and the function that was finished then. A function that takes long often needs an answer by hand,
+where the search tries much, or a `fn` in the place of a `const` of enums. What an earlier check of the same text kept
+is not checked again, here or in another checkout: remove `out/`, or change a comment.
+"""
+
+import os
+import subprocess
+import sys
+
+TICKS = os.sysconf('SC_CLK_TCK')
+
+
+def processor_time(folder):
+    """Seconds of the processor that the processes of this folder have taken."""
+    total = 0
+    for process in os.listdir('/proc'):
+        if not process.isdigit():
+            continue
+        try:
+            if os.readlink('/proc/%s/cwd' % process) != folder:
+                continue
+            with open('/proc/%s/stat' % process) as stat:
+                fields = stat.read().rsplit(')', 1)[1].split()
+            total += sum(int(field) for field in fields[11:15])
+        except OSError:
+            continue
+    return total / TICKS
+
+
+def main():
+    crate = sys.argv[1]
+    most = int(sys.argv[2]) if len(sys.argv) > 2 else 20
+    root = os.path.dirname(os.path.dirname(os.path.abspath(__file__)))
+    folder = os.path.join(root, 'crates', crate)
+    rows = []
+    with subprocess.Popen(['rt', 'check', '--jobs', '1', '--progress'], cwd=folder, stdout=subprocess.PIPE,
+                          stderr=subprocess.STDOUT, text=True) as check:
+        before = processor_time(folder)
+        for line in check.stdout:
+            now = processor_time(folder)
+            rows.append((now - before, line.strip()))
+            before = now
+    print(rows[-1][1] if rows else 'nothing was printed')
+    print('%.0f seconds of the processor' % sum(max(time, 0) for time, _ in rows))
+    for time, line in sorted(rows, reverse=True)[:most]:
+        print('%7.1f  %s' % (time, line))
+
+
+if __name__ == '__main__':
+    main()

@@ -1,0 +1,6 @@
+use Rattle.std.proofs.Common.{ap}
+use Rattle.clap.specs.Words.{App}
+use Rattle.settings.proofs.command_table.plain_command.Goals as goal
+
+pub returns : goal.returns
+returns c = (ap (λ (a : App). a.top) c.new.ensures.app, c.new.ensures.local)

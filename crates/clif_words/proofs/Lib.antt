@@ -6,4 +6,3 @@ mod Values
 pub mod TextTokens
 pub mod Codes
 pub mod OpcodePlaces
-pub mod ByClass

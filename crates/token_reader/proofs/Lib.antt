@@ -6,6 +6,4 @@ pub mod Views
 pub mod Names
 pub mod Ends
 pub mod Shown
-pub mod Told
-pub mod TypeWords
 pub mod Opcodes

@@ -12,7 +12,7 @@ use clif_words::{Class, Meaning, Word};
 use ir_core::Ty;
 
 /// A type.
-#[tactic(auto, unfolding(crate::specs::Types::type_at))]
+#[tactic(auto, unfolding(crate::specs::Types::type_at, crate::specs::Reading::name_at))]
 pub fn any_type(reader: &mut Reader<'_>) -> Result<Ty, Stop>
     ensures is { Gives same reader.new result (spec.type_at reader.old) }
     ensures no_memory { IfErr result (λ e. e ≢ NoMemory) }

@@ -10,8 +10,7 @@ use Rattle.clif_lex.specs.Numbers.{spelled_number}
 use Rattle.clif_lex.specs.Spans.{spelling}
 use Rattle.clif_words.specs.declared.class.Class.{Class}
 use Rattle.clif_words.specs.declared.class.Class.TheVariants as words
-use Rattle.clif_words.specs.declared.items.Meaning.{Meaning}
-use Rattle.clif_words.specs.Words.{word_meaning}
+use Rattle.clif_words.specs.Words.{Meaning, word_meaning}
 use Rattle.clk_num.specs.Numbers.{fits, wrapped}
 use Rattle.script_text.specs.declared.symbol.Symbol.{Symbol}
 use Rattle.script_text.specs.declared.terminal.Terminal.{Terminal}

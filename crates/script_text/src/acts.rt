@@ -9,11 +9,11 @@ ghost use Rattle.script_text.specs.Values.{trap_of};
 use crate::reader::Reader;
 use crate::terminal::Terminal;
 use crate::values::{payload, returned};
-use token_reader::Stop;
 use clk_num::TrapCode;
 use host_script::Act;
 use ir_core::List;
 use std::alloc::Global;
+use token_reader::Stop;
 
 /// A trap code but `userN`, by its place among them.
 fn trap_code_at(number: u64) -> TrapCode

@@ -9,8 +9,8 @@ ghost use Rattle.script_text.specs.Reading as spec;
 
 use crate::symbol::Symbol;
 use crate::terminal::Terminal;
-use token_reader::Stop;
 use std::marker::Model;
+use token_reader::Stop;
 
 /// The tokens that are still to be read. Contracts see them as the grammar does.
 #[derive(Drop)]

@@ -9,10 +9,10 @@ use crate::acts::act;
 use crate::reader::Reader;
 use crate::terminal::Terminal;
 use crate::writes::writes;
-use token_reader::{Stop, one_item};
 use host_script::Reply;
 use ir_core::List;
 use std::alloc::Global;
+use token_reader::{Stop, one_item};
 
 /// What a reply does, and its writes behind it.
 #[tactic(auto, unfolding(crate::specs::Reading::reply_at))]

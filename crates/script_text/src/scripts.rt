@@ -14,12 +14,12 @@ use crate::reader::Reader;
 use crate::replies::replies;
 use crate::symbols::lexed;
 use crate::values::numbers;
-use token_reader::Stop;
 use host_script::{Reply, Script};
 use ir_core::List;
 use std::alloc::{AllocError, AllocFailed, Global};
 use std::error::Error;
 use std::fmt;
+use token_reader::Stop;
 
 /// Why a text is not read.
 #[derive(Clone, Copy, Debug, PartialEq, Eq)]

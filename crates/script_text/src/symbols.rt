@@ -3,6 +3,7 @@
 ghost use Rattle.std.specs.Prelude.{◌≡◌, ◌<◌, ◌≤◌, ◌≢◌, length, map, take, Ok, IfOk, IfErr, IfSome, slice_get};
 ghost use Rattle.clif_lex.specs.Lexing.{tokens_of};
 ghost use Rattle.clif_lex.specs.Spelling.{AreIn};
+ghost use Rattle.clif_words.specs.Seen.{seen_word};
 ghost use Rattle.script_text.specs.declared.scripts.ScriptErr.TheVariants.{NoMemory};
 ghost use Rattle.script_text.specs.Lexed as lexed;
 ghost use Rattle.script_text.specs.Symbols as spec;
@@ -11,7 +12,7 @@ use crate::scripts::ScriptErr;
 use crate::symbol::Symbol;
 use crate::terminal::Terminal;
 use clif_lex::{LexErr, TokenKind, Tokens, tokens};
-use clif_words::{Class, Meaning, word_meaning};
+use clif_words::{Class, Word, word_meaning};
 use clk_num::{Bits, Width};
 use std::alloc::{AllocError, Global};
 
@@ -64,20 +65,20 @@ fn tag(number: u64, spot: usize) -> Symbol
 }
 
 /// A word that CLIF has too.
-fn clif_word(meaning: Meaning, spot: usize) -> Symbol
-    ensures { spec.lexeme_of result ≡ spec.by_meaning meaning spot }
+fn clif_word(word: Word, spot: usize) -> Symbol
+    ensures { spec.lexeme_of result ≡ spec.by_meaning (seen_word word) spot }
 {
-    match meaning.class {
+    match word.class() {
         Class::Return => plain(Terminal::Return, spot),
         Class::Trap => plain(Terminal::Trap, spot),
         Class::TrapCode => Symbol {
             terminal: Terminal::TrapCode,
-            number: meaning.number,
+            number: word.number(),
             amount: 0,
             spot,
         },
-        Class::UserTrap => user_trap(meaning.number, spot),
-        Class::Tag => tag(meaning.number, spot),
+        Class::UserTrap => user_trap(word.number(), spot),
+        Class::Tag => tag(word.number(), spot),
         _ => plain(Terminal::Other, spot),
     }
 }

@@ -8,8 +8,8 @@ ghost use Rattle.script_text.specs.Reading as spec;
 use crate::reader::Reader;
 use crate::symbol::Symbol;
 use crate::terminal::Terminal;
-use token_reader::{Stop, one_item};
 use std::alloc::Global;
+use token_reader::{Stop, one_item};
 
 /// A number that is not negative.
 #[tactic(auto, unfolding(crate::specs::Reading::address_at))]

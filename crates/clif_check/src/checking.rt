@@ -11,9 +11,9 @@ use crate::stretches::read_module;
 use check_workers::check_by_workers;
 use clif_lex::{TextErr, TextKind};
 use clif_read::{RawModule, read_text_alone};
-use read_workers::STRETCH;
 use clif_resolve::{Places, meaning};
 use ir_check::{CheckErr, CheckKind, Checked, Rejected, check};
+use read_workers::STRETCH;
 use std::alloc::Global;
 use std::thread::Threads;
 

@@ -14,9 +14,9 @@ use crate::operations::{access, stored_bytes};
 use crate::targets::flags;
 use crate::words::WordNumbers;
 use clif_insts::RawFlag;
-use token_reader::{RawName, RawNumber};
 use clif_words::Opcode;
 use ir_core::{Boxed, Inst, Ty};
+use token_reader::{RawName, RawNumber};
 
 /// A load, `ty` being its type.
 pub fn load(

@@ -11,9 +11,9 @@ ghost use Rattle.clif_meaning.specs.Instructions as spec;
 use crate::targets::{target, targets};
 use crate::words::WordNumbers;
 use clif_insts::RawTarget;
-use token_reader::RawName;
 use ir_core::{Boxed, Inst};
 use std::alloc::{AllocError, Global};
+use token_reader::RawName;
 
 /// A branch by a condition, to `taken` where it is not zero.
 pub fn brif(

@@ -11,10 +11,10 @@ ghost use Rattle.clif_meaning.specs.Instructions as spec;
 use crate::targets::{table, target, values};
 use crate::words::WordNumbers;
 use clif_insts::{RawEntry, RawTarget};
-use token_reader::RawName;
 use clif_words::Opcode;
 use ir_core::{Boxed, FuncRef, Inst, SigRef, Value, Values};
 use std::alloc::{AllocError, Global};
+use token_reader::RawName;
 
 /// A call of a callee declaration.
 pub fn call(opcode: Opcode, callee: FuncRef, args: Values) -> Inst

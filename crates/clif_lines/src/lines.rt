@@ -11,12 +11,12 @@ use crate::instructions::instruction;
 use crate::targets::{tags, values};
 use crate::words::WordNumbers;
 use clif_insts::{RawInst, RawOperands};
-use token_reader::RawName;
 use clif_names::gives_type;
 use clif_read::RawTag;
 use clif_words::Opcode;
 use ir_core::{InstData, Ty};
 use std::alloc::{AllocError, Global};
+use token_reader::RawName;
 
 /// Whether the suffix of the instruction's form may be left out.
 fn may_leave_out(opcode: Opcode, operands: &RawOperands) -> bool

@@ -8,9 +8,9 @@ ghost use Rattle.clif_lines.specs.Keeping.{AllKeep, Keeps};
 ghost use Rattle.clif_meaning.specs.Meaning as spec;
 
 use clif_insts::RawTrap;
-use token_reader::{RawName, RawNumber};
 use clk_num::TrapCode;
 use ir_core::Boxed;
+use token_reader::{RawName, RawNumber};
 
 /// The number of a word.
 #[inline]

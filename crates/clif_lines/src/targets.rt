@@ -9,12 +9,12 @@ ghost use Rattle.clif_meaning.specs.Instructions as spec;
 use crate::narrowing::{entity_number, word_number};
 use crate::words::WordNumbers;
 use clif_insts::{RawArg, RawEntry, RawFlag, RawTarget};
-use token_reader::RawName;
 use clif_read::RawTag;
 use debug_tags::{Tag, Tags};
 use exn_tables::{Entry, Table};
 use ir_core::{Arg, BlockCall, Flags, List, Values};
 use std::alloc::{AllocError, Global};
+use token_reader::RawName;
 
 /// The values of words. Up to two take no memory but the list's own.
 pub fn values(

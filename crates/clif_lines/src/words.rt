@@ -2,9 +2,9 @@
 ghost use Rattle.std.specs.Prelude.{◌≡◌};
 ghost use Rattle.clif_lines.specs.WordNumbers.{AreSmall, numbers_in};
 
-use token_reader::RawName;
 use clif_names::FunctionNames;
 use ir_core::{Block, FuncRef, SigRef, Slot, Value};
+use token_reader::RawName;
 
 /// The number of each word of a function. A word without a definition has the number behind all.
 #[derive(Drop)]

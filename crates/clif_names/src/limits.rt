@@ -4,10 +4,10 @@ ghost use Rattle.clif_names.specs.Limits as limits;
 ghost use Rattle.clif_names.specs.Noting as spec;
 ghost use Rattle.ir_core.specs.Lookup.{width_of};
 
-use token_reader::{RawName, RawNumber};
 use clk_num::{Bits, Width};
 use ir_core::Ty;
 use name_tables::earlier_spot;
+use token_reader::{RawName, RawNumber};
 
 /// What a number is the number of.
 #[derive(Clone, Copy, Debug, PartialEq, Eq)]

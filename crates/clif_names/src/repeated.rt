@@ -6,11 +6,11 @@ ghost use Rattle.clif_names.specs.NameSets.{AddsName, Has, IsEmptySet, inserted,
 ghost use Rattle.indexmap.specs.IndexSet.{keys};
 ghost use Rattle.std.specs.List.{list_any};
 
-use token_reader::RawNumber;
 use clif_read::{RawFuncName, RawFunction};
 use indexmap::IndexSet;
 use name_tables::earlier_spot;
 use std::alloc::{AllocError, Global};
+use token_reader::RawNumber;
 
 /// The names of the functions so far.
 #[derive(Drop)]

@@ -6,12 +6,12 @@ ghost use Rattle.clif_names.specs.Using as spec;
 use crate::limits::{Limit, note, note_maybe, of_number, of_word};
 use crate::typing::asks;
 use clif_insts::{RawArg, RawEntry, RawInst, RawOperands, RawTarget, RawTrap};
-use token_reader::{RawName, RawNumber};
 use clif_read::{
     RawBlock, RawBlockParam, RawCalleeSig, RawDecl, RawFuncName, RawFunction, RawLine, RawTag,
 };
 use ir_core::{Boxed, Ty};
 use name_tables::{End, Names, earlier_spot};
+use token_reader::{RawName, RawNumber};
 
 /// The words of a function by kind, with the first faults of its uses.
 #[derive(Drop)]

@@ -8,10 +8,11 @@ ghost use Rattle.clif_read.specs.DeclarationValues as values;
 ghost use Rattle.clif_read.specs.Attributes as spec;
 
 use crate::raw::RawAttribute;
-use token_reader::{Reader, Stop, one_item};
 use clif_words::{Class, Extension, Meaning, Word};
 use std::alloc::Global;
+use token_reader::{Reader, Stop, one_item};
 
+/// The attribute that an extension is.
 fn raw_extension(extension: Extension) -> RawAttribute
     ensures { result ≡ values.ext_of (extension_place extension) }
 {

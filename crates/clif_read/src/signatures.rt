@@ -6,10 +6,10 @@ ghost use Rattle.clif_read.specs.Signatures as spec;
 
 use crate::attributes::attributes;
 use crate::raw::{RawParam, RawSignature};
-use token_reader::{Items, Reader, Stop, any_type, joined_by_commas};
 use clif_words::{Class, Meaning, Word};
 use ir_core::{Conv, List};
 use std::alloc::Global;
+use token_reader::{Items, Reader, Stop, any_type, joined_by_commas};
 
 /// A parameter or a result.
 #[tactic(auto, unfolding(crate::specs::Signatures::param_at))]

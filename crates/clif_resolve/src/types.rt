@@ -8,12 +8,12 @@ ghost use Rattle.clif_meaning.specs.Meaning.{types_for};
 
 use crate::forms::{FormTypes, form_results};
 use clif_insts::RawInst;
-use token_reader::RawName;
 use clif_lines::WordNumbers;
 use clif_names::gives_type;
 use clif_read::{RawBlock, RawBlockParam, RawLine};
 use ir_core::{Func, Ty, Value};
 use std::alloc::{AllocError, Global};
+use token_reader::RawName;
 
 /// The type of a value, and `i8` where it has none.
 fn type_at(types: &[Ty], value: Value) -> Ty

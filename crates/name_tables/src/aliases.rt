@@ -6,8 +6,8 @@ use crate::firsts::Def;
 use crate::links::{End, Link};
 use crate::spots::earlier_spot;
 use crate::words::Words;
-use token_reader::RawName;
 use std::alloc::{AllocError, Global};
+use token_reader::RawName;
 
 /// What stands behind a definition: a value, or the place of the word that it stands for.
 fn link_to(words: &Words, target: Option<RawName>) -> Link

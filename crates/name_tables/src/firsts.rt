@@ -1,9 +1,9 @@
 //! The first definitions of values, in order.
 ghost use Rattle.std.specs.Prelude.{◌≡◌, ◌++◌, ◌∷◌, [], length, OnOk};
 
-use token_reader::RawName;
 use std::alloc::{AllocError, Global};
 use std::marker::Model;
+use token_reader::RawName;
 
 /// A definition of a value, and the word that it stands for where it is an alias line.
 #[derive(Clone, Copy, Debug)]

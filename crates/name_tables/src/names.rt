@@ -4,8 +4,8 @@ ghost use Rattle.name_tables.specs.Taking as spec;
 
 use crate::spots::earlier_spot;
 use crate::words::Words;
-use token_reader::RawName;
 use std::alloc::{AllocError, Global};
+use token_reader::RawName;
 
 /// The greatest number that a word may have.
 const GREATEST_NUMBER: u64 = 4_294_967_294;

@@ -5,9 +5,9 @@ ghost use Rattle.name_tables.specs.Defining as spec;
 
 use crate::firsts::{Def, Firsts};
 use crate::names::Names;
-use token_reader::RawName;
 use clif_read::{RawBlock, RawBlockParam, RawDecl, RawFunction, RawLine};
 use std::alloc::{AllocError, Global};
+use token_reader::RawName;
 
 /// The words that a function defines, by kind, with the first faults among them.
 #[derive(Drop)]

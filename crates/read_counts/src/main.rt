@@ -6,8 +6,8 @@
 
 use clif_lex::{TextErr, tokens};
 use clif_read::RawModule;
-use read_workers::{read_raw, read_text};
 use clk_flow::{StdSource, read_whole};
+use read_workers::{read_raw, read_text};
 use std::alloc::Global;
 use std::env;
 use std::mem::forget;

@@ -1,9 +1,9 @@
 //! Names, signatures, declarations and heads of blocks in texts: what is read, and where reading stops.
 
 use crate::modules::{fault, read};
-use token_reader::{RawName, RawNumber};
 use clif_read::{RawAttribute, RawCalleeSig, RawDecl, RawFuncName, RawFunction, RawSignature};
 use ir_core::{Conv, Ty};
+use token_reader::{RawName, RawNumber};
 
 #[test]
 fn names_the_first_fault_of_a_declaration(rt: HostRuntime) {

@@ -3,7 +3,7 @@
 use crate::modules::read;
 use clif_lex::{TextErr, tokens};
 use clif_read::RawModule;
-use read_workers::{read_token_ranges, read_text_ranges, read_raw_by, read_text, read_text_by};
+use read_workers::{read_raw_by, read_text, read_text_by, read_text_ranges, read_token_ranges};
 use std::alloc::{AllocError, Global};
 use std::thread::Threads;
 

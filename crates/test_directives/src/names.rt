@@ -5,12 +5,12 @@ ghost use Rattle.clif_lex.specs.Spelling.{AreIn};
 ghost use Rattle.test_directives.specs.Directives as spec;
 ghost use Rattle.test_directives.specs.Names as spec_names;
 
-use token_reader::{Reader, Stop};
 use clif_lex::{LexErr, Tokens, tokens};
 use clif_read::{RawFuncName, RawFunction, func_name};
 use indexmap::IndexMap;
 use ir_core::List;
 use std::alloc::{AllocError, Global};
+use token_reader::{Reader, Stop};
 
 /// `u0:1`
 fn spelled_user(alloc: Global, space: u64, number: i128) -> Result<Vec<u8>, AllocError>

@@ -1,34 +1,39 @@
 //! Attributes of parameters and results.
 
 ghost use Rattle.std.specs.Prelude.{◌≡◌, ◌∷◌, [], ◌<◌, ◌≤◌, length, IfOk, IfErr};
+ghost use Rattle.clif_words.specs.Seen.{extension_place};
 ghost use Rattle.token_reader.specs.declared.stop.Stop.TheVariants.{NoMemory};
 ghost use Rattle.token_reader.specs.Reading.{Gives, same};
 ghost use Rattle.clif_read.specs.DeclarationValues as values;
 ghost use Rattle.clif_read.specs.Attributes as spec;
 
 use crate::raw::RawAttribute;
-use token_reader::{Reader, Stop, one_item};
-use clif_words::Class;
+use clif_words::{Class, Extension, Meaning, Word};
 use std::alloc::Global;
+use token_reader::{Reader, Stop, one_item};
 
-/// `uext` or `sext`, by its place among the words of its class.
-fn ext_of(number: u64) -> RawAttribute
-    ensures { result ≡ values.ext_of number }
+fn extended(extension: Extension) -> RawAttribute
+    ensures { result ≡ values.ext_of (extension_place extension) }
 {
-    match number {
-        0 => RawAttribute::Uext,
-        _ => RawAttribute::Sext,
+    match extension {
+        Extension::Uext => RawAttribute::Uext,
+        Extension::Sext => RawAttribute::Sext,
     }
 }
 
 /// `uext` or `sext`.
-#[tactic(auto, unfolding(crate::specs::Attributes::ext_at))]
+#[tactic(auto, unfolding(crate::specs::Attributes::ext_at, token_reader::specs::Reading::name_at))]
 fn ext(reader: &mut Reader<'_>) -> Result<RawAttribute, Stop>
     ensures is { Gives same reader.new result (spec.ext_at reader.old) }
     ensures shorter { IfOk result (λ _. length reader.new < length reader.old) }
 {
-    let word = reader.take(Class::Ext)?;
-    Ok(ext_of(word.number))
+    match reader.next_meaning() {
+        Some(Meaning::Word(Word::Ext(extension))) => {
+            reader.advance();
+            Ok(extended(extension))
+        }
+        _ => Err(Stop::Syntax),
+    }
 }
 
 /// `vmctx` or `sret`.

@@ -8,9 +8,9 @@ ghost use Rattle.clif_read.specs.Declarations as spec;
 
 use crate::raw::{RawCalleeSig, RawDecl, RawFuncName};
 use crate::signatures::signature;
-use token_reader::{RawNumber, Reader, Stop, number};
 use clif_words::Class;
 use std::alloc::Global;
+use token_reader::{RawNumber, Reader, Stop, number};
 
 /// `%name`
 #[tactic(auto, unfolding(crate::specs::Declarations::text_name_at))]

@@ -5,9 +5,9 @@ ghost use Rattle.token_reader.specs.Reading.{Gives, same};
 ghost use Rattle.clif_read.specs.Heads as spec;
 
 use crate::raw::RawBlockParam;
-use token_reader::{Items, Reader, Stop, any_type, joined_by_commas};
 use clif_words::Class;
 use std::alloc::Global;
+use token_reader::{Items, Reader, Stop, any_type, joined_by_commas};
 
 /// The spot of a header line.
 #[tactic(auto, unfolding(crate::specs::Heads::header_at))]

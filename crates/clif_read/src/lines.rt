@@ -11,10 +11,10 @@ ghost use Rattle.clif_read.specs.Lines as spec;
 use crate::raw::{RawLine, RawTag};
 use crate::tags::debug_tags;
 use clif_insts::{Opening, RawInst, RawNames, RawOperands, any_inst, more_names, more_values};
-use token_reader::{RawName, Reader, Stop, one_item};
 use clif_words::Class;
 use ir_core::List;
 use std::alloc::Global;
+use token_reader::{RawName, Reader, Stop, one_item};
 
 /// For how many lines the list of a block has room at first: most blocks have no more. What is left over is given back.
 const FIRST_ROOM: usize = 32;

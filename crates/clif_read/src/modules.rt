@@ -10,10 +10,10 @@ use crate::heads::{block_params, headers};
 use crate::lines::block_lines;
 use crate::raw::{RawBlock, RawBlockParam, RawFunction, RawModule};
 use crate::signatures::signature;
-use token_reader::{Reader, Stop, one_item};
 use clif_words::Class;
 use ir_core::List;
 use std::alloc::Global;
+use token_reader::{Reader, Stop, one_item};
 
 #[tactic(auto, unfolding(crate::specs::Modules::opt_block_params_at))]
 fn opt_block_params(alloc: Global, reader: &mut Reader<'_>) -> Result<Vec<RawBlockParam>, Stop>

@@ -2,8 +2,8 @@
 //! and has a field for each of its parts; a spot is the first byte of a word or number.
 
 use clif_insts::{RawInst, RawNames};
-use token_reader::{RawName, RawNumber};
 use ir_core::{Conv, List, Ty};
+use token_reader::{RawName, RawNumber};
 
 /// A word behind the type of a parameter or result.
 #[derive(Clone, Copy, Debug, PartialEq, Eq)]

@@ -2,15 +2,14 @@
 
 ghost use Rattle.std.specs.Prelude.{◌≡◌, ◌<◌, ◌≤◌, length, IfOk};
 ghost use Rattle.token_reader.specs.Reading.{Gives, same};
-ghost use Rattle.clif_read.specs.DeclarationValues as values;
 ghost use Rattle.clif_read.specs.Signatures as spec;
 
 use crate::attributes::attributes;
 use crate::raw::{RawParam, RawSignature};
-use token_reader::{Items, Reader, Stop, any_type, joined_by_commas};
-use clif_words::Class;
+use clif_words::{Class, Meaning, Word};
 use ir_core::{Conv, List};
 use std::alloc::Global;
+use token_reader::{Items, Reader, Stop, any_type, joined_by_commas};
 
 /// A parameter or a result.
 #[tactic(auto, unfolding(crate::specs::Signatures::param_at))]
@@ -78,33 +77,18 @@ fn opt_results(alloc: Global, reader: &mut Reader<'_>) -> Result<Vec<RawParam>, 
     }
 }
 
-/// A convention but `cold`, by its place among the words of its class.
-fn convention_of(number: u64) -> Conv
-    ensures { result ≡ values.convention_of number }
-{
-    match number {
-        0 => Conv::Fast,
-        1 => Conv::Tail,
-        2 => Conv::SystemV,
-        3 => Conv::WindowsFastcall,
-        4 => Conv::AppleAarch64,
-        5 => Conv::Probestack,
-        _ => Conv::Winch,
-    }
-}
-
 /// A calling convention.
-#[tactic(auto, unfolding(crate::specs::Signatures::convention_at))]
+#[tactic(auto, unfolding(crate::specs::Signatures::convention_at, token_reader::specs::Reading::name_at))]
 fn convention(reader: &mut Reader<'_>) -> Result<Conv, Stop>
     ensures is { Gives same reader.new result (spec.convention_at reader.old) }
     ensures shorter { IfOk result (λ _. length reader.new < length reader.old) }
 {
-    if reader.next_is(Class::Conv) {
-        let word = reader.take(Class::Conv)?;
-        Ok(convention_of(word.number))
-    } else {
-        reader.take(Class::Cold)?;
-        Ok(Conv::Cold)
+    match reader.next_meaning() {
+        Some(Meaning::Word(Word::Conv(convention))) => {
+            reader.advance();
+            Ok(convention)
+        }
+        _ => Err(Stop::Syntax),
     }
 }
 

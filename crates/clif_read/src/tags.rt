@@ -5,9 +5,9 @@ ghost use Rattle.token_reader.specs.Reading.{Gives, same};
 ghost use Rattle.clif_read.specs.Tags as spec;
 
 use crate::raw::RawTag;
-use token_reader::{Items, Reader, Stop, joined_by_commas, number};
 use clif_words::Class;
 use std::alloc::Global;
+use token_reader::{Items, Reader, Stop, joined_by_commas, number};
 
 /// A number, or a slot.
 #[tactic(auto, unfolding(crate::specs::Tags::debug_tag_at))]

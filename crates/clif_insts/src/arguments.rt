@@ -5,14 +5,10 @@ ghost use Rattle.clif_words.specs.declared.class.Class.TheVariants as classes;
 ghost use Rattle.token_reader.specs.Reading.{Gives, same, name_at};
 ghost use Rattle.clif_insts.specs.Arguments as spec;
 
-use token_reader::{Items, behind_commas, joined_by_commas};
 use crate::lists::RawNames;
-use token_reader::one_item;
-use token_reader::RawName;
-use token_reader::Reader;
-use token_reader::Stop;
 use clif_words::Class;
 use std::alloc::Global;
+use token_reader::{Items, RawName, Reader, Stop, behind_commas, joined_by_commas, one_item};
 
 struct ValueItems;
 

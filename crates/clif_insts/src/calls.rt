@@ -6,14 +6,12 @@ ghost use Rattle.clif_insts.specs.Forms as spec;
 
 use crate::arguments::args;
 use crate::raw::{RawInst, RawOperands};
-use token_reader::Reader;
-use token_reader::Stop;
 use crate::tables::boxed_table;
 use crate::targets::{TargetRole, boxed_target};
-use token_reader::opt_suffix_i64;
 use clif_words::Class;
 use ir_core::List;
 use std::alloc::Global;
+use token_reader::{Reader, Stop, opt_suffix_i64};
 
 /// `op fnN(v, ..)`
 #[tactic(auto, unfolding(crate::specs::Forms::call_at))]

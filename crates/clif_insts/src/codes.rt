@@ -7,54 +7,40 @@ ghost use Rattle.clif_insts.specs.Codes as spec;
 ghost use Rattle.clif_insts.specs.Grammar.{any_trap};
 ghost use Rattle.token_reader.specs.Values.{seen};
 ghost use Rattle.clif_insts.specs.Values.{condition_value, trap_value};
+ghost use Rattle.clif_words.specs.Seen.{trap_place};
 ghost use Rattle.clif_words.specs.Terminals as words;
 ghost use Rattle.grammar.specs.Rules.{read};
 
 use crate::raw::RawTrap;
-use token_reader::Reader;
-use token_reader::Stop;
-use clif_words::Class;
+use clif_words::{Class, Meaning, NamedTrap, Word};
 use clk_num::Cc;
-
-/// A condition, by its place among the conditions.
-fn condition_of(number: u64) -> Cc
-    ensures { result ≡ spec.condition_of number }
-{
-    match number {
-        0 => Cc::Eq,
-        1 => Cc::Ne,
-        2 => Cc::Slt,
-        3 => Cc::Sge,
-        4 => Cc::Sgt,
-        5 => Cc::Sle,
-        6 => Cc::Ult,
-        7 => Cc::Uge,
-        8 => Cc::Ugt,
-        _ => Cc::Ule,
-    }
-}
+use token_reader::{Reader, Stop};
 
 /// A condition.
-#[tactic(auto, unfolding(token_reader::specs::Reading::name_at))]
 pub(crate) fn condition(reader: &mut Reader<'_>) -> Result<Cc, Stop>
     ensures is { Gives same reader.new result (seen condition_value (read words.condition reader.old)) }
     ensures no_memory { IfErr result (λ e. e ≢ NoMemory) }
     ensures shorter { IfOk result (λ _. length reader.new < length reader.old) }
 {
-    let word = reader.take(Class::Condition)?;
-    Ok(condition_of(word.number))
+    match reader.next_meaning() {
+        Some(Meaning::Word(Word::Condition(condition))) => {
+            reader.advance();
+            Ok(condition)
+        }
+        _ => Err(Stop::Syntax),
+    }
 }
 
-/// A trap code but `userN`, by its place among them.
-fn trap_of(number: u64) -> RawTrap
-    ensures { result ≡ spec.trap_of number }
+/// What a trap code but `userN` is in an instruction.
+fn named_trap(code: NamedTrap) -> RawTrap
+    ensures { result ≡ spec.trap_of (trap_place code) }
 {
-    match number {
-        0 => RawTrap::StkOvf,
-        1 => RawTrap::IntOvf,
-        2 => RawTrap::HeapOob,
-        3 => RawTrap::IntDivz,
-        _ => RawTrap::BadToint,
+    match code {
+        NamedTrap::StkOvf => RawTrap::StkOvf,
+        NamedTrap::IntOvf => RawTrap::IntOvf,
+        NamedTrap::HeapOob => RawTrap::HeapOob,
+        NamedTrap::IntDivz => RawTrap::IntDivz,
+        NamedTrap::BadToint => RawTrap::BadToint,
     }
 }
 
@@ -65,10 +51,11 @@ pub(crate) fn trap(reader: &mut Reader<'_>) -> Result<RawTrap, Stop>
     ensures no_memory { IfErr result (λ e. e ≢ NoMemory) }
     ensures shorter { IfOk result (λ _. length reader.new < length reader.old) }
 {
-    if reader.next_is(Class::TrapCode) {
-        let word = reader.take(Class::TrapCode)?;
-        Ok(trap_of(word.number))
-    } else {
-        Ok(RawTrap::User(reader.take(Class::UserTrap)?))
+    match reader.next_meaning() {
+        Some(Meaning::Word(Word::TrapCode(code))) => {
+            reader.advance();
+            Ok(named_trap(code))
+        }
+        _ => Ok(RawTrap::User(reader.take(Class::UserTrap)?)),
     }
 }

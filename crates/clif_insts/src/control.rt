@@ -7,13 +7,11 @@ ghost use Rattle.clif_insts.specs.Forms as spec;
 
 use crate::codes::trap;
 use crate::raw::{RawInst, RawOperands};
-use token_reader::Reader;
-use token_reader::Stop;
 use crate::targets::{TargetRole, boxed_target, target, target_list};
-use token_reader::opt_suffix;
 use clif_words::Class;
 use ir_core::List;
 use std::alloc::Global;
+use token_reader::{Reader, Stop, opt_suffix};
 
 /// No operands
 #[tactic(auto, unfolding(crate::specs::Forms::nullary_at))]

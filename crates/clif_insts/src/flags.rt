@@ -3,28 +3,57 @@
 ghost use Rattle.std.specs.Prelude.{◌≡◌, ◌≢◌, ◌∷◌, [], ◌++◌, ◌<◌, ◌≤◌, length, IfOk, IfErr};
 ghost use Rattle.grammar.specs.Rules.{heads};
 ghost use Rattle.clif_words.specs.Classes.{code};
+ghost use Rattle.clif_words.specs.Seen.{flag_place};
 ghost use Rattle.clif_words.specs.Terminals.{codes_of};
 ghost use Rattle.token_reader.specs.declared.stop.Stop.TheVariants.{NoMemory};
 ghost use Rattle.token_reader.specs.Reading.{Gives, same};
 ghost use Rattle.clif_insts.specs.Flags as spec;
 
 use crate::raw::RawFlag;
-use token_reader::Reader;
-use token_reader::Stop;
-use clif_words::Class;
+use clif_words::{Class, Entity, Flag, Meaning, Word};
 use std::alloc::Global;
+use token_reader::{Reader, Stop};
 
-/// A flag but `little`, `big` and `vmctx`, by its place among them.
-fn flag_of(number: u64) -> RawFlag
-    ensures { result ≡ spec.flag_of number }
+/// The order of bytes that a flag gives.
+#[derive(Clone, Copy, Debug)]
+pub(crate) enum Order {
+    Little,
+    Big,
+}
+
+impl Order {
+    /// The class of its word.
+    fn class(self) -> Class
+        ensures { result ≡ spec.order_class self }
+    {
+        match self {
+            Order::Little => Class::Little,
+            Order::Big => Class::Big,
+        }
+    }
+
+    /// The flag that its word is.
+    fn flag(self) -> RawFlag
+        ensures { result ≡ spec.order_flag self }
+    {
+        match self {
+            Order::Little => RawFlag::Little,
+            Order::Big => RawFlag::Big,
+        }
+    }
+}
+
+/// What a flag but `little`, `big` and `vmctx` is in an instruction.
+fn raw_flag(flag: Flag) -> RawFlag
+    ensures { result ≡ spec.flag_of (flag_place flag) }
 {
-    match number {
-        0 => RawFlag::Notrap,
-        1 => RawFlag::Aligned,
-        2 => RawFlag::Readonly,
-        3 => RawFlag::CanMove,
-        4 => RawFlag::Heap,
-        _ => RawFlag::Table,
+    match flag {
+        Flag::Notrap => RawFlag::Notrap,
+        Flag::Aligned => RawFlag::Aligned,
+        Flag::Readonly => RawFlag::Readonly,
+        Flag::CanMove => RawFlag::CanMove,
+        Flag::Heap => RawFlag::Heap,
+        Flag::Table => RawFlag::Table,
     }
 }
 
@@ -37,24 +66,25 @@ fn begins_plain_flag(reader: &Reader<'_>) -> bool
 }
 
 /// A flag but `little` and `big`.
-#[tactic(auto, unfolding(crate::specs::Flags::plain_flag_at))]
+#[tactic(auto, unfolding(crate::specs::Flags::plain_flag_at, token_reader::specs::Reading::name_at))]
 pub(crate) fn plain_flag(reader: &mut Reader<'_>) -> Result<RawFlag, Stop>
     ensures is { Gives same reader.new result (spec.plain_flag_at reader.old) }
     ensures no_memory { IfErr result (λ e. e ≢ NoMemory) }
     ensures shorter { IfOk result (λ _. length reader.new < length reader.old) }
 {
-    if reader.next_is(Class::Flag) {
-        let word = reader.take(Class::Flag)?;
-        Ok(flag_of(word.number))
-    } else if reader.next_is(Class::Vmctx) {
-        reader.take(Class::Vmctx)?;
-        Ok(RawFlag::Vmctx)
-    } else {
-        Err(if reader.next_is_either(Class::TrapCode, Class::UserTrap) {
-            Stop::Unsupported
-        } else {
-            Stop::Syntax
-        })
+    match reader.next_meaning() {
+        Some(Meaning::Word(Word::Flag(flag))) => {
+            reader.advance();
+            Ok(raw_flag(flag))
+        }
+        Some(Meaning::Word(Word::Vmctx)) => {
+            reader.advance();
+            Ok(RawFlag::Vmctx)
+        }
+        Some(Meaning::Word(Word::TrapCode(_) | Word::Entity(Entity::UserTrap, _))) => {
+            Err(Stop::Unsupported)
+        }
+        _ => Err(Stop::Syntax),
     }
 }
 
@@ -72,23 +102,14 @@ fn plain_flags(alloc: Global, reader: &mut Reader<'_>) -> Result<Vec<RawFlag>, S
 }
 
 /// Whether a flag begins here, or a word that is refused in its place. Of `little` and `big` it may be this one alone.
-fn begins_ordered_flag(reader: &Reader<'_>, order: Class) -> bool
-    ensures { result ≡ heads (codes_of spec.begins_plain_flag ++ code order ∷ []) reader.now }
+fn begins_ordered_flag(reader: &Reader<'_>, order: Order) -> bool
+    ensures { result ≡ heads (codes_of spec.begins_plain_flag ++ code (spec.order_class order) ∷ []) reader.now }
 {
-    begins_plain_flag(reader) || reader.next_is(order)
-}
-
-fn order_flag(order: Class) -> RawFlag
-    ensures { result ≡ spec.order_flag order }
-{
-    match order {
-        Class::Little => RawFlag::Little,
-        _ => RawFlag::Big,
-    }
+    begins_plain_flag(reader) || reader.next_is(order.class())
 }
 
 #[tactic(auto, unfolding(crate::specs::Flags::ordered_flag_at))]
-pub(crate) fn ordered_flag(reader: &mut Reader<'_>, order: Class) -> Result<RawFlag, Stop>
+pub(crate) fn ordered_flag(reader: &mut Reader<'_>, order: Order) -> Result<RawFlag, Stop>
     ensures is { Gives same reader.new result (spec.ordered_flag_at order reader.old) }
     ensures no_memory { IfErr result (λ e. e ≢ NoMemory) }
     ensures shorter { IfOk result (λ _. length reader.new < length reader.old) }
@@ -96,15 +117,15 @@ pub(crate) fn ordered_flag(reader: &mut Reader<'_>, order: Class) -> Result<RawF
     if begins_plain_flag(reader) {
         plain_flag(reader)
     } else {
-        reader.take(order)?;
-        Ok(order_flag(order))
+        reader.take(order.class())?;
+        Ok(order.flag())
     }
 }
 
 /// Flags, with `little` or `big` among them.
 fn ordered_flags(
     reader: &mut Reader<'_>,
-    order: Class,
+    order: Order,
     front: Vec<RawFlag>,
 ) -> Result<Vec<RawFlag>, Stop>
     ensures is { Gives (λ x. x.items) reader.new result (spec.ordered_flags_at order front.items reader.old) }
@@ -126,9 +147,9 @@ pub(crate) fn flags(alloc: Global, reader: &mut Reader<'_>) -> Result<Vec<RawFla
 {
     let list = plain_flags(alloc, reader)?;
     if reader.next_is(Class::Big) {
-        ordered_flags(reader, Class::Big, list)
+        ordered_flags(reader, Order::Big, list)
     } else if reader.next_is(Class::Little) {
-        ordered_flags(reader, Class::Little, list)
+        ordered_flags(reader, Order::Little, list)
     } else {
         Ok(list)
     }

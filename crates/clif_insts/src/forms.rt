@@ -14,10 +14,9 @@ use crate::memory::{func_addr, load, load_wide, stack_load, stack_store, store};
 use crate::opening::Opening;
 use crate::operations::{binary, binary_imm, convert, icmp, icmp_imm, iconst, select, unary};
 use crate::raw::RawInst;
-use token_reader::Reader;
-use token_reader::Stop;
 use clif_words::Class;
 use std::alloc::Global;
+use token_reader::{Reader, Stop};
 
 /// Why a token of this class begins no instruction behind what stands before it.
 fn no_opcode(opening: Opening, class: Class) -> Stop

@@ -12,18 +12,15 @@ ghost use Rattle.clif_insts.specs.OfForm.{InstFormed};
 
 use crate::arguments::more_values;
 use crate::forms::any_inst;
-use token_reader::one_item;
 use crate::opening::Opening;
 use crate::raw::{RawInst, RawOperands};
-use token_reader::RawName;
-use token_reader::Reader;
-use token_reader::Stop;
 use clif_lex::{TextKind, Tokens};
 use clif_words::Class;
 use ir_core::List;
 use std::alloc::Global;
 use std::error::Error;
 use std::fmt;
+use token_reader::{RawName, Reader, Stop, one_item};
 
 /// Why the tokens are no instruction, and at which token of the list. At the end it is the list's length.
 #[derive(Clone, Copy, Debug, PartialEq, Eq)]

@@ -22,7 +22,5 @@ pub use forms::any_inst;
 pub use insts::{SyntaxErr, inst};
 pub use lists::RawNames;
 pub use opening::Opening;
-pub use raw::{
-    RawArg, RawEntry, RawFlag, RawInst, RawOperands, RawTarget, RawTrap,
-};
+pub use raw::{RawArg, RawEntry, RawFlag, RawInst, RawOperands, RawTarget, RawTrap};
 pub use targets::TargetRole;

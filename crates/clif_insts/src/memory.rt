@@ -6,14 +6,11 @@ ghost use Rattle.token_reader.specs.Reading.{Gives, same};
 ghost use Rattle.clif_insts.specs.Forms as spec;
 
 use crate::flags::flags;
-use token_reader::offset;
 use crate::raw::{RawInst, RawOperands};
-use token_reader::Reader;
-use token_reader::Stop;
-use token_reader::{opt_suffix, suffix, suffix_i64};
 use clif_words::Class;
 use ir_core::List;
 use std::alloc::Global;
+use token_reader::{Reader, Stop, offset, opt_suffix, suffix, suffix_i64};
 
 /// `op.T flags p+off`
 #[tactic(auto, unfolding(crate::specs::Forms::load_at))]

@@ -6,12 +6,9 @@ ghost use Rattle.token_reader.specs.Reading.{Gives, same};
 ghost use Rattle.clif_insts.specs.Forms as spec;
 
 use crate::codes::condition;
-use token_reader::number;
 use crate::raw::{RawInst, RawOperands};
-use token_reader::Reader;
-use token_reader::Stop;
-use token_reader::{opt_suffix, suffix};
 use clif_words::Class;
+use token_reader::{Reader, Stop, number, opt_suffix, suffix};
 
 /// `iconst.T n`
 #[tactic(auto, unfolding(crate::specs::Forms::iconst_at))]

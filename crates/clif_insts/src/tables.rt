@@ -5,15 +5,12 @@ ghost use Rattle.token_reader.specs.declared.stop.Stop.TheVariants.{NoMemory};
 ghost use Rattle.token_reader.specs.Reading.{Gives, same};
 ghost use Rattle.clif_insts.specs.Tables as spec;
 
-use token_reader::{Items, joined_by_commas};
 use crate::raw::RawEntry;
-use token_reader::RawName;
-use token_reader::Reader;
-use token_reader::Stop;
 use crate::targets::{TargetRole, target};
 use clif_words::Class;
 use ir_core::{Boxed, List};
 use std::alloc::Global;
+use token_reader::{Items, RawName, Reader, Stop, joined_by_commas};
 
 /// `tagN` or `default`.
 #[tactic(auto, unfolding(crate::specs::Tables::entry_tag_at))]

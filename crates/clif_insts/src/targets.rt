@@ -6,13 +6,11 @@ ghost use Rattle.clif_insts.specs.declared.targets.TargetRole.TheVariants.{Branc
 ghost use Rattle.token_reader.specs.Reading.{Gives, same};
 ghost use Rattle.clif_insts.specs.Targets as spec;
 
-use token_reader::{Items, joined_by_commas};
 use crate::raw::{RawArg, RawTarget};
-use token_reader::Reader;
-use token_reader::Stop;
 use clif_words::Class;
 use ir_core::{Boxed, List};
 use std::alloc::Global;
+use token_reader::{Items, Reader, Stop, joined_by_commas};
 
 /// Where a target stands: at a branch, as the normal target of a `try_call`, or in its table.
 /// `retN` stands only in the second, `exnN` only in the third.

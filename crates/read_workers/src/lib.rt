@@ -5,6 +5,6 @@ mod text_ranges;
 mod token_ranges;
 
 pub use text_ranges::{
-    STRETCH, front_end, read_front, read_text_ranges, read_text, read_text_by, stretch_end,
+    STRETCH, front_end, read_front, read_text, read_text_by, read_text_ranges, stretch_end,
 };
-pub use token_ranges::{read_token_ranges, read_raw, read_raw_by};
+pub use token_ranges::{read_raw, read_raw_by, read_token_ranges};

@@ -1,12 +1,12 @@
 -- Each instruction of a module has operands of its opcode's form, also a `return` that gets the values behind it.
-use Rattle.std.proofs.Common.{◌≡◌, ◌≢◌, ℕ, Bool, true, false, List, [], ◌∷◌, ◌++◌, length, map, Option, Some, None, refl, sym, subst, ◌∙◌, inl, inr}
+use Rattle.std.proofs.Common.{◌≡◌, ℕ, Bool, true, false, List, [], ◌∷◌, ◌++◌, length, map, Option, Some, None, refl, sym, subst, ◌∙◌, inl, inr}
 use Rattle.std.specs.Prelude.{◌⊎◌}
 use Rattle.grammar.specs.Rules.{Lexeme, Rule, Opt, Many, Tree, Derives, Links, ByFlag, ends}
 use Rattle.grammar.specs.Rules as rules
 use Rattle.ir_core.specs.Lists.{Each}
 use Rattle.clif_words.specs.declared.class.Class as words
 use Rattle.clif_words.specs.declared.class.Class.TheVariants as classes
-use Rattle.clif_words.specs.Terminals.{◌then◌, ◌or◌, comma, colon, arrow, equals, value, srcloc, block, cold, header, function_word, left_brace, right_brace}
+use Rattle.clif_words.specs.Terminals.{◌then◌, comma, colon, equals, value, srcloc, block, cold, header, function_word, left_brace, right_brace}
 use Rattle.clif_words.specs.Lexemes.{lexemes}
 use Rattle.clif_words.specs.TextTokens.{IsTextToken, AreTextTokens}
 use Rattle.clif_words.proofs.TextTokens.{text_tokens}
@@ -28,7 +28,7 @@ use Rattle.clif_read.specs.declared.raw.RawLine.TheVariants as raw_lines
 use Rattle.clif_read.specs.declared.raw.RawModule.{RawModule}
 use Rattle.clif_read.specs.ModuleGrammar.{func_name, signature, decl, block_params, debug_tags, made, named, named_or_values, tagged, located, other_line, line, line_or_values, lines, block_rule, function, module_rule}
 use Rattle.clif_read.specs.LineValues.{LinePart, Whole, Values, made_value, debug_tags_value, values_from, named_by, named_value, tagged_by, tagged_value, located_value, other_line_value, line_value, named_or_values_value, line_or_values_value, with_values, lines_from, lines_of, part_value, lines_value}
-use Rattle.clif_read.specs.ModuleValues.{block_value, function_value, module_value}
+use Rattle.clif_read.specs.ModuleValues.{block_value, function_value}
 use Rattle.clif_read.specs.Lines.{returns, is_return}
 use Rattle.clif_read.specs.Texts.{IsModule}
 use Rattle.clif_read.specs.Texts.{IsModuleText}

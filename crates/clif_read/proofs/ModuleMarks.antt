@@ -1,30 +1,25 @@
 -- The marks of a module are taken from its tokens, one lemma a rule.
-use Rattle.std.proofs.Common.{◌≡◌, ℕ, List, [], ◌∷◌, ◌++◌, map, Option, Some, None, refl, sym, ap, subst, ◌∙◌, inl, inr, append_assoc}
+use Rattle.std.proofs.Common.{◌≡◌, List, [], ◌∷◌, ◌++◌, map, Option, Some, None, refl, sym, ap, subst, inl, inr, append_assoc}
 use Rattle.std.specs.Prelude.{◌⊎◌}
 use Rattle.std.specs.List.{flat_map}
 use Rattle.std.proofs.lemmas.List.{append-nil}
-use Rattle.grammar.specs.Rules.{Lexeme, Rule, Opt, Many, Tree}
+use Rattle.grammar.specs.Rules.{Lexeme, Many, Tree}
 use Rattle.clif_words.specs.declared.class.Class.TheVariants as classes
 use Rattle.clif_words.specs.Classes.{code}
-use Rattle.clif_words.specs.Terminals.{◌then◌, ◌or◌, comma, arrow, value, sig, header, srcloc}
+use Rattle.clif_words.specs.Terminals.{◌then◌, ◌or◌, comma, value, sig, header, srcloc}
 use Rattle.token_reader.specs.declared.raw.RawName.{RawName}
-use Rattle.clif_insts.specs.declared.raw.RawInst.{RawInst}
-use Rattle.clif_insts.specs.declared.raw.RawOperands.TheVariants as operands
-use Rattle.token_reader.specs.Grammar.{commas, number}
-use Rattle.clif_insts.specs.Grammar.{inst}
+use Rattle.token_reader.specs.Grammar.{number}
 use Rattle.token_reader.specs.Reading.{name}
-use Rattle.token_reader.specs.Values.{◌otherwise◌, either, perhaps, never, commas_value, number_value}
-use Rattle.clif_insts.specs.InstValues.{raw, inst_value}
-use Rattle.clif_insts.specs.Marks.{Mark, Spot, Word, Opcode, Number, Name, name_marks, names_marks, number_marks, offset_marks, operand_marks, inst_marks}
+use Rattle.token_reader.specs.Values.{either, perhaps, never, commas_value, number_value}
+use Rattle.clif_insts.specs.InstValues.{inst_value}
+use Rattle.clif_insts.specs.Marks.{Mark, Spot, Word, Number, Name, name_marks, names_marks, number_marks, offset_marks, operand_marks, inst_marks}
 use Rattle.clif_insts.proofs.Marked.{Among, done, pass, take, Marked, marked_same, unmarked, token_marked, word_marked, spot_marked, both_marked, second_marked, first_marked, either_marked, refused_marked, perhaps_marked, many_marked, chain_marked, each_marked, commas_marked, perhaps_list, within_marked}
 use Rattle.clif_insts.proofs.InstMarks.{number_marked, values_marked, inst_marked}
-use Rattle.clif_read.specs.declared.raw.RawTag.{RawTag}
-use Rattle.clif_read.specs.declared.raw.RawTag.TheVariants as tags
 use Rattle.clif_read.specs.declared.raw.RawLine.{RawLine}
 use Rattle.clif_read.specs.declared.raw.RawLine.TheVariants as raw_lines
 use Rattle.clif_read.specs.ModuleGrammar.{signature, func_name, slot_decl, sig_decl, callee_decl, decl, debug_tag, debug_tags, made, named, named_or_values, tagged, located, other_line, line, line_or_values, lines, block_param, block_params, block_rule, function, module_rule}
-use Rattle.clif_read.specs.DeclarationValues.{signature_value, func_name_value, align_value, slot_decl_value, sig_decl_value, callee_sig_value, callee_decl_value, decl_value}
-use Rattle.clif_read.specs.LineValues.{LinePart, Whole, Values, made_value, debug_tag_value, debug_tags_value, values_from, named_by, named_value, tagged_by, tagged_value, located_value, other_line_value, line_value, values_by, named_or_values_by, named_or_values_value, line_or_values_value, with_values, lines_from, lines_of, part_value, lines_value}
+use Rattle.clif_read.specs.DeclarationValues.{func_name_value, align_value, slot_decl_value, sig_decl_value, callee_sig_value, callee_decl_value, decl_value}
+use Rattle.clif_read.specs.LineValues.{LinePart, Whole, Values, made_value, debug_tag_value, debug_tags_value, named_value, tagged_value, located_value, other_line_value, line_value, named_or_values_value, line_or_values_value, with_values, lines_from, lines_of, part_value, lines_value}
 use Rattle.clif_read.specs.ModuleValues.{block_param_value, block_params_value, block_value, function_value, module_value}
 use Rattle.clif_read.specs.Marks.{func_name_marks, callee_sig_marks, decl_marks, tag_marks, location_marks, line_marks, block_param_marks, block_marks, function_marks, module_marks}
 

@@ -1,5 +1,5 @@
 -- Where a text is not read, the fault stands in it or at its end.
-use Rattle.std.proofs.Common.{◌≡◌, ℕ, ◌≤◌, List, [], ◌∷◌, ◌++◌, length, Result, Ok, Err, IfOk, IfErr, refl, sym, subst, inl, inr, arith}
+use Rattle.std.proofs.Common.{◌≡◌, ℕ, ◌≤◌, List, [], ◌∷◌, length, Result, Ok, Err, IfOk, IfErr, refl, sym, subst, inl, inr, arith}
 use Rattle.grammar.specs.Rules.{Lexeme, Kind}
 use Rattle.ir_core.specs.Lists.{Each}
 use Rattle.clif_lex.specs.declared.spans.Token.{Token}
@@ -13,7 +13,7 @@ use Rattle.clif_lex.specs.Lexing.{tokens_of}
 use Rattle.clif_lex.specs.Spelling.{IsFaultIn}
 use Rattle.clif_lex.proofs.Readings.{fault_inside_text}
 use Rattle.clif_words.specs.Lexemes.{lexemes}
-use Rattle.clif_words.specs.TextTokens.{IsTextToken, AreTextTokens}
+use Rattle.clif_words.specs.TextTokens.{IsTextToken}
 use Rattle.clif_words.proofs.TextTokens.{text_tokens}
 use Rattle.token_reader.specs.Next.{spot_or}
 use Rattle.clif_insts.proofs.Formed.{each_behind}

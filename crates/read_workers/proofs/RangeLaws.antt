@@ -1,9 +1,9 @@
 -- What stands in the stretches of a text stands in the text.
-use Rattle.std.proofs.Common.{◌≡◌, ℕ, ◌+◌, ◌-◌, ◌≤◌, true, false, not, Bool, cond, List, [], ◌∷◌, ◌++◌, length, map, take, drop, slice_range, take-add, drop-drop, Ok, Err, refl, sym, ap, subst, ◌∙◌, arith, inl}
+use Rattle.std.proofs.Common.{◌≡◌, ℕ, ◌+◌, ◌-◌, ◌≤◌, true, false, Bool, cond, List, [], ◌∷◌, ◌++◌, length, take, drop, slice_range, take-add, drop-drop, Ok, refl, sym, ap, subst, ◌∙◌, arith, inl}
 use Rattle.std.proofs.lemmas.List.{append-nil, map-append, take_rest}
-use Rattle.grammar.specs.Rules.{Lexeme, Many, Tree, Derives, Out, heads_any, read}
+use Rattle.grammar.specs.Rules.{Lexeme, Many, Tree, Derives, read}
 use Rattle.grammar.proofs.Binds.{ok_is}
-use Rattle.grammar.proofs.Exactness.{sound, complete}
+use Rattle.grammar.proofs.Exactness.{complete}
 use Rattle.grammar.proofs.Joins.{each_join, seq_join}
 use Rattle.clif_lex.specs.declared.spans.Token.{Token}
 use Rattle.clif_lex.specs.Lexing.{tokens_of}
@@ -11,17 +11,15 @@ use Rattle.clif_lex.specs.Stretches.{IsCut, IsStretch, stretch_tokens, preamble_
 use Rattle.clif_lex.proofs.Stretches.{stretches_join, whole_stretch, empty_stretch, tokens_are_in}
 use Rattle.clif_words.specs.Lexemes.{lexeme, lexemes, is_comment}
 use Rattle.clif_words.specs.Terminals.{header}
-use Rattle.token_reader.specs.Values.{seen}
 use Rattle.clif_read.specs.declared.raw.RawFunction.{RawFunction}
 use Rattle.clif_read.specs.declared.raw.RawModule.{RawModule}
 use Rattle.clif_read.specs.ModuleGrammar.{function, module_rule}
 use Rattle.clif_read.specs.ModuleValues.{function_value, module_value}
-use Rattle.clif_read.specs.Modules.{functions_at, whole_module_at}
+use Rattle.clif_read.specs.Modules.{whole_module_at}
 use Rattle.clif_read.specs.Texts.{IsModule}
 use Rattle.clif_read.specs.Texts.{IsModuleText, Functions}
 use Rattle.read_workers.specs.Ranges.{IsTokenRange, IsTextRange, AreFunctions, AreListed, IsFront, with_functions}
 use Rattle.range_workers.specs.Follow.{Follow}
-use Rattle.clif_read.proofs.ModuleLaws.{functions_is}
 use Rattle.clif_read.proofs.Whole.{found_at}
 
 lexemes-append : (text : List ℕ) (ts us : List Token) → lexemes text (ts ++ us) ≡ lexemes text ts ++ lexemes text us

@@ -246,6 +246,7 @@ fn put_insts(
     requires enter { line_of enter ≡ spec.jump 3 0 }
     requires call { line_of call ≡ spec.tried 1 3 4 2 }
     requires leave { line_of leave ≡ spec.jump 1 4 }
+    ensures { OnOk result (func.new.function ≡ spec.inlined) }
 {
     func.reserve(Room {
         insts: 3,
@@ -260,7 +261,9 @@ fn put_insts(
 }
 
 /// `%f` with its call replaced by the body of `%g`, by the calls that change a function in place.
-fn inlined(alloc: Global) -> Result<Func, AllocError> {
+fn inlined(alloc: Global) -> Result<Func, AllocError>
+    ensures { IfOk result (λ func. func.function ≡ spec.inlined) }
+{
     let mut func = declared(alloc)?;
     add_blocks(&mut func)?;
     add_insts(alloc, &mut func)?;

@@ -17,11 +17,13 @@ use program_run::{
 use std::alloc::{AllocError, Global};
 
 /// A parameter of 64 bits.
-const WORD: Param = Param {
-    ty: Ty::I64,
-    ext: Ext::No,
-    purpose: Purpose::Normal,
-};
+fn word() -> Param {
+    Param {
+        ty: Ty::I64,
+        ext: Ext::No,
+        purpose: Purpose::Normal,
+    }
+}
 
 /// `block0(v0: i64): return v0`
 fn identity(alloc: Global, name: FuncName) -> Result<Func, AllocError>
@@ -29,8 +31,8 @@ fn identity(alloc: Global, name: FuncName) -> Result<Func, AllocError>
     ensures whole { IfOk result (λ func. IsWhole func.function) }
 {
     let sig = Sig {
-        params: List::from_vec(vec![in alloc; WORD]?),
-        results: List::from_vec(vec![in alloc; WORD]?),
+        params: List::from_vec(vec![in alloc; word()]?),
+        results: List::from_vec(vec![in alloc; word()]?),
         conv: Conv::Fast,
     };
     let mut func = Func::new(alloc, name, sig)?;

@@ -56,7 +56,7 @@ answered r f (Err e) = None
 seen : {A : Type 0} (r : Rule) (f : Tree r → A) (text : List ℕ) → value_if (answer r f text) ≡ answered r f (read_all r (lexed text))
 seen {A} r f text = go (read_all r (lexed text))
   where
-    go : (o : Result (Tree r) (Kind × List Lexeme)) → value_if {A = A} (elim o as (λ p. Result A ℕ) [ Ok v ↦ Ok (f v) | Err stop ↦ Err (Rattle.clif_insts.specs.Next.spot_or (length text) stop.1) ]) ≡ answered r f o
+    go : (o : Result (Tree r) (Kind × List Lexeme)) → value_if {A = A} (elim o as (λ p. Result A ℕ) [ Ok v ↦ Ok (f v) | Err stop ↦ Err (Rattle.token_reader.specs.Next.spot_or (length text) stop.1) ]) ≡ answered r f o
     go (Ok v) = refl
     go (Err e) = refl
 

@@ -1,6 +1,7 @@
 pub mod EachShape
 pub mod Naming
 pub mod Making
+pub mod Building
 pub mod Paths
 pub mod Rules
 pub mod ShapeRules

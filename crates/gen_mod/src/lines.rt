@@ -79,7 +79,7 @@ pub(crate) fn returned(alloc: Global, value: Value) -> InstData
     )
 }
 
-/// A target with one argument.
+/// A target that has one argument.
 fn to(alloc: Global, block: Block, arg: Arg) -> Result<BlockCall, AllocError>
     ensures { IfOk result (λ target. target ≡ spec.to block arg) }
 {

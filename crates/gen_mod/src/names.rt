@@ -23,7 +23,7 @@ pub(crate) fn signature(alloc: Global) -> Result<Sig, AllocError>
     })
 }
 
-/// `%g` and the number.
+/// `%g` with the number.
 pub(crate) fn generated_name(alloc: Global, number: u32) -> Result<FuncName, AllocError>
     ensures { IfOk result (λ name. name ≡ spec.generated_name number) }
 {

@@ -14,7 +14,7 @@ fn begun(alloc: Global, number: u32) -> Result<Func, AllocError>
     Func::new(alloc, generated_name(alloc, number)?, signature(alloc)?)
 }
 
-/// It adds a constant to its argument.
+/// It returns its argument and a constant, added.
 pub(crate) fn adding(alloc: Global, number: u32, constant: u64) -> Result<Func, AllocError>
     ensures { IfOk result (λ func. func.function ≡ spec.adding number constant) }
 {

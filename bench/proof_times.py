@@ -4,9 +4,9 @@
     python3 bench/proof_times.py CRATE [HOW_MANY]
 
 Checks the crate with one job, and prints the lines of its progress before which most of the processor's time passed:
-the time, in seconds, and the function that was finished then. A function that takes long often needs an answer by hand,
-where the search tries much, or a `fn` in the place of a `const` of enums. What an earlier check of the same text kept
-is not checked again, here or in another checkout: remove `out/`, or change a comment.
+the time, in seconds, and the function that was finished then; those of five seconds and more at once. A function that
+takes long often needs an answer by hand, where the search tries much. What an earlier check of the same text kept is
+not checked again, here or in another checkout: an empty folder `out/incremental` in the crate's folder prevents that.
 """
 
 import os
@@ -45,9 +45,11 @@ def main():
         for line in check.stdout:
             now = processor_time(folder)
             rows.append((now - before, line.strip()))
+            if now - before >= 5:
+                print('%7.1f  %s' % rows[-1], flush=True)
             before = now
     print(rows[-1][1] if rows else 'nothing was printed')
-    print('%.0f seconds of the processor' % sum(max(time, 0) for time, _ in rows))
+    print('In order, of %.0f seconds of the processor:' % sum(max(time, 0) for time, _ in rows))
     for time, line in sorted(rows, reverse=True)[:most]:
         print('%7.1f  %s' % (time, line))
 

@@ -1,5 +1,5 @@
 //! Functions built and read back, and a module with them.
-ghost use Rattle.std.specs.Prelude.{◌≡◌, ◌∷◌, [], IfOk, OnOk, None};
+ghost use Rattle.std.specs.Prelude.{◌≡◌, ◌≤◌, ◌∷◌, [], IfOk, OnOk, None};
 ghost use Rattle.ir_core.specs.declared.names.FuncName.TheVariants.{Text};
 ghost use Rattle.ir_core.specs.Lists.{In};
 ghost use Rattle.ir_core.specs.Lookup.{block_numbers};
@@ -16,23 +16,19 @@ use ir_core::{
 use std::alloc::{AllocError, Global};
 
 /// A parameter of a signature, of 64 bits.
-fn word() -> Param
-    ensures { result ≡ spec.word }
-{
-    Param {
-        ty: Ty::I64,
-        ext: Ext::No,
-        purpose: Purpose::Normal,
-    }
-}
+const WORD: Param = Param {
+    ty: Ty::I64,
+    ext: Ext::No,
+    purpose: Purpose::Normal,
+};
 
-/// The list of one item.
-fn one<T: Drop>(alloc: Global, item: T) -> Result<List<T>, AllocError>
-    ensures { IfOk result (λ list. list ≡ item ∷ []) }
-{
-    let mut items = Vec::new(alloc);
-    items.push(item)?;
-    Ok(List::from_vec(items))
+/// A signature of one parameter and no result.
+fn one_param(alloc: Global) -> Result<Sig, AllocError> {
+    Ok(Sig {
+        params: List::from_vec(vec![in alloc; WORD]?),
+        results: List::from_vec(Vec::new(alloc)),
+        conv: Conv::Fast,
+    })
 }
 
 /// `(i64) -> i64 fast`
@@ -40,8 +36,8 @@ fn one_to_one(alloc: Global) -> Result<Sig, AllocError>
     ensures { IfOk result (λ sig. sig ≡ spec.one_to_one) }
 {
     Ok(Sig {
-        params: one(alloc, word())?,
-        results: one(alloc, word())?,
+        params: List::from_vec(vec![in alloc; WORD]?),
+        results: List::from_vec(vec![in alloc; WORD]?),
         conv: Conv::Fast,
     })
 }
@@ -50,7 +46,7 @@ fn one_to_one(alloc: Global) -> Result<Sig, AllocError>
 fn named(alloc: Global, letter: u8) -> Result<FuncName, AllocError>
     ensures { IfOk result (λ name. name ≡ Text (letter ∷ [])) }
 {
-    Ok(FuncName::Text(one(alloc, letter)?))
+    Ok(FuncName::Text(List::from_vec(vec![in alloc; letter]?)))
 }
 
 /// A target with one argument.
@@ -59,7 +55,7 @@ fn to(alloc: Global, block: Block, arg: Arg) -> Result<BlockCall, AllocError>
 {
     Ok(BlockCall {
         block,
-        args: one(alloc, arg)?,
+        args: List::from_vec(vec![in alloc; arg]?),
     })
 }
 
@@ -110,7 +106,7 @@ fn tried(
             sig: SigRef::new(0),
             args: Values::one(arg),
             normal: Boxed::new(alloc, to(alloc, normal, Arg::Ret(0))?)?,
-            table: Boxed::new(alloc, Table::new(one(alloc, entry)?.into_vec()))?,
+            table: Boxed::new(alloc, Table::new(vec![in alloc; entry]?))?,
         },
     ))
 }
@@ -120,7 +116,7 @@ fn one_block(alloc: Global, name: FuncName) -> Result<Func, AllocError>
     ensures named { IfOk result (λ func. func.function.name ≡ name) }
     ensures whole { IfOk result (λ func. IsWhole func.function) }
 {
-    let mut func = Func::new(alloc, name, one_to_one(alloc)?)?;
+    let mut func = Func::new(alloc, name, one_param(alloc)?)?;
     let value = func.declare(Ty::I64)?;
     let block = func.add_block()?;
     func.add_param(block, value)?;
@@ -176,52 +172,44 @@ fn add_insts(alloc: Global, func: &mut Func) -> Result<(), AllocError>
     func.add_inst(Block::new(2), returned(alloc, Value::new(2)))
 }
 
-/// No room.
-fn no_room() -> Room {
-    Room {
-        slots: 0,
-        sigs: 0,
-        callees: 0,
-        values: 0,
-        blocks: 0,
-        insts: 0,
-    }
-}
-
 /// What `%f` takes over from `%g`: the callee `%h` and two values.
 fn append_declarations(alloc: Global, func: &mut Func) -> Result<(), AllocError>
     requires { func.old.function ≡ spec.calling }
-    ensures { OnOk result (func.new.function ≡ spec.appended) }
+    ensures function { OnOk result (func.new.function ≡ spec.appended) }
+    ensures room { OnOk result ((2 ≤ func.new.room.blocks) × (3 ≤ func.new.room.insts)) }
 {
     func.reserve(Room {
+        slots: 0,
+        sigs: 0,
         callees: 1,
         values: 2,
-        ..no_room()
+        blocks: 2,
+        insts: 3,
     })?;
     let callee = Callee {
         name: named(alloc, 104)?,
         colocated: false,
         sig: SigRef::new(0),
     };
-    let slots = List::from_vec(Vec::new(alloc));
-    let sigs = List::from_vec(Vec::new(alloc));
-    let callees = one(alloc, callee)?;
+    let callees = List::from_vec(vec![in alloc; callee]?);
     let types = List::from_vec(vec![in alloc; Ty::I64, Ty::I64]?);
+    let (slots, sigs) = (
+        List::from_vec(Vec::new(alloc)),
+        List::from_vec(Vec::new(alloc)),
+    );
     func.append(slots, sigs, callees, types);
     Ok(())
 }
 
 /// Two blocks behind block0: one for the body of `%g`, and one behind its call.
 fn insert_blocks(alloc: Global, func: &mut Func) -> Result<(), AllocError>
-    requires { func.old.function ≡ spec.appended }
-    ensures { OnOk result (func.new.function ≡ spec.linked) }
+    requires function { func.old.function ≡ spec.appended }
+    requires room { 2 ≤ func.old.room.blocks }
+    ensures function { OnOk result (func.new.function ≡ spec.linked) }
+    ensures room { OnOk result (func.new.room.insts ≡ func.old.room.insts) }
 {
-    func.reserve(Room {
-        blocks: 2,
-        ..no_room()
-    })?;
-    let of_body = one(alloc, Value::new(3))?;
-    let of_back = one(alloc, Value::new(4))?;
+    let of_body = List::from_vec(vec![in alloc; Value::new(3)]?);
+    let of_back = List::from_vec(vec![in alloc; Value::new(4)]?);
     let body = func.insert_block(Block::new(0), of_body);
     func.insert_block(body, of_back);
     Ok(())
@@ -230,34 +218,26 @@ fn insert_blocks(alloc: Global, func: &mut Func) -> Result<(), AllocError>
 /// The call of `%g` is taken away.
 fn take_call(func: &mut Func)
     requires { func.old.function ≡ spec.linked }
-    ensures { func.new.function ≡ spec.emptied }
+    ensures function { func.new.function ≡ spec.emptied }
+    ensures room { func.new.room ≡ func.old.room }
 {
     let _ = func.take_last(Block::new(0));
 }
 
 /// In its place comes a jump into the body of `%g`, which calls `%h` and jumps to block1.
-fn put_insts(
-    func: &mut Func,
-    enter: InstData,
-    call: InstData,
-    leave: InstData,
-) -> Result<(), AllocError>
+fn put_insts(func: &mut Func, enter: InstData, call: InstData, leave: InstData)
     requires function { func.old.function ≡ spec.emptied }
+    requires room { 3 ≤ func.old.room.insts }
     requires enter { line_of enter ≡ spec.jump 3 0 }
     requires call { line_of call ≡ spec.tried 1 3 4 2 }
     requires leave { line_of leave ≡ spec.jump 1 4 }
-    ensures { OnOk result (func.new.function ≡ spec.inlined) }
+    ensures { func.new.function ≡ spec.inlined }
 {
-    func.reserve(Room {
-        insts: 3,
-        ..no_room()
-    })?;
     let entry = Block::new(0);
     func.put_inst(entry, enter);
     func.put_inst(entry, call);
     func.cut(entry, 1, Block::new(3));
     func.put_inst(Block::new(4), leave);
-    Ok(())
 }
 
 /// `%f` with its call replaced by the body of `%g`, by the calls that change a function in place.
@@ -279,26 +259,21 @@ fn inlined(alloc: Global) -> Result<Func, AllocError>
     )?;
     let leave = jump(alloc, Block::new(1), Value::new(4))?;
     take_call(&mut func);
-    put_insts(&mut func, enter, call, leave)?;
+    put_insts(&mut func, enter, call, leave);
     Ok(func)
 }
 
 #[test]
 fn reads_back(rt: HostRuntime) -> Result<(), AllocError> {
-    let func = one_block(rt.alloc(), FuncName::User(0, 1))?;
+    let alloc = rt.alloc();
+    let name = FuncName::User(0, 1);
+    let func = one_block(alloc, name.clone()?)?;
     assert!(rt; func.whole());
     assert_eq!(rt; func.size(), 4);
     assert_eq!(rt; func.blocks().count(), 1);
     let copy = func.copy()?;
     assert_eq!(rt; copy.size(), 4);
-    Ok(())
-}
 
-#[test]
-fn finds_what_was_pushed(rt: HostRuntime) -> Result<(), AllocError> {
-    let alloc = rt.alloc();
-    let name = FuncName::User(0, 1);
-    let func = one_block(alloc, name.clone()?)?;
     let mut module = Module::new(alloc);
     assert_eq!(rt; module.find(&name), None);
     module.push(func)?;
@@ -364,8 +339,8 @@ fn reads_back_what_was_inlined(rt: HostRuntime) -> Result<(), AllocError> {
     let alloc = rt.alloc();
     let func = inlined(alloc)?;
     assert!(rt; matches!(func.name(), FuncName::Text(text) if text.as_slice() == b"f".as_slice()));
-    assert_eq!(rt; func.sig().params.as_slice(), [word()].as_slice());
-    assert_eq!(rt; func.sig().results.as_slice(), [word()].as_slice());
+    assert_eq!(rt; func.sig().params.as_slice(), [WORD].as_slice());
+    assert_eq!(rt; func.sig().results.as_slice(), [WORD].as_slice());
     assert!(rt; func.slots().is_empty());
     assert_eq!(rt; func.sigs().len(), 1);
     assert_eq!(rt; func.callees().len(), 2);

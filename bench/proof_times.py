@@ -1,12 +1,14 @@
 #!/usr/bin/env python3
-"""Which functions of a crate cost the prover most.
+"""Where a check of a crate spends the processor's time.
 
     python3 bench/proof_times.py CRATE [HOW_MANY]
 
-Checks the crate with one job, and prints the lines of its progress before which most of the processor's time passed:
-the time, in seconds, and the function that was finished then; those of five seconds and more at once. A function that
-takes long often needs an answer by hand, where the search tries much. What an earlier check of the same text kept is
-not checked again, here or in another checkout: an empty folder `out/incremental` in the crate's folder prevents that.
+Checks the crate with one job, and prints the lines of its progress before which most of the processor's time passed,
+with the time in seconds; those of five seconds and more at once. A line names the function that was finished then. The
+time is not that function's alone: whatever was checked since the line before counts, as a library's module or a lemma
+file that the function is the first to need. So a large number is a place to look, and `--only` on the function, from
+nothing, tells its own time. What an earlier check of the same text kept, here or in another checkout, is not checked
+again: change a comment first, and empty `out/incremental`.
 """
 
 import os

@@ -8,7 +8,7 @@ ghost use Rattle.clif_insts.specs.Arguments as spec;
 use crate::lists::RawNames;
 use clif_words::Class;
 use std::alloc::Global;
-use token_reader::{Items, RawName, Reader, Stop, behind_commas, joined_by_commas, one_item};
+use token_reader::{Items, RawName, Reader, Stop, behind_commas, item_in_room, joined_by_commas};
 
 struct ValueItems;
 
@@ -39,7 +39,7 @@ pub fn more_names(alloc: Global, reader: &mut Reader<'_>, first: RawName) -> Res
     ensures shorter { IfOk result (λ _. length reader.new ≤ length reader.old) }
 {
     if reader.next_is(Class::Comma) {
-        let front = one_item(alloc, first)?;
+        let front = item_in_room(alloc, first, 2)?;
         Ok(RawNames::from_vec(more_values(alloc, reader, front)?))
     } else {
         Ok(RawNames::one(first))

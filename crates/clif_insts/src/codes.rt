@@ -12,7 +12,7 @@ ghost use Rattle.clif_words.specs.Terminals as words;
 ghost use Rattle.grammar.specs.Rules.{read};
 
 use crate::raw::RawTrap;
-use clif_words::{Class, Meaning, NamedTrap, Word};
+use clif_words::{Class, NamedTrap, Terminal, Word};
 use clk_num::Cc;
 use token_reader::{Reader, Stop};
 
@@ -22,8 +22,8 @@ pub(crate) fn condition(reader: &mut Reader<'_>) -> Result<Cc, Stop>
     ensures no_memory { IfErr result (λ e. e ≢ NoMemory) }
     ensures shorter { IfOk result (λ _. length reader.new < length reader.old) }
 {
-    match reader.next_meaning() {
-        Some(Meaning::Word(Word::Condition(condition))) => {
+    match reader.next_terminal() {
+        Some(Terminal::Word(Word::Condition(condition))) => {
             reader.advance();
             Ok(condition)
         }
@@ -51,8 +51,8 @@ pub(crate) fn trap(reader: &mut Reader<'_>) -> Result<RawTrap, Stop>
     ensures no_memory { IfErr result (λ e. e ≢ NoMemory) }
     ensures shorter { IfOk result (λ _. length reader.new < length reader.old) }
 {
-    match reader.next_meaning() {
-        Some(Meaning::Word(Word::TrapCode(code))) => {
+    match reader.next_terminal() {
+        Some(Terminal::Word(Word::TrapCode(code))) => {
             reader.advance();
             Ok(named_trap(code))
         }

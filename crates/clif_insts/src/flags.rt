@@ -10,7 +10,7 @@ ghost use Rattle.token_reader.specs.Reading.{Gives, same};
 ghost use Rattle.clif_insts.specs.Flags as spec;
 
 use crate::raw::RawFlag;
-use clif_words::{Class, Entity, Flag, Meaning, Word};
+use clif_words::{Class, Entity, Flag, Terminal, Word};
 use std::alloc::Global;
 use token_reader::{Reader, Stop};
 
@@ -72,16 +72,16 @@ pub(crate) fn plain_flag(reader: &mut Reader<'_>) -> Result<RawFlag, Stop>
     ensures no_memory { IfErr result (λ e. e ≢ NoMemory) }
     ensures shorter { IfOk result (λ _. length reader.new < length reader.old) }
 {
-    match reader.next_meaning() {
-        Some(Meaning::Word(Word::Flag(flag))) => {
+    match reader.next_terminal() {
+        Some(Terminal::Word(Word::Flag(flag))) => {
             reader.advance();
             Ok(raw_flag(flag))
         }
-        Some(Meaning::Word(Word::Vmctx)) => {
+        Some(Terminal::Word(Word::Vmctx)) => {
             reader.advance();
             Ok(RawFlag::Vmctx)
         }
-        Some(Meaning::Word(Word::TrapCode(_) | Word::Entity(Entity::UserTrap, _))) => {
+        Some(Terminal::Word(Word::TrapCode(_) | Word::Entity(Entity::UserTrap, _))) => {
             Err(Stop::Unsupported)
         }
         _ => Err(Stop::Syntax),

@@ -8,7 +8,7 @@ ghost use Rattle.clif_read.specs.DeclarationValues as values;
 ghost use Rattle.clif_read.specs.Attributes as spec;
 
 use crate::raw::RawAttribute;
-use clif_words::{Class, Extension, Meaning, Word};
+use clif_words::{Class, Extension, Terminal, Word};
 use std::alloc::Global;
 use token_reader::{Reader, Stop, one_item};
 
@@ -28,8 +28,8 @@ fn ext(reader: &mut Reader<'_>) -> Result<RawAttribute, Stop>
     ensures is { Gives same reader.new result (spec.ext_at reader.old) }
     ensures shorter { IfOk result (λ _. length reader.new < length reader.old) }
 {
-    match reader.next_meaning() {
-        Some(Meaning::Word(Word::Ext(extension))) => {
+    match reader.next_terminal() {
+        Some(Terminal::Word(Word::Ext(extension))) => {
             reader.advance();
             Ok(raw_extension(extension))
         }

@@ -6,7 +6,7 @@ ghost use Rattle.clif_read.specs.Signatures as spec;
 
 use crate::attributes::attributes;
 use crate::raw::{RawParam, RawSignature};
-use clif_words::{Class, Meaning, Word};
+use clif_words::{Class, Terminal, Word};
 use ir_core::{Conv, List};
 use std::alloc::Global;
 use token_reader::{Items, Reader, Stop, any_type, joined_by_commas};
@@ -83,8 +83,8 @@ fn convention(reader: &mut Reader<'_>) -> Result<Conv, Stop>
     ensures is { Gives same reader.new result (spec.convention_at reader.old) }
     ensures shorter { IfOk result (λ _. length reader.new < length reader.old) }
 {
-    match reader.next_meaning() {
-        Some(Meaning::Word(Word::Conv(convention))) => {
+    match reader.next_terminal() {
+        Some(Terminal::Word(Word::Conv(convention))) => {
             reader.advance();
             Ok(convention)
         }

@@ -14,8 +14,8 @@ use Rattle.clif_words.specs.declared.meanings.Extension.{Extension}
 use Rattle.clif_words.specs.declared.meanings.Extension.TheVariants as extensions
 use Rattle.clif_words.specs.declared.meanings.Flag.{Flag}
 use Rattle.clif_words.specs.declared.meanings.Flag.TheVariants as flags
-use Rattle.clif_words.specs.declared.meanings.Meaning.{Meaning as Token}
-use Rattle.clif_words.specs.declared.meanings.Meaning.TheVariants as tokens
+use Rattle.clif_words.specs.declared.meanings.Terminal.{Terminal}
+use Rattle.clif_words.specs.declared.meanings.Terminal.TheVariants as terminals
 use Rattle.clif_words.specs.declared.meanings.NamedTrap.{NamedTrap}
 use Rattle.clif_words.specs.declared.meanings.NamedTrap.TheVariants as traps
 use Rattle.clif_words.specs.declared.meanings.Word.{Word}
@@ -118,27 +118,27 @@ seen_word (words.Entity entity number) = means (entity_class entity) number
 seen_word words.Other = means classes.Other 0
 
 -- of a token that is no word only the class counts
-abbrev pub seen : Token → Meaning
-seen (tokens.Word word) = seen_word word
-seen tokens.Header = means classes.Header 0
-seen tokens.Name = means classes.Name 0
-seen tokens.Unsigned = means classes.Unsigned 0
-seen tokens.Signed = means classes.Signed 0
-seen tokens.Srcloc = means classes.Srcloc 0
-seen tokens.Arrow = means classes.Arrow 0
-seen tokens.LeftParen = means classes.LeftParen 0
-seen tokens.RightParen = means classes.RightParen 0
-seen tokens.LeftBrace = means classes.LeftBrace 0
-seen tokens.RightBrace = means classes.RightBrace 0
-seen tokens.LeftBracket = means classes.LeftBracket 0
-seen tokens.RightBracket = means classes.RightBracket 0
-seen tokens.Comma = means classes.Comma 0
-seen tokens.Colon = means classes.Colon 0
-seen tokens.Equals = means classes.Equals 0
-seen tokens.Dot = means classes.Dot 0
-seen tokens.Less = means classes.Less 0
-seen tokens.Greater = means classes.Greater 0
-seen tokens.Other = means classes.Other 0
+abbrev pub seen : Terminal → Meaning
+seen (terminals.Word word) = seen_word word
+seen terminals.Header = means classes.Header 0
+seen terminals.Name = means classes.Name 0
+seen terminals.Unsigned = means classes.Unsigned 0
+seen terminals.Signed = means classes.Signed 0
+seen terminals.Srcloc = means classes.Srcloc 0
+seen terminals.Arrow = means classes.Arrow 0
+seen terminals.LeftParen = means classes.LeftParen 0
+seen terminals.RightParen = means classes.RightParen 0
+seen terminals.LeftBrace = means classes.LeftBrace 0
+seen terminals.RightBrace = means classes.RightBrace 0
+seen terminals.LeftBracket = means classes.LeftBracket 0
+seen terminals.RightBracket = means classes.RightBracket 0
+seen terminals.Comma = means classes.Comma 0
+seen terminals.Colon = means classes.Colon 0
+seen terminals.Equals = means classes.Equals 0
+seen terminals.Dot = means classes.Dot 0
+seen terminals.Less = means classes.Less 0
+seen terminals.Greater = means classes.Greater 0
+seen terminals.Other = means classes.Other 0
 
 -- the rows of the tables, as the grammar has them
 abbrev pub row : List ℕ → Meaning → Row

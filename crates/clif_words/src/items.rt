@@ -4,17 +4,18 @@ ghost use Rattle.std.specs.Prelude.{◌≡◌, ◌+◌, ◌==◌, ◌&&◌, ◌|
 ghost use Rattle.std.specs.Prelude.{slice_get, option_map, IfSome, map};
 ghost use Rattle.std.specs.Str.{bytes_eq};
 ghost use Rattle.clif_lex.specs.Bytes.{first, is_sign};
-ghost use Rattle.clif_lex.specs.Spelling.{AreIn};
+ghost use Rattle.clif_lex.specs.declared.spans.TokenKind.TheVariants as kinds;
 ghost use Rattle.clif_words.specs.declared.class.Class.TheVariants.{Value};
 ghost use Rattle.clif_words.specs.Seen.{seen, seen_word, entity_class, opcode_row, word_row, stem_row};
 ghost use Rattle.clif_words.specs.Table as table;
 ghost use Rattle.clif_words.specs.Words as words;
 ghost use Rattle.clif_words.specs.Lexemes as spec;
 
-use crate::meanings::{Entity, Meaning, Word};
+use crate::class::Class;
+use crate::meanings::{Entity, Terminal, Word};
 use crate::opcodes::{OpcodeRow, opcode_rows};
 use crate::words::*;
-use clif_lex::{TokenKind, Tokens, digit, digit_run};
+use clif_lex::{TokenKind, digit, digit_run};
 
 /// The byte at the front, or 0 in an empty text.
 #[inline]
@@ -128,7 +129,7 @@ fn row_number(word: &[u8]) -> usize
 }
 
 /// What a word is that stands in the tables.
-#[inline]
+#[inline(always)]
 fn own_word(word: &[u8]) -> Option<Word>
     ensures { option_map seen_word result ≡ words.look_up table.all_words word.now }
 {
@@ -264,9 +265,21 @@ fn value_number(digits: &[u8]) -> Option<u64>
     Some(number)
 }
 
-/// What a word is, whatever it is.
+/// The number of the value that a word names, if it has at most 19 digits.
+#[inline]
+fn value_of(word: &[u8]) -> Option<u64>
+    ensures { IfSome result (λ number. words.word_meaning word.now ≡ words.means Value number) }
+{
+    match word.split_first() {
+        Some((letter, digits)) if *letter == b'v' => value_number(digits),
+        _ => None,
+    }
+}
+
+/// What a word is to the grammar.
+#[inline(always)]
 #[tactic(auto, unfolding(crate::specs::Words::word_meaning))]
-fn any_word(word: &[u8]) -> Word
+pub fn word_meaning(word: &[u8]) -> Word
     ensures { seen_word result ≡ words.word_meaning word.now }
 {
     match own_word(word) {
@@ -275,64 +288,61 @@ fn any_word(word: &[u8]) -> Word
     }
 }
 
-/// What a word is to the grammar.
-#[inline]
-pub fn word_meaning(word: &[u8]) -> Word
-    ensures { seen_word result ≡ words.word_meaning word.now }
-{
-    match word.split_first() {
-        Some((letter, digits)) if *letter == b'v' => match value_number(digits) {
-            Some(number) => Word::Entity(Entity::Value, number),
-            None => any_word(word),
-        },
-        _ => any_word(word),
-    }
-}
-
-fn mark(byte: u8) -> Meaning
-    ensures { seen result ≡ words.means (spec.mark_class byte) 0 }
+/// The class of a mark, and what it is.
+#[inline(always)]
+fn mark(byte: u8) -> (Class, Terminal)
+    ensures { (seen result.1 ≡ words.means (spec.mark_class byte) 0) × (result.0 ≡ spec.mark_class byte) }
 {
     match byte {
-        b'(' => Meaning::LeftParen,
-        b')' => Meaning::RightParen,
-        b'{' => Meaning::LeftBrace,
-        b'}' => Meaning::RightBrace,
-        b'[' => Meaning::LeftBracket,
-        b']' => Meaning::RightBracket,
-        b',' => Meaning::Comma,
-        b':' => Meaning::Colon,
-        b'=' => Meaning::Equals,
-        b'.' => Meaning::Dot,
-        b'<' => Meaning::Less,
-        b'>' => Meaning::Greater,
-        _ => Meaning::Other,
+        b'(' => (Class::LeftParen, Terminal::LeftParen),
+        b')' => (Class::RightParen, Terminal::RightParen),
+        b'{' => (Class::LeftBrace, Terminal::LeftBrace),
+        b'}' => (Class::RightBrace, Terminal::RightBrace),
+        b'[' => (Class::LeftBracket, Terminal::LeftBracket),
+        b']' => (Class::RightBracket, Terminal::RightBracket),
+        b',' => (Class::Comma, Terminal::Comma),
+        b':' => (Class::Colon, Terminal::Colon),
+        b'=' => (Class::Equals, Terminal::Equals),
+        b'.' => (Class::Dot, Terminal::Dot),
+        b'<' => (Class::Less, Terminal::Less),
+        b'>' => (Class::Greater, Terminal::Greater),
+        _ => (Class::Other, Terminal::Other),
     }
 }
 
-fn number(spelling: &[u8]) -> Meaning
-    ensures { seen result ≡ words.means (spec.number_class spelling.now) 0 }
+/// The class of a number, and what it is.
+#[inline(always)]
+fn number(spelling: &[u8]) -> (Class, Terminal)
+    ensures { (seen result.1 ≡ words.means (spec.number_class spelling.now) 0)
+        × (result.0 ≡ spec.number_class spelling.now) }
 {
     match front(spelling) {
-        b'+' | b'-' => Meaning::Signed,
-        _ => Meaning::Unsigned,
+        b'+' | b'-' => (Class::Signed, Terminal::Signed),
+        _ => (Class::Unsigned, Terminal::Unsigned),
     }
 }
 
-/// What a token of the text is to the grammar.
-#[inline]
-pub fn token_meaning(text: &[u8], tokens: &Tokens, i: usize) -> Meaning
-    requires inside { AreIn text.now tokens.now }
-    requires below { i < length tokens.now }
-    ensures { IfSome (slice_get tokens.now i) (λ token. seen result ≡ spec.meaning text.now token) }
+/// The class of a token with this spelling, and what it is; nothing for a word that is no value of few digits.
+#[inline(always)]
+pub fn quick_terminal(kind: TokenKind, spelling: &[u8]) -> Option<(Class, Terminal)>
+    ensures is { IfSome result (λ found. (seen found.1 ≡ spec.meaning_of kind spelling.now)
+        × (found.0 ≡ (seen found.1).class)) }
+    ensures word { result ≡ None → kind ≡ kinds.Word }
 {
-    match tokens.get(i).kind {
-        TokenKind::Header => Meaning::Header,
-        TokenKind::Comment => Meaning::Other,
-        TokenKind::Name => Meaning::Name,
-        TokenKind::Word => Meaning::Word(word_meaning(tokens.spelling(text, i))),
-        TokenKind::Number => number(tokens.spelling(text, i)),
-        TokenKind::Srcloc => Meaning::Srcloc,
-        TokenKind::Arrow => Meaning::Arrow,
-        TokenKind::Mark(byte) => mark(byte),
+    match kind {
+        TokenKind::Word => match value_of(spelling) {
+            Some(number) => Some((
+                Class::Value,
+                Terminal::Word(Word::Entity(Entity::Value, number)),
+            )),
+            None => None,
+        },
+        TokenKind::Mark(byte) => Some(mark(byte)),
+        TokenKind::Number => Some(number(spelling)),
+        TokenKind::Header => Some((Class::Header, Terminal::Header)),
+        TokenKind::Comment => Some((Class::Other, Terminal::Other)),
+        TokenKind::Name => Some((Class::Name, Terminal::Name)),
+        TokenKind::Srcloc => Some((Class::Srcloc, Terminal::Srcloc)),
+        TokenKind::Arrow => Some((Class::Arrow, Terminal::Arrow)),
     }
 }

@@ -9,6 +9,6 @@ mod opcodes;
 mod words;
 
 pub use class::Class;
-pub use items::{token_meaning, word_meaning};
-pub use meanings::{Entity, Extension, Flag, Meaning, NamedTrap, Word};
+pub use items::{quick_terminal, word_meaning};
+pub use meanings::{Entity, Extension, Flag, NamedTrap, Terminal, Word};
 pub use opcodes::{OPCODES, Opcode, OpcodeRow, opcode_rows};

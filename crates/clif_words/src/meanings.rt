@@ -9,14 +9,14 @@ use clk_num::Cc;
 use ir_core::{Conv, Ty};
 
 /// How a parameter or a result is extended.
-#[derive(Clone, Copy, Debug, PartialEq, Eq)]
+#[derive(Clone, Copy, Debug)]
 pub enum Extension {
     Uext,
     Sext,
 }
 
 /// A flag of a memory access but `little`, `big` and `vmctx`.
-#[derive(Clone, Copy, Debug, PartialEq, Eq)]
+#[derive(Clone, Copy, Debug)]
 pub enum Flag {
     Notrap,
     Aligned,
@@ -27,7 +27,7 @@ pub enum Flag {
 }
 
 /// A trap code but `userN`.
-#[derive(Clone, Copy, Debug, PartialEq, Eq)]
+#[derive(Clone, Copy, Debug)]
 pub enum NamedTrap {
     StkOvf,
     IntOvf,
@@ -192,9 +192,9 @@ impl Word {
         }
     }
 
-    /// The number in the word of an entity; of another word, which of its class it is.
-    #[inline]
-    pub fn number(self) -> u64
+    /// Which of its class the word is; of an entity the number in it.
+    #[inline(never)]
+    fn place_in_class(self) -> u64
         ensures { result ≡ (spec.seen_word self).number }
     {
         match self {
@@ -209,11 +209,23 @@ impl Word {
             _ => 0,
         }
     }
+
+    /// The number in the word of an entity; of another word, which of its class it is.
+    /// That of an entity, which is asked most, is at hand.
+    #[inline]
+    pub fn number(self) -> u64
+        ensures { result ≡ (spec.seen_word self).number }
+    {
+        match self {
+            Word::Entity(_, number) => number,
+            _ => self.place_in_class(),
+        }
+    }
 }
 
 /// What a token is to the grammar.
 #[derive(Clone, Copy, Debug)]
-pub enum Meaning {
+pub enum Terminal {
     /// A word.
     Word(Word),
     /// A line of a filetest's head.
@@ -256,43 +268,14 @@ pub enum Meaning {
     Other,
 }
 
-impl Meaning {
-    /// The class of the token.
-    #[inline]
-    pub fn class(self) -> Class
-        ensures { result ≡ (spec.seen self).class }
-    {
-        match self {
-            Meaning::Word(word) => word.class(),
-            Meaning::Header => Class::Header,
-            Meaning::Name => Class::Name,
-            Meaning::Unsigned => Class::Unsigned,
-            Meaning::Signed => Class::Signed,
-            Meaning::Srcloc => Class::Srcloc,
-            Meaning::Arrow => Class::Arrow,
-            Meaning::LeftParen => Class::LeftParen,
-            Meaning::RightParen => Class::RightParen,
-            Meaning::LeftBrace => Class::LeftBrace,
-            Meaning::RightBrace => Class::RightBrace,
-            Meaning::LeftBracket => Class::LeftBracket,
-            Meaning::RightBracket => Class::RightBracket,
-            Meaning::Comma => Class::Comma,
-            Meaning::Colon => Class::Colon,
-            Meaning::Equals => Class::Equals,
-            Meaning::Dot => Class::Dot,
-            Meaning::Less => Class::Less,
-            Meaning::Greater => Class::Greater,
-            Meaning::Other => Class::Other,
-        }
-    }
-
+impl Terminal {
     /// The number in the word of an entity; of another token, which of its class it is.
     #[inline]
     pub fn number(self) -> u64
         ensures { result ≡ (spec.seen self).number }
     {
         match self {
-            Meaning::Word(word) => word.number(),
+            Terminal::Word(word) => word.number(),
             _ => 0,
         }
     }

@@ -2,8 +2,8 @@
 use Rattle.std.proofs.Common.{◌≡◌, ℕ, true, false, List, ◌∷◌, drop, Some, Ok, Err, refl, sym, ap, ◌∙◌}
 use Rattle.grammar.specs.Rules.{Lexeme, Syntax}
 use Rattle.clif_words.specs.declared.class.Class.{Class}
-use Rattle.clif_words.specs.declared.meanings.Meaning.{Meaning}
-use Rattle.clif_words.specs.declared.meanings.Meaning.TheVariants as tokens
+use Rattle.clif_words.specs.declared.meanings.Terminal.{Terminal}
+use Rattle.clif_words.specs.declared.meanings.Terminal.TheVariants as terminals
 use Rattle.clif_words.specs.declared.meanings.Word.TheVariants as words
 use Rattle.clif_words.specs.declared.opcodes.Opcode.{Opcode}
 use Rattle.clif_words.specs.Opcodes.{opcode_of}
@@ -13,11 +13,11 @@ use Rattle.token_reader.specs.Next.{Tells}
 use Rattle.token_reader.specs.Reading.{next_is, name, opcode_at}
 use Rattle.token_reader.proofs.Takes.{takes_name, misses_name}
 
-pub opcode_told : (class : Class) (opcode : Opcode) (spot : ℕ) (ts after : List Lexeme) → Tells (Some (tokens.Word (words.Opcode opcode))) ts → next_is class ts ≡ true → after ≡ drop 1 ts
+pub opcode_told : (class : Class) (opcode : Opcode) (spot : ℕ) (ts after : List Lexeme) → Tells (Some (terminals.Word (words.Opcode opcode))) ts → next_is class ts ≡ true → after ≡ drop 1 ts
     → ((x : Lexeme) (xs : List Lexeme) → ts ≡ x ∷ xs → spot ≡ x.spot) → opcode_at class ts ≡ Ok (record { kind = opcode; spot = spot }, after)
 unfolding opcode_at
 opcode_told class opcode spot ts after tells is rest at =
-    let m : Meaning = tokens.Word (words.Opcode opcode) in
+    let m : Terminal = terminals.Word (words.Opcode opcode) in
     let x = tells.0 in
     let word : RawName = record { number = x.number; spot = spot } in
     let front : (y : Lexeme) (ys : List Lexeme) → ts ≡ y ∷ ys → word ≡ name y = λ y ys e.

@@ -41,17 +41,17 @@ left_is text ts i end next within shows = go (nat_lt i end) refl
     go false e = sym (left_none text (take end ts) i (let le = ltb-false i end e in let len = length-take end ts in omega arith))
 
 -- what the next token is
-pub shown_some : (text : List ℕ) (ts : List Token) (next : Next) → Shows text ts next → heads_any (lexemes text ts) ≡ true → Upcoming text ts (Some (means next.class (seen next.meaning).number))
+pub shown_some : (text : List ℕ) (ts : List Token) (next : Next) → Shows text ts next → heads_any (lexemes text ts) ≡ true → Upcoming text ts (Some (means next.class (seen next.terminal).number))
 unfolding lexemes
 shown_some text [] next shows left = absurd cc
-shown_some text (t ∷ ts) next shows left = (shows.0, ap Some (ap (λ (class : Class). means class (seen next.meaning).number) shows.1.1 ∙ sym shows.1.0))
+shown_some text (t ∷ ts) next shows left = (shows.0, ap Some (ap (λ (class : Class). means class (seen next.terminal).number) shows.1.1 ∙ sym shows.1.0))
 
 pub shown_none : (text : List ℕ) (ts : List Token) (next : Next) → Shows text ts next → heads_any (lexemes text ts) ≡ false → Upcoming text ts None
 unfolding lexemes
 shown_none text [] next shows left = refl
 shown_none text (t ∷ ts) next shows left = absurd (let e : true ≡ false = rw (shows.0) at left in cc)
 
-pub front_shown : (text : List ℕ) (ts : List Token) (next : Next) (x : Lexeme) (xs : List Lexeme) → Shows text ts next → lexemes text ts ≡ x ∷ xs → ((seen next.meaning).number ≡ x.number) × (next.spot ≡ x.spot)
+pub front_shown : (text : List ℕ) (ts : List Token) (next : Next) (x : Lexeme) (xs : List Lexeme) → Shows text ts next → lexemes text ts ≡ x ∷ xs → ((seen next.terminal).number ≡ x.number) × (next.spot ≡ x.spot)
 unfolding lexemes
 front_shown text [] next x xs shows e = absurd cc
 front_shown text (t ∷ ts) next x xs shows e =
@@ -65,7 +65,7 @@ spot_shown text [] next end shows left = absurd cc
 spot_shown text (t ∷ ts) next end shows left = rw (shows.0) (sym shows.1.2)
 
 -- what is kept tells what the next token is
-pub shown_tells : (text : List ℕ) (ts : List Token) (next : Next) → Shows text ts next → heads_any (lexemes text ts) ≡ true → Tells (Some next.meaning) (lexemes text ts)
+pub shown_tells : (text : List ℕ) (ts : List Token) (next : Next) → Shows text ts next → heads_any (lexemes text ts) ≡ true → Tells (Some next.terminal) (lexemes text ts)
 unfolding lexemes
 shown_tells text [] next shows left = absurd cc
 shown_tells text (t ∷ ts) next shows left =

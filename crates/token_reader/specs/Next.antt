@@ -2,7 +2,7 @@
 use Rattle.std.specs.Prelude.{◌≡◌, ℕ, Bool, false, List, [], ◌∷◌, Option, Some, None}
 use Rattle.grammar.specs.Rules.{Lexeme, member}
 use Rattle.clif_words.specs.declared.class.Class.{Class}
-use Rattle.clif_words.specs.declared.meanings.Meaning.{Meaning}
+use Rattle.clif_words.specs.declared.meanings.Terminal.{Terminal}
 use Rattle.clif_words.specs.Classes.{code}
 use Rattle.clif_words.specs.Seen.{seen}
 
@@ -17,7 +17,7 @@ spot_or end [] = end
 spot_or end (x ∷ xs) = x.spot
 
 -- what the next token is, of which the grammar sees the class and the number; or there is none
-abbrev pub Tells : Option Meaning → List Lexeme → Type 0
+abbrev pub Tells : Option Terminal → List Lexeme → Type 0
 Tells None ts = ts ≡ []
 Tells (Some m) ts =
     (x : Lexeme) × (xs : List Lexeme) × (ts ≡ x ∷ xs) × (x.class ≡ code (seen m).class) × (x.number ≡ (seen m).number)

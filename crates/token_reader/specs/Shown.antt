@@ -8,7 +8,7 @@ use Rattle.token_reader.specs.declared.reader.Next.{Next}
 -- what is kept is of this token
 abbrev pub IsOf : List ℕ → Token → Next → Type 0
 IsOf text token next =
-    (meaning text token ≡ seen next.meaning) × (next.class ≡ (seen next.meaning).class) × (token.start ≡ next.spot)
+    (meaning text token ≡ seen next.terminal) × (next.class ≡ (seen next.terminal).class) × (token.start ≡ next.spot)
 
 -- The tokens from here on begin with one that is no comment, and what is kept is of it; or there are none.
 abbrev pub Shows : List ℕ → List Token → Next → Type 0

@@ -5,7 +5,7 @@ ghost use Rattle.grammar.specs.Rules.{Lexeme, Out};
 ghost use Rattle.token_reader.specs.Reading.{Gives, same};
 ghost use Rattle.token_reader.specs.Reading as spec;
 
-use crate::lists::one_item;
+use crate::lists::item_in_room;
 use crate::reader::Reader;
 use crate::stop::Stop;
 use clif_words::Class;
@@ -65,6 +65,7 @@ pub fn joined_by_commas<T: Drop, I: Items<T>>(
     ensures shorter { IfOk result (λ _. length reader.new < length reader.old) }
 {
     let first = items.item(alloc, reader)?;
-    let front = one_item(alloc, first)?;
+    let room = if reader.next_is(Class::Comma) { 2 } else { 1 };
+    let front = item_in_room(alloc, first, room)?;
     behind_commas(alloc, reader, items, front)
 }

@@ -2,6 +2,7 @@
 #![tactic(auto)]
 
 mod commas;
+mod kinds;
 mod lists;
 mod numbers;
 mod raw;
@@ -10,7 +11,7 @@ mod stop;
 mod types;
 
 pub use commas::{Items, behind_commas, joined_by_commas};
-pub use lists::one_item;
+pub use lists::{item_in_room, one_item};
 pub use numbers::{number, offset};
 pub use raw::{RawName, RawNumber, RawOpcode, RawText};
 pub use reader::Reader;

@@ -11,7 +11,16 @@ pub fn one_item<T: Drop>(alloc: Global, item: T) -> Result<Vec<T>, Stop>
     ensures some { IfOk result (λ list. list.items ≡ item ∷ []) }
     ensures none { IfErr result (λ e. e ≡ NoMemory) }
 {
-    let mut list = Vec::with_capacity(alloc, 1)?;
+    item_in_room(alloc, item, 1)
+}
+
+/// The list of this item alone, in a block for so many.
+#[inline]
+pub fn item_in_room<T: Drop>(alloc: Global, item: T, room: usize) -> Result<Vec<T>, Stop>
+    ensures some { IfOk result (λ list. list.items ≡ item ∷ []) }
+    ensures none { IfErr result (λ e. e ≡ NoMemory) }
+{
+    let mut list = Vec::with_capacity(alloc, room)?;
     list.push(item)?;
     Ok(list)
 }

@@ -6,7 +6,8 @@ ghost use Rattle.grammar.specs.Rules.{Lexeme, heads, heads_any};
 ghost use Rattle.clif_lex.specs.Spelling.{AreIn};
 ghost use Rattle.clif_words.specs.Classes.{code};
 ghost use Rattle.clif_words.specs.Lexemes.{lexemes};
-ghost use Rattle.clif_words.specs.Lexemes as lexeme_specs;
+ghost use Rattle.clif_words.specs.Seen.{seen};
+ghost use Rattle.clif_words.specs.Words.{word_meaning};
 ghost use Rattle.clif_words.specs.TextTokens.{is_form};
 ghost use Rattle.token_reader.specs.declared.stop.Stop.TheVariants.{NoMemory};
 ghost use Rattle.token_reader.specs.Names as names;
@@ -16,10 +17,11 @@ ghost use Rattle.token_reader.specs.Reading as spec;
 ghost use Rattle.token_reader.specs.Reading.{Gives, same};
 ghost use Rattle.token_reader.specs.Shown.{IsOf, Shows};
 
+use crate::kinds::{is_comment, is_number, name_of};
 use crate::raw::{RawName, RawNumber, RawOpcode, RawText};
 use crate::stop::Stop;
-use clif_lex::{TokenKind, Tokens};
-use clif_words::{Class, Meaning, Word, token_meaning};
+use clif_lex::Tokens;
+use clif_words::{Class, Terminal, Word, quick_terminal, word_meaning};
 use ir_core::List;
 use std::alloc::Global;
 use std::marker::Model;
@@ -29,9 +31,9 @@ use std::marker::Model;
 struct Next {
     /// Its place in the list, or where the reader ends.
     at: usize,
-    /// The class of its meaning, which is asked most.
+    /// The class of its terminal, which is asked most.
     class: Class,
-    meaning: Meaning,
+    terminal: Terminal,
     /// Its first byte.
     spot: usize,
 }
@@ -62,42 +64,17 @@ impl<'a> Model for Reader<'a> {
         × Shows r.text.now (drop r.next.at (take r.«end» r.tokens.now)) r.next };
 }
 
-/// Whether a token is a comment.
-#[inline]
-fn is_comment(kind: TokenKind) -> bool
-    ensures { result ≡ lexeme_specs.is_comment kind }
+/// Keeps what a word is.
+#[inline(never)]
+fn keep_word(next: &mut Next, spelling: &[u8])
+    ensures at { next.new.at ≡ next.old.at }
+    ensures spot { next.new.spot ≡ next.old.spot }
+    ensures terminal { seen next.new.terminal ≡ word_meaning spelling.now }
+    ensures class { next.new.class ≡ (seen next.new.terminal).class }
 {
-    matches!(kind, TokenKind::Comment)
-}
-
-/// Whether a token is a number.
-#[inline]
-fn is_number(kind: TokenKind) -> bool
-    ensures { result ≡ lexeme_specs.is_number kind }
-{
-    matches!(kind, TokenKind::Number)
-}
-
-/// What stands behind the first byte.
-#[inline]
-fn behind_first(spelling: &[u8]) -> &[u8]
-    ensures { result.now ≡ drop 1 spelling.now }
-{
-    match spelling.split_first() {
-        Some((_, rest)) => rest,
-        None => spelling,
-    }
-}
-
-/// What a token with this spelling spells as a name, without its `%`, or nothing where it is none.
-#[inline]
-fn name_of(kind: TokenKind, spelling: &[u8]) -> &[u8]
-    ensures { result.now ≡ lexeme_specs.name_of kind spelling.now }
-{
-    match kind {
-        TokenKind::Name => behind_first(spelling),
-        _ => &[],
-    }
+    let word = word_meaning(spelling);
+    next.class = word.class();
+    next.terminal = Terminal::Word(word);
 }
 
 /// Keeps what the token at a place of the list is.
@@ -108,12 +85,17 @@ fn keep(next: &mut Next, text: &[u8], tokens: &Tokens, at: usize)
     ensures at { next.new.at ≡ at }
     ensures token { IfSome (slice_get tokens.now at) (λ token. IsOf text.now token next.new) }
 {
-    let spot = tokens.get(at).start;
-    let meaning = token_meaning(text, tokens, at);
+    let token = tokens.get(at);
+    let spelling = tokens.spelling(text, at);
     next.at = at;
-    next.class = meaning.class();
-    next.meaning = meaning;
-    next.spot = spot;
+    next.spot = token.start;
+    match quick_terminal(token.kind, spelling) {
+        Some((class, terminal)) => {
+            next.class = class;
+            next.terminal = terminal;
+        }
+        None => keep_word(next, spelling),
+    }
 }
 
 /// Goes on to the first token from a place on and before the end that is no comment.
@@ -157,7 +139,7 @@ impl<'a> Reader<'a> {
         let mut next = Next {
             at: end,
             class: Class::Other,
-            meaning: Meaning::Other,
+            terminal: Terminal::Other,
             spot: 0,
         };
         find(&mut next, text, tokens, from, end);
@@ -228,11 +210,11 @@ impl<'a> Reader<'a> {
 
     /// What the next token is, if there is one.
     #[inline]
-    pub fn next_meaning(&self) -> Option<Meaning>
+    pub fn next_terminal(&self) -> Option<Terminal>
         ensures { Tells result self.now }
     {
         if self.is_left() {
-            Some(self.next.meaning)
+            Some(self.next.terminal)
         } else {
             None
         }
@@ -260,7 +242,7 @@ impl<'a> Reader<'a> {
         ensures { (x : Lexeme) (xs : List Lexeme) → self.now ≡ x ∷ xs → result ≡ spec.name x }
     {
         RawName {
-            number: self.next.meaning.number(),
+            number: self.next.terminal.number(),
             spot: self.next.spot,
         }
     }
@@ -341,8 +323,8 @@ impl<'a> Reader<'a> {
         if !self.next_is(class) {
             return Err(Stop::Syntax);
         }
-        match self.next_meaning() {
-            Some(Meaning::Word(Word::Opcode(kind))) => {
+        match self.next_terminal() {
+            Some(Terminal::Word(Word::Opcode(kind))) => {
                 let spot = self.next.spot;
                 self.advance();
                 Ok(RawOpcode { kind, spot })

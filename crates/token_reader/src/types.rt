@@ -8,7 +8,7 @@ ghost use Rattle.token_reader.specs.Types as spec;
 use crate::raw::RawName;
 use crate::reader::Reader;
 use crate::stop::Stop;
-use clif_words::{Class, Meaning, Word};
+use clif_words::{Class, Terminal, Word};
 use ir_core::Ty;
 
 /// A type.
@@ -18,12 +18,12 @@ pub fn any_type(reader: &mut Reader<'_>) -> Result<Ty, Stop>
     ensures no_memory { IfErr result (λ e. e ≢ NoMemory) }
     ensures shorter { IfOk result (λ _. length reader.new < length reader.old) }
 {
-    match reader.next_meaning() {
-        Some(Meaning::Word(Word::Ty(ty))) => {
+    match reader.next_terminal() {
+        Some(Terminal::Word(Word::Ty(ty))) => {
             reader.advance();
             Ok(ty)
         }
-        Some(Meaning::Word(Word::RefusedType)) => Err(Stop::Unsupported),
+        Some(Terminal::Word(Word::RefusedType)) => Err(Stop::Unsupported),
         _ => Err(Stop::Syntax),
     }
 }

@@ -9,4 +9,4 @@ pub returns-then-is_left : goal.returns-then-is_left
 returns-then-is_left c = λ codes.
     let i = c.self.inside in
     let up = shown_some i.text.now _ i.next c.self.invariant.3 (rw (c.self.view_is) (sym c.is_left.ensures ∙ c.if-is_left.true)) in
-    rw (← c.self.view_is) (heads_among i.text.now _ (means i.next.class (seen i.next.meaning).number) codes up)
+    rw (← c.self.view_is) (heads_among i.text.now _ (means i.next.class (seen i.next.terminal).number) codes up)

@@ -1,5 +1,5 @@
 use Rattle.std.proofs.Common.{Some, sym, ap, subst, ◌∙◌}
-use Rattle.clif_words.specs.declared.meanings.Meaning.TheVariants as tokens
+use Rattle.clif_words.specs.declared.meanings.Terminal.TheVariants as terminals
 use Rattle.token_reader.specs.Next.{Tells}
 use Rattle.token_reader.proofs.Opcodes.{opcode_told, opcode_missed}
 use Rattle.token_reader.proofs.Shown.{front_shown}
@@ -12,5 +12,5 @@ pub returns-in-Some-Word-Opcode-clause-is : goal.returns-in-Some-Word-Opcode-cla
 returns-in-Some-Word-Opcode-clause-is c =
     let i = c.self.inside in
     opcode_told c.args.class c.in-Some-Word-Opcode.kind i.next.spot c.args.self.now c.advance.new.self
-    (subst (λ next. Tells next c.args.self.now) (c.in-Some-Word-Opcode.is ∙ ap Some (c.in-Some-Word-Opcode.field-0-is ∙ ap tokens.Word c.in-Some-Word-Opcode.field-0-0-is)) c.next_meaning.ensures) (sym c.next_is.ensures ∙ c.if-not-next_is.false) c.advance.ensures
+    (subst (λ next. Tells next c.args.self.now) (c.in-Some-Word-Opcode.is ∙ ap Some (c.in-Some-Word-Opcode.field-0-is ∙ ap terminals.Word c.in-Some-Word-Opcode.field-0-0-is)) c.next_terminal.ensures) (sym c.next_is.ensures ∙ c.if-not-next_is.false) c.advance.ensures
     (λ x xs e. (front_shown i.text.now _ i.next x xs c.self.invariant.3 (c.self.view_is ∙ e)).1)

@@ -1,6 +1,6 @@
 use Rattle.std.proofs.Common.{sym, ◌∙◌}
 use Rattle.token_reader.proofs.Shown.{shown_tells, tells_none}
-use Rattle.token_reader.proofs.reader.Reader.next_meaning.Goals as goal
+use Rattle.token_reader.proofs.reader.Reader.next_terminal.Goals as goal
 
 pub returns-then-is_left : goal.returns-then-is_left
 returns-then-is_left c =

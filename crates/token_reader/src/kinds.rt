@@ -1,0 +1,44 @@
+//! The kinds of tokens, and the names that they spell.
+
+ghost use Rattle.std.specs.Prelude.{◌≡◌, drop};
+ghost use Rattle.clif_words.specs.Lexemes as lexeme_specs;
+
+use clif_lex::TokenKind;
+
+/// Whether a token is a comment.
+#[inline]
+pub(crate) fn is_comment(kind: TokenKind) -> bool
+    ensures { result ≡ lexeme_specs.is_comment kind }
+{
+    matches!(kind, TokenKind::Comment)
+}
+
+/// Whether a token is a number.
+#[inline]
+pub(crate) fn is_number(kind: TokenKind) -> bool
+    ensures { result ≡ lexeme_specs.is_number kind }
+{
+    matches!(kind, TokenKind::Number)
+}
+
+/// What stands behind the first byte.
+#[inline]
+fn behind_first(spelling: &[u8]) -> &[u8]
+    ensures { result.now ≡ drop 1 spelling.now }
+{
+    match spelling.split_first() {
+        Some((_, rest)) => rest,
+        None => spelling,
+    }
+}
+
+/// What a token with this spelling spells as a name, without its `%`, or nothing where it is none.
+#[inline]
+pub(crate) fn name_of(kind: TokenKind, spelling: &[u8]) -> &[u8]
+    ensures { result.now ≡ lexeme_specs.name_of kind spelling.now }
+{
+    match kind {
+        TokenKind::Name => behind_first(spelling),
+        _ => &[],
+    }
+}

@@ -4,6 +4,7 @@ pub mod AliasTargets
 pub mod Endings
 pub mod WordPlaces
 pub mod DenseLaws
+pub mod RunLaws
 pub mod Folds
 pub mod Walks
 pub mod LeastLaws

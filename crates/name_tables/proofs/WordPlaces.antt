@@ -6,10 +6,10 @@ use Rattle.std.proofs.lemmas.Bool.Decides.{eqb_tells, leb_tells}
 use Rattle.std.proofs.lemmas.List.{append-nil}
 use Rattle.std.proofs.lemmas.List.Folds.{position_or_len_push}
 
-yes_less : (a b : ℕ) → a < b → nat_lt a b ≡ true
+pub yes_less : (a b : ℕ) → a < b → nat_lt a b ≡ true
 yes_less a b h = elim (leb_tells (suc a) b) [ inl t ↦ t.0 | inr f ↦ absurd (let k : b < suc a = f.1 in omega arith) ]
 
-not_less : (a b : ℕ) → b ≤ a → nat_lt a b ≡ false
+pub not_less : (a b : ℕ) → b ≤ a → nat_lt a b ≡ false
 not_less a b h = elim (leb_tells (suc a) b) [ inl t ↦ absurd (let k : suc a ≤ b = t.1 in omega arith) | inr f ↦ f.0 ]
 
 abbrev pub at : (ℕ → Bool) → List ℕ → ℕ

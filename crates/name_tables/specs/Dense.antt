@@ -1,5 +1,6 @@
 -- A table with a short way from a word to its place, and a long one where there is no short one.
-use Rattle.std.specs.Prelude.{◌≡◌, ℕ, zero, suc, nat_eq, List, get_or, Option, Some, position}
+use Rattle.std.specs.Prelude.{◌≡◌, ℕ, zero, suc, ◌+◌, ◌^◌, ◌<◌, nat_eq, List, ◌++◌, map, get_or, Option, Some, position}
+use Rattle.std.specs.List.{range_with_len}
 use Rattle.std.specs.declared.hash.FoldHasher.{FoldHasher}
 use Rattle.std.specs.declared.hash.BuildHasherDefault.{BuildHasherDefault}
 use Rattle.indexmap.specs.IndexMap.{get, IndexMap}
@@ -19,3 +20,12 @@ or_far (suc place) far = Some place
 -- both ways lead to the place of each word
 abbrev pub AreRight : List ℕ → List ℕ → Far → Type 0
 AreRight words near far = (n : ℕ) → or_far (get_or near n 0) (get nat_eq far n) ≡ position (nat_eq n) words
+
+-- a run of words from 0 on, and behind it words that are kept less its length
+abbrev pub words_of : ℕ → List ℕ → List ℕ
+words_of run behind = range_with_len 0 run ++ map (λ n. run + n) behind
+
+-- a run whose length fits 32 bits, and both ways to the words behind it
+pub record AreKept (run : ℕ) (behind near : List ℕ) (far : Far) : Type 0 where
+  pub short : run < 2 ^ 32
+  pub right : AreRight behind near far

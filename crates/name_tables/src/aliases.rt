@@ -50,7 +50,7 @@ fn value_count(def: &Def) -> usize
 pub fn values_before(alloc: Global, firsts: &[Def]) -> Result<Vec<usize>, AllocError>
     ensures { IfOk result (λ counts. spec.AreCounts firsts.now counts.items) }
 {
-    let mut counts = Vec::with_capacity(alloc, firsts.len())?;
+    let mut counts = Vec::with_capacity(alloc, firsts.len().saturating_add(1))?;
     let mut count = 0usize;
     for first in firsts {
         counts.push(count)?;

@@ -10,6 +10,9 @@ use std::marker::Model;
 /// Different words in order. Contracts see the list of their numbers.
 #[derive(Drop)]
 pub struct Words {
+    /// How many words at the front are each their own place: 0, 1, 2 and so on. They take no memory.
+    run: usize,
+    /// The words behind them, each less `run`, as are their places in what follows.
     order: Vec<u64>,
     /// One more than the place of each word with a small number, or 0.
     near: Vec<u32>,
@@ -19,13 +22,13 @@ pub struct Words {
 
 impl Model for Words {
     ghost use Rattle.std.specs.Prelude.{List, ℕ};
-    ghost use Rattle.name_tables.specs.Dense.{AreRight};
+    ghost use Rattle.name_tables.specs.Dense.{words_of, AreKept};
 
     ghost Value = { List ℕ };
 
-    ghost view = { λ w. w.order.items };
+    ghost view = { λ w. words_of w.run w.order.items };
 
-    ghost invariant = { λ w. AreRight w.order.items w.near.items w.far };
+    ghost invariant = { λ w. AreKept w.run w.order.items w.near.items w.far };
 }
 
 impl Words {
@@ -34,6 +37,7 @@ impl Words {
         ensures { result ≡ [] }
     {
         Words {
+            run: 0,
             order: Vec::new(alloc),
             near: Vec::new(alloc),
             far: IndexMap::new(alloc),
@@ -45,7 +49,7 @@ impl Words {
     pub fn len(&self) -> usize
         ensures { result ≡ length self.now }
     {
-        self.order.len()
+        self.run + self.order.len()
     }
 
     /// The place of a word.
@@ -54,9 +58,17 @@ impl Words {
         ensures place { result ≡ position (nat_eq word) self.now }
         ensures small { IfSome result (λ place. place + 1 < 2 ^ 64) }
     {
-        match self.near.get(word as usize) {
-            Some(0) | None => self.far.get(&word).copied(),
-            Some(next) => Some(*next as usize - 1),
+        let run = self.run as u64;
+        if word < run {
+            return Some(word as usize);
+        }
+        let behind = word - run;
+        match self.near.get(behind as usize) {
+            Some(0) | None => match self.far.get(&behind) {
+                Some(place) => Some(self.run + *place),
+                None => None,
+            },
+            Some(next) => Some(self.run + (*next as usize - 1)),
         }
     }
 
@@ -66,14 +78,27 @@ impl Words {
         requires { position (nat_eq word) self.old ≡ None }
         ensures { OnOk result (self.new ≡ self.old ++ word ∷ []) }
     {
+        if self.order.is_empty() && word == self.run as u64 && self.run < u32::MAX as usize {
+            self.run += 1;
+            return Ok(());
+        }
+        self.push_behind(word)
+    }
+
+    /// Appends a word that isn't there to those behind the run.
+    fn push_behind(&mut self, word: u64) -> Result<(), AllocError>
+        requires { position (nat_eq word) self.old ≡ None }
+        ensures { OnOk result (self.new ≡ self.old ++ word ∷ []) }
+    {
+        let behind = word - self.run as u64;
         let place = self.order.len();
-        if word / 4 <= place as u64 + 256 && place < u32::MAX as usize {
-            grow(&mut self.near, word as usize)?;
-            self.order.push(word)?;
-            self.near[word as usize] = place as u32 + 1;
+        if behind / 4 <= place as u64 + 256 && place < u32::MAX as usize {
+            grow(&mut self.near, behind as usize)?;
+            self.order.push(behind)?;
+            self.near[behind as usize] = place as u32 + 1;
         } else {
-            self.order.push(word)?;
-            match self.far.insert(word, place) {
+            self.order.push(behind)?;
+            match self.far.insert(behind, place) {
                 Ok(_) => {}
                 Err(failed) => {
                     self.order.pop();

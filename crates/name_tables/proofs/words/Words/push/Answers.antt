@@ -1,18 +1,8 @@
-use Rattle.std.proofs.Common.{◌≡◌, length, nat_eq, ℕ, None, ap, ◌∙◌, cond, Some}
-use Rattle.std.specs.Prelude.{position}
-use Rattle.indexmap.specs.IndexMap.{get}
-use Rattle.name_tables.proofs.DenseLaws.{near_written, far_written}
+use Rattle.std.proofs.Common.{rules, ◌≡◌, ◌++◌, ◌∷◌, [], length, ap, ◌∙◌}
+use Rattle.name_tables.proofs.RunLaws.{run_longer}
 use Rattle.name_tables.proofs.words.Words.push.Goals as goal
 
-pub invariant_of-self-then-place : goal.invariant_of-self-then-place
-invariant_of-self-then-place c = λ n.
-    let e : c.len-place.result ≡ length c.self.inside.order.items = c.len-place.ensures ∙ c.self.inside.order.ok.0 in
-    let new : position (nat_eq c.args.word) c.self.inside.order.items ≡ None = ap (position (nat_eq c.args.word)) c.self.view_is ∙ c.requires in
-    rw (c.in_ok-push.ensures.items, e) (near_written c.self.inside.order.items c.self.inside.near.items (get nat_eq c.self.inside.far) c.args.word c.self.invariant new c.grow.new.near.items c.in_ok-grow.ensures.same c.in_ok-grow.ensures.long n)
-
-pub invariant_of-self-in-Ok : goal.invariant_of-self-in-Ok
-invariant_of-self-in-Ok c = λ n.
-    let e : c.len-place.result ≡ length c.self.inside.order.items = c.len-place.ensures ∙ c.self.inside.order.ok.0 in
-    let new : position (nat_eq c.args.word) c.self.inside.order.items ≡ None = ap (position (nat_eq c.args.word)) c.self.view_is ∙ c.requires in
-    let u : (q : ℕ) → get nat_eq c.insert.new.self q ≡ cond (nat_eq c.args.word q) (Some (length c.self.inside.order.items)) (get nat_eq c.self.inside.far q) = rw (← e) c.in-Ok.ensures.updates.0 in
-    rw c.in_ok-push-2.ensures.items (far_written c.self.inside.order.items c.self.inside.near.items (get nat_eq c.self.inside.far) c.args.word c.self.invariant new (get nat_eq c.insert.new.self) u n)
+pub returns-then-self : goal.returns-then-self
+returns-then-self c =
+    let none : length c.self.inside.order.items ≡ 0 = search rules in
+    run_longer c.self.inside.run c.args.word c.self.inside.order.items none c.if-word-self.true ∙ ap (λ ws. ws ++ c.args.word ∷ []) c.self.view_is

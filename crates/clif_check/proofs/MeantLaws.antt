@@ -1,5 +1,5 @@
 -- What the functions of a text mean, one stretch behind another.
-use Rattle.std.proofs.Common.{◌≡◌, ◌≢◌, ℕ, zero, suc, ◌<◌, ◌≤◌, Bool, true, false, List, [], ◌∷◌, ◌++◌, length, map, slice_get, Option, None, Some, sym, ap, ap₂, subst, ◌∙◌, arith, inl, inr}
+use Rattle.std.proofs.Common.{◌≡◌, ◌≢◌, ℕ, zero, suc, ◌<◌, ◌≤◌, Bool, true, false, List, [], ◌∷◌, ◌++◌, length, map, slice_get, Option, None, Some, Ok, sym, ap, ap₂, subst, ◌∙◌, arith, inl, inr}
 use Rattle.std.specs.Prelude.{if◌then◌else◌, IfSome}
 use Rattle.std.proofs.lemmas.List.{map-append}
 use Rattle.grammar.specs.Rules.{Lexeme}
@@ -20,7 +20,9 @@ use Rattle.clif_read.specs.declared.raw.RawFuncName.{RawFuncName}
 use Rattle.clif_read.specs.declared.raw.RawFuncName.TheVariants as func_name
 use Rattle.clif_read.specs.declared.raw.RawFunction.{RawFunction}
 use Rattle.clif_read.specs.declared.raw.RawModule.{RawModule}
+use Rattle.clif_read.specs.Modules.{function_at}
 use Rattle.clif_read.specs.Texts.{IsModuleText, Functions}
+use Rattle.clif_read.proofs.Functions.{function_read}
 use Rattle.read_workers.specs.Ranges.{AreFunctions, IsFront, with_functions}
 use Rattle.read_workers.proofs.RangeLaws.{no_functions, range_follows, whole_text}
 use Rattle.range_workers.specs.Follow.{Follow}
@@ -38,6 +40,9 @@ use Rattle.clif_check.specs.Stretches.{AreMeant, MeanFunctions}
 
 pub functions_have_blocks : (ts : List Lexeme) (rs : List RawFunction) → Functions ts rs → Each (λ (f : RawFunction). f.blocks ≢ []) rs
 functions_have_blocks ts rs read = rw read.meant (have_blocks read.trees)
+
+pub function_has_blocks : (ts rest : List Lexeme) (f : RawFunction) → function_at ts ≡ Ok (f, rest) → f.blocks ≢ []
+function_has_blocks ts rest f e = let (v, is) = function_read ts rest f e in rw is ((have_blocks (v ∷ [])).0)
 
 pub front_has_blocks : (text : List ℕ) (to : ℕ) (raw : RawModule) → IsFront text to raw → HasBlocks raw
 front_has_blocks text to raw front = let (v, d, e, one) = front.read in rw e (have_blocks v.1)

@@ -1,4 +1,4 @@
-//! Modules read stretch by stretch: of the raw functions only those of a stretch are there at a time.
+//! Modules read stretch by stretch: of the raw functions only one for each worker is there at a time.
 ghost use Rattle.std.specs.Prelude.{◌≡◌, ◌≢◌, ◌≤◌, ◌++◌, [], length, map, IfSome};
 ghost use Rattle.ir_core.specs.Lists.{Each};
 ghost use Rattle.ir_core.specs.Sound.{IsWhole};
@@ -6,12 +6,13 @@ ghost use Rattle.ir_core.specs.WellFormed.{DifferentNames};
 ghost use Rattle.read_workers.specs.Ranges.{IsTextRange};
 ghost use Rattle.clif_names.specs.Sizes.{most_functions};
 ghost use Rattle.clif_meaning.specs.Reads.{Reads};
-ghost use Rattle.clif_check.specs.Stretches.{AreMeant, MeanFunctions};
+ghost use Rattle.clif_check.specs.Stretches.{AreMeant, MeanFunctions, MeanTokens};
 
 use clif_lex::tokens_between;
 use clif_names::MOST_FUNCTIONS;
-use clif_read::{RawFunction, all_functions};
+use clif_read::{RawFunction, read_function};
 use clif_resolve::meant_function;
+use clif_words::Class;
 use ir_core::{Func, Module};
 use range_workers::{Ranges, read_by_workers};
 use read_workers::{front_end, read_front, stretch_end};
@@ -36,6 +37,30 @@ fn meant_functions(alloc: Global, raws: &[RawFunction]) -> Option<Vec<Func>>
     Some(functions)
 }
 
+/// What the functions of all the tokens that are left mean. Each raw function is let go before the next is read, whose
+/// lists then take its memory. `None` where anything else stands there, where one has a fault of names or numbers, or
+/// memory runs out.
+fn read_functions(alloc: Global, reader: &mut Reader<'_>) -> Option<Vec<Func>>
+    ensures { IfSome result (λ functions. MeanTokens reader.old functions.items) }
+{
+    let mut functions = Vec::new(alloc);
+    'functions: while reader.next_is(Class::Function) {
+        let Ok(raw) = read_function(alloc, reader) else {
+            return None;
+        };
+        let Ok(Some(func)) = meant_function(alloc, &raw) else {
+            return None;
+        };
+        if functions.push(func).is_err() {
+            return None;
+        }
+    }
+    if !reader.is_at_end() {
+        return None;
+    }
+    Some(functions)
+}
+
 /// A text whose functions are read range by range, and what they mean.
 #[derive(Drop)]
 struct TextRanges<'t> {
@@ -56,8 +81,7 @@ impl<'t> Ranges<Func> for TextRanges<'t> {
             return None;
         };
         let mut reader = Reader::new(self.text, &tokens, 0);
-        let raws = all_functions(alloc, &mut reader)?;
-        meant_functions(alloc, raws.as_slice())
+        read_functions(alloc, &mut reader)
     }
 
     ghost ordered = { λ ranges from to range. range.ordered };

@@ -8,9 +8,17 @@ use Rattle.token_reader.specs.Values.{seen}
 use Rattle.clif_read.specs.declared.raw.RawFunction.{RawFunction}
 use Rattle.clif_read.specs.ModuleGrammar.{function}
 use Rattle.clif_read.specs.ModuleValues.{function_value}
-use Rattle.clif_read.specs.Modules.{functions_at}
+use Rattle.clif_read.specs.Modules.{function_at, functions_at}
 use Rattle.clif_read.specs.Texts.{Functions}
-use Rattle.clif_read.proofs.ModuleLaws.{functions_is}
+use Rattle.clif_read.proofs.ModuleLaws.{function_is, functions_is}
+
+-- what is read as a function is the value of a tree
+pub function_read : (ts rest : List Lexeme) (f : RawFunction) → function_at ts ≡ Ok (f, rest) → (v : Tree function) × (f ≡ function_value v)
+function_read ts rest f e = go (read function ts) (sym (function_is.same ts) ∙ e)
+  where
+    go : (o : Out (Tree function)) → seen function_value o ≡ Ok (f, rest) → (v : Tree function) × (f ≡ function_value v)
+    go (Ok x) h = (x.0, sym (ap (λ p. p.0) (ok_is (function_value x.0, x.1) (f, rest) h)))
+    go (Err x) h = absurd cc
 
 pub functions_read : (ts : List Lexeme) (fs : List RawFunction) → functions_at ts ≡ Ok (fs, []) → Functions ts fs
 functions_read ts fs e = go (read (Many function) ts) refl (sym (functions_is.same ts) ∙ e)

@@ -57,7 +57,7 @@ more_blocks_is front = map_is (many_is block_is) (λ vs. front ++ vs)
 abbrev raw_function : ℕ → RawFuncName → RawSignature → List RawDecl → List RawBlock → ℕ → RawFunction
 raw_function spot called sig ds bs end_spot = record { spot = spot; name = called; signature = sig; decls = ds; blocks = bs; end_spot = end_spot }
 
-function_is : Is function function_value function_at
+pub function_is : Is function function_value function_at
 unfolding function_at
 function_is =
     then_is (name_is classes.Function) (func_name then signature then left_brace then Many decl then block_rule then Many block_rule then right_brace) (λ word v. raw_function word.spot (func_name_value v.0) (signature_value v.1.0) (map decl_value v.1.1.1.0) (block_value v.1.1.1.1.0 ∷ map block_value v.1.1.1.1.1.0) v.1.1.1.1.1.1.spot)

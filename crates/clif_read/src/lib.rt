@@ -13,7 +13,7 @@ mod tags;
 mod texts;
 
 pub use declarations::func_name;
-pub use modules::{all_functions, whole_module};
+pub use modules::{all_functions, read_function, whole_module};
 pub use raw::{
     RawAttribute, RawBlock, RawBlockParam, RawCalleeSig, RawDecl, RawFuncName, RawFunction,
     RawLine, RawModule, RawParam, RawSignature, RawTag,

@@ -13,7 +13,7 @@ use crate::signatures::signature;
 use clif_words::Class;
 use ir_core::List;
 use std::alloc::Global;
-use token_reader::{Reader, Stop, one_item};
+use token_reader::{Reader, Stop, item_in_room};
 
 #[tactic(auto, unfolding(crate::specs::Modules::opt_block_params_at))]
 fn opt_block_params(alloc: Global, reader: &mut Reader<'_>) -> Result<Vec<RawBlockParam>, Stop>
@@ -77,9 +77,15 @@ fn more_blocks(
     Ok(list)
 }
 
+/// For how many blocks there is room at first behind the first one: one is enough for many functions.
+#[inline]
+fn room_for_blocks(reader: &Reader<'_>) -> usize {
+    if reader.next_is(Class::Block) { 4 } else { 1 }
+}
+
 /// A function.
 #[tactic(auto, unfolding(crate::specs::Modules::function_at))]
-fn function(alloc: Global, reader: &mut Reader<'_>) -> Result<RawFunction, Stop>
+pub fn read_function(alloc: Global, reader: &mut Reader<'_>) -> Result<RawFunction, Stop>
     ensures is { Gives same reader.new result (spec.function_at reader.old) }
     ensures shorter { IfOk result (λ _. length reader.new < length reader.old) }
 {
@@ -89,7 +95,7 @@ fn function(alloc: Global, reader: &mut Reader<'_>) -> Result<RawFunction, Stop>
     reader.take(Class::LeftBrace)?;
     let decls = decls(alloc, reader)?;
     let first = block(alloc, reader)?;
-    let front = one_item(alloc, first)?;
+    let front = item_in_room(alloc, first, room_for_blocks(reader))?;
     let blocks = more_blocks(alloc, reader, front)?;
     let brace = reader.take(Class::RightBrace)?;
     Ok(RawFunction {
@@ -109,7 +115,7 @@ pub(crate) fn functions(alloc: Global, reader: &mut Reader<'_>) -> Result<Vec<Ra
 {
     let mut list = Vec::new(alloc);
     'list: while reader.next_is(Class::Function) {
-        let item = function(alloc, reader)?;
+        let item = read_function(alloc, reader)?;
         list.push(item)?;
     }
     Ok(list)

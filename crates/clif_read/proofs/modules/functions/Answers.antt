@@ -10,13 +10,13 @@ use Rattle.clif_read.proofs.modules.functions.Goals as goal
 
 pub list-preserved : goal.list-preserved
 list-preserved c =
-    (rw c.in_ok-push.ensures.items (goes_on function_at (code classes.Function ∷ []) c.list.list.items c.list.reader c.function.new.reader c.in_ok-item.item (with_front (let none : List RawFunction = [] in none) (each function_at (code classes.Function ∷ []) (length c.args.reader.now) c.args.reader.now)) (sym c.next_is.ensures ∙ c.list-test.true) c.in_ok-item.ensures.is c.in_ok-item.ensures.shorter c.list.invariant.0), omega (arith, c.in_ok-item.ensures.shorter, c.list.invariant.1))
+    (rw c.in_ok-push.ensures.items (goes_on function_at (code classes.Function ∷ []) c.list.list.items c.list.reader c.read_function.new.reader c.in_ok-item.item (with_front (let none : List RawFunction = [] in none) (each function_at (code classes.Function ∷ []) (length c.args.reader.now) c.args.reader.now)) (sym c.next_is.ensures ∙ c.list-test.true) c.in_ok-item.ensures.is c.in_ok-item.ensures.shorter c.list.invariant.0), omega (arith, c.in_ok-item.ensures.shorter, c.list.invariant.1))
 
 pub returns-in_err-item-clause-is : goal.returns-in_err-item-clause-is
 unfolding functions_at
 returns-in_err-item-clause-is c =
     let p = err_from_is_err_and c.from_residual.result c.from_residual.ensures.1 in
-    rw (p.1, p.2) (fails function_at (code classes.Function ∷ []) c.list.list.items c.list.reader c.function.new.reader c.in_err-item.field-0.0 (with_front (let none : List RawFunction = [] in none) (each function_at (code classes.Function ∷ []) (length c.args.reader.now) c.args.reader.now)) (sym c.next_is.ensures ∙ c.list-test.true) c.in_err-item.ensures.is c.list.invariant.0)
+    rw (p.1, p.2) (fails function_at (code classes.Function ∷ []) c.list.list.items c.list.reader c.read_function.new.reader c.in_err-item.field-0.0 (with_front (let none : List RawFunction = [] in none) (each function_at (code classes.Function ∷ []) (length c.args.reader.now) c.args.reader.now)) (sym c.next_is.ensures ∙ c.list-test.true) c.in_err-item.ensures.is c.list.invariant.0)
 
 pub returns-clause-is : goal.returns-clause-is
 unfolding functions_at

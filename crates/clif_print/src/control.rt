@@ -11,7 +11,9 @@ use crate::operands::{
     put_call_arguments, put_callee_reference, put_exception_table, put_operands,
     put_signature_reference, put_suffix_if, put_target, put_target_list, put_trap_code, put_value,
 };
+use crate::words::put_opcode;
 use clif_numbers::FuncNumbers;
+use clif_words::Opcode;
 use clk_num::TrapCode;
 use exn_tables::Table;
 use ir_core::{BlockCall, FuncRef, List, SigRef, Ty, Value, Values};
@@ -26,7 +28,8 @@ pub(crate) fn put_jump<O: Output>(
     ensures { Puts O.holds out.old out.new
         (spelled (instruction numbers.now suffix (instruction_of (form.Jump to.now)))) }
 {
-    out.put(b"jump ");
+    put_opcode(out, Opcode::Jump);
+    out.put(b" ");
     put_target(out, numbers, to);
 }
 
@@ -41,7 +44,7 @@ pub(crate) fn put_brif<O: Output>(
     ensures { Puts O.holds out.old out.new
         (spelled (instruction numbers.now suffix (instruction_of (form.Brif cond yes.now no.now)))) }
 {
-    out.put(b"brif");
+    put_opcode(out, Opcode::Brif);
     put_suffix_if(out, suffix);
     out.put(b" ");
     put_value(out, numbers, cond);
@@ -62,7 +65,8 @@ pub(crate) fn put_br_table<O: Output>(
     ensures { Puts O.holds out.old out.new
         (spelled (instruction numbers.now suffix (instruction_of (form.BrTable index default.now entries.now)))) }
 {
-    out.put(b"br_table ");
+    put_opcode(out, Opcode::BrTable);
+    out.put(b" ");
     put_value(out, numbers, index);
     out.put(b", ");
     put_target(out, numbers, default);
@@ -79,7 +83,7 @@ pub(crate) fn put_return<O: Output>(
     ensures { Puts O.holds out.old out.new
         (spelled (instruction numbers.now suffix (instruction_of (form.Return values.now)))) }
 {
-    out.put(b"return");
+    put_opcode(out, Opcode::Return);
     put_operands(out, numbers, values.as_slice());
 }
 
@@ -92,7 +96,8 @@ pub(crate) fn put_trap<O: Output>(
     ensures { Puts O.holds out.old out.new
         (spelled (instruction numbers.now suffix (instruction_of (form.Trap code)))) }
 {
-    out.put(b"trap ");
+    put_opcode(out, Opcode::Trap);
+    out.put(b" ");
     put_trap_code(out, code);
 }
 
@@ -106,7 +111,7 @@ pub(crate) fn put_trapz<O: Output>(
     ensures { Puts O.holds out.old out.new
         (spelled (instruction numbers.now suffix (instruction_of (form.Trapz cond code)))) }
 {
-    out.put(b"trapz");
+    put_opcode(out, Opcode::Trapz);
     put_suffix_if(out, suffix);
     out.put(b" ");
     put_value(out, numbers, cond);
@@ -124,7 +129,7 @@ pub(crate) fn put_trapnz<O: Output>(
     ensures { Puts O.holds out.old out.new
         (spelled (instruction numbers.now suffix (instruction_of (form.Trapnz cond code)))) }
 {
-    out.put(b"trapnz");
+    put_opcode(out, Opcode::Trapnz);
     put_suffix_if(out, suffix);
     out.put(b" ");
     put_value(out, numbers, cond);
@@ -142,7 +147,8 @@ pub(crate) fn put_call<O: Output>(
     ensures { Puts O.holds out.old out.new
         (spelled (instruction numbers.now suffix (instruction_of (form.Call callee args.now)))) }
 {
-    out.put(b"call ");
+    put_opcode(out, Opcode::Call);
+    out.put(b" ");
     put_callee_reference(out, callee);
     put_call_arguments(out, numbers, args.as_slice());
 }
@@ -157,7 +163,8 @@ pub(crate) fn put_return_call<O: Output>(
     ensures { Puts O.holds out.old out.new
         (spelled (instruction numbers.now suffix (instruction_of (form.ReturnCall callee args.now)))) }
 {
-    out.put(b"return_call ");
+    put_opcode(out, Opcode::ReturnCall);
+    out.put(b" ");
     put_callee_reference(out, callee);
     put_call_arguments(out, numbers, args.as_slice());
 }
@@ -173,7 +180,8 @@ pub(crate) fn put_call_indirect<O: Output>(
     ensures { Puts O.holds out.old out.new
         (spelled (instruction numbers.now suffix (instruction_of (form.CallIndirect sig address args.now)))) }
 {
-    out.put(b"call_indirect ");
+    put_opcode(out, Opcode::CallIndirect);
+    out.put(b" ");
     put_signature_reference(out, sig);
     out.put(b", ");
     put_value(out, numbers, address);
@@ -191,7 +199,8 @@ pub(crate) fn put_return_call_indirect<O: Output>(
     ensures { Puts O.holds out.old out.new
         (spelled (instruction numbers.now suffix (instruction_of (form.ReturnCallIndirect sig address args.now)))) }
 {
-    out.put(b"return_call_indirect ");
+    put_opcode(out, Opcode::ReturnCallIndirect);
+    out.put(b" ");
     put_signature_reference(out, sig);
     out.put(b", ");
     put_value(out, numbers, address);
@@ -232,7 +241,8 @@ pub(crate) fn put_try_call<O: Output>(
         (spelled (instruction numbers.now suffix
         (instruction_of (form.TryCall callee sig args.now normal.now table.now)))) }
 {
-    out.put(b"try_call ");
+    put_opcode(out, Opcode::TryCall);
+    out.put(b" ");
     put_callee_reference(out, callee);
     put_call_arguments(out, numbers, args.as_slice());
     put_outcomes(out, numbers, sig, normal, table);
@@ -252,7 +262,8 @@ pub(crate) fn put_try_call_indirect<O: Output>(
         (spelled (instruction numbers.now suffix
         (instruction_of (form.TryCallIndirect sig address args.now normal.now table.now)))) }
 {
-    out.put(b"try_call_indirect ");
+    put_opcode(out, Opcode::TryCallIndirect);
+    out.put(b" ");
     put_value(out, numbers, address);
     put_call_arguments(out, numbers, args.as_slice());
     put_outcomes(out, numbers, sig, normal, table);

@@ -17,8 +17,9 @@ use crate::operands::{
     put_address, put_callee_reference, put_constant, put_flags, put_operands, put_slot_address,
     put_suffix, put_suffix_if, put_value,
 };
-use crate::words::{condition_word, op_word, ty_of};
+use crate::words::{condition_word, put_opcode, ty_of};
 use clif_numbers::FuncNumbers;
+use clif_words::Opcode;
 use clk_num::{Bits, Op};
 use ir_core::{Access, Flags, FuncRef, Inst, Slot, Ty, Value};
 use text_output::{Output, put_numbered};
@@ -49,7 +50,7 @@ fn put_const<O: Output>(out: &mut O, numbers: &FuncNumbers, suffix: Option<Ty>, 
     ensures { Puts O.holds out.old out.new
         (spelled (instruction numbers.now suffix (instruction_of (form.Const bits.now)))) }
 {
-    out.put(b"iconst");
+    put_opcode(out, Opcode::Iconst);
     put_suffix(out, ty_of(bits.width()));
     out.put(b" ");
     put_constant(out, bits);
@@ -65,7 +66,7 @@ fn put_pure<O: Output>(
     ensures { Puts O.holds out.old out.new
         (spelled (instruction numbers.now suffix (instruction_of (form.Pure op args.now)))) }
 {
-    out.put(op_word(op));
+    put_opcode(out, Opcode::of(op));
     put_op_suffix(out, op, suffix);
     put_condition(out, op);
     put_operands(out, numbers, args);
@@ -82,7 +83,7 @@ fn put_pure_imm<O: Output>(
     ensures { Puts O.holds out.old out.new
         (spelled (instruction numbers.now suffix (instruction_of (form.PureImm op arg imm.now)))) }
 {
-    out.put(op_word(op));
+    put_opcode(out, Opcode::of(op));
     out.put(b"_imm");
     put_suffix_if(out, suffix);
     put_condition(out, op);
@@ -119,7 +120,7 @@ fn put_load_opcode<O: Output>(out: &mut O, suffix: Option<Ty>, access: Access)
 {
     match access {
         Access::Full(ty) => {
-            out.put(b"load");
+            put_opcode(out, Opcode::Load);
             put_suffix(out, ty);
         }
         Access::Uload(ty, bytes) => {
@@ -155,7 +156,7 @@ fn put_store_opcode<O: Output>(out: &mut O, narrow: Option<u8>)
     ensures { Puts O.holds out.old out.new (spelled (store_opcode narrow)) }
 {
     match narrow {
-        None => out.put(b"store"),
+        None => put_opcode(out, Opcode::Store),
         Some(bytes) => put_numbered(out, b"istore", 8 * u32::from(bytes)),
     }
 }
@@ -222,7 +223,7 @@ fn put_stack_load<O: Output>(
     ensures { Puts O.holds out.old out.new
         (spelled (instruction numbers.now suffix (instruction_of (form.StackLoad ty slot offset)))) }
 {
-    out.put(b"stack_load");
+    put_opcode(out, Opcode::StackLoad);
     put_suffix(out, ty);
     out.put(b" ");
     put_slot_address(out, slot, offset);
@@ -239,7 +240,7 @@ fn put_stack_store<O: Output>(
     ensures { Puts O.holds out.old out.new
         (spelled (instruction numbers.now suffix (instruction_of (form.StackStore value slot offset)))) }
 {
-    out.put(b"stack_store");
+    put_opcode(out, Opcode::StackStore);
     put_suffix_if(out, suffix);
     out.put(b" ");
     put_stored_in_slot(out, numbers, value, slot, offset);
@@ -249,7 +250,8 @@ fn put_func_addr<O: Output>(out: &mut O, numbers: &FuncNumbers, suffix: Option<T
     ensures { Puts O.holds out.old out.new
         (spelled (instruction numbers.now suffix (instruction_of (form.FuncAddr callee)))) }
 {
-    out.put(b"func_addr.i64 ");
+    put_opcode(out, Opcode::FuncAddr);
+    out.put(b".i64 ");
     put_callee_reference(out, callee);
 }
 
@@ -263,8 +265,8 @@ pub(crate) fn put_instruction<O: Output>(
     ensures { Puts O.holds out.old out.new (spelled (instruction numbers.now suffix (instruction_of inst.now))) }
 {
     match inst {
-        Inst::Nop => out.put(b"nop"),
-        Inst::SequencePoint => out.put(b"sequence_point"),
+        Inst::Nop => put_opcode(out, Opcode::Nop),
+        Inst::SequencePoint => put_opcode(out, Opcode::SequencePoint),
         Inst::Const(bits) => put_const(out, numbers, suffix, bits),
         Inst::Pure { op, args } => put_pure(out, numbers, suffix, *op, args.as_slice()),
         Inst::PureImm { op, arg, imm } => put_pure_imm(out, numbers, suffix, *op, *arg, imm),

@@ -1,57 +1,20 @@
 //! The words.
 ghost use Rattle.std.specs.Prelude.{◌≡◌};
-ghost use Rattle.ir_text.specs.Words.{op_word, condition_word, type_word, convention_word};
+ghost use Rattle.ir_text.specs.Words.{condition_word, type_word, convention_word};
 ghost use Rattle.ir_core.specs.Lookup.{ty_of};
+ghost use Rattle.clif_words.specs.Opcodes.{word};
+ghost use Rattle.text_output.specs.Output.{Start, Puts};
 
-use clk_num::{Cc, Op, Width};
+use clif_words::Opcode;
+use clk_num::{Cc, Width};
 use ir_core::{Conv, Ty};
+use text_output::Output;
 
-/// The opcode of an operation.
-pub(crate) fn op_word(op: Op) -> &'static [u8]
-    ensures { result.now ≡ op_word op }
+/// Puts the word of an opcode, from the table of opcodes.
+pub(crate) fn put_opcode<O: Output>(out: &mut O, opcode: Opcode)
+    ensures { Puts O.holds out.old out.new (word opcode) }
 {
-    match op {
-        Op::Iadd => b"iadd",
-        Op::Isub => b"isub",
-        Op::Imul => b"imul",
-        Op::Band => b"band",
-        Op::Bor => b"bor",
-        Op::Bxor => b"bxor",
-        Op::Smin => b"smin",
-        Op::Smax => b"smax",
-        Op::Umin => b"umin",
-        Op::Umax => b"umax",
-        Op::Umulhi => b"umulhi",
-        Op::Smulhi => b"smulhi",
-        Op::Udiv => b"udiv",
-        Op::Urem => b"urem",
-        Op::Sdiv => b"sdiv",
-        Op::Srem => b"srem",
-        Op::Ineg => b"ineg",
-        Op::Bnot => b"bnot",
-        Op::Iabs => b"iabs",
-        Op::Clz => b"clz",
-        Op::Ctz => b"ctz",
-        Op::Popcnt => b"popcnt",
-        Op::Bitrev => b"bitrev",
-        Op::Bswap => b"bswap",
-        Op::Ishl => b"ishl",
-        Op::Ushr => b"ushr",
-        Op::Sshr => b"sshr",
-        Op::Rotl => b"rotl",
-        Op::Rotr => b"rotr",
-        Op::Icmp(_) => b"icmp",
-        Op::Select => b"select",
-        Op::Uextend(_) => b"uextend",
-        Op::Sextend(_) => b"sextend",
-        Op::Ireduce(_) => b"ireduce",
-        Op::UaddOverflow => b"uadd_overflow",
-        Op::SaddOverflow => b"sadd_overflow",
-        Op::UsubOverflow => b"usub_overflow",
-        Op::SsubOverflow => b"ssub_overflow",
-        Op::Iconcat => b"iconcat",
-        Op::Isplit => b"isplit",
-    }
+    out.put(opcode.spelling().as_bytes());
 }
 
 /// The condition of a comparison.

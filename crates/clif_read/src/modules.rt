@@ -77,7 +77,7 @@ fn more_blocks(
     Ok(list)
 }
 
-/// For how many blocks there is room at first behind the first one: one is enough for many functions.
+/// For how many blocks there is room at first: for four where a second one follows, else for the first alone.
 #[inline]
 fn room_for_blocks(reader: &Reader<'_>) -> usize {
     if reader.next_is(Class::Block) { 4 } else { 1 }

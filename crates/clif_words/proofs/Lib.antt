@@ -1,8 +1,9 @@
 mod Decimals
 pub mod Tags
-mod Printed
+pub mod Printed
 mod Places
 mod Values
 pub mod TextTokens
 pub mod Codes
 pub mod OpcodePlaces
+pub mod OpcodesOf

@@ -18,7 +18,7 @@ use Rattle.clif_words.specs.Printed.{value_opcode, immediate_opcode, by_bytes, B
 same : {o p : Opcode} → (let q : Option Opcode = Some p in q) ≡ Some o → p ≡ o
 same e = cc
 
-value_word : (op : Op) → op_word op ≡ word (value_opcode op)
+pub value_word : (op : Op) → op_word op ≡ word (value_opcode op)
 value_word ops.Iadd = refl
 value_word ops.Isub = refl
 value_word ops.Imul = refl

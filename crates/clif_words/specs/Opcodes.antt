@@ -122,6 +122,19 @@ word CallIndirect = codes "call_indirect"
 word ReturnCallIndirect = codes "return_call_indirect"
 word TryCallIndirect = codes "try_call_indirect"
 
+-- the opcode of an operation's form with an immediate; not each has one
+abbrev pub with_immediate : Opcode → Option Opcode
+with_immediate Iadd = Some IaddImm
+with_immediate Imul = Some ImulImm
+with_immediate Band = Some BandImm
+with_immediate Bor = Some BorImm
+with_immediate Bxor = Some BxorImm
+with_immediate Ishl = Some IshlImm
+with_immediate Ushr = Some UshrImm
+with_immediate Sshr = Some SshrImm
+with_immediate Icmp = Some IcmpImm
+with_immediate opcode = None
+
 -- the number of the opcode, its place among them all
 abbrev pub place : Opcode → ℕ
 place Iconst = 0

@@ -322,7 +322,8 @@ fn number(spelling: &[u8]) -> (Class, Terminal)
     }
 }
 
-/// The class of a token with this spelling, and what it is; nothing for a word that is no value of few digits.
+/// The class of a token with this spelling, and what it is, where no search tells it. Nothing is given for words alone,
+/// and for which of them is not promised: values of few digits are told.
 #[inline(always)]
 pub fn quick_terminal(kind: TokenKind, spelling: &[u8]) -> Option<(Class, Terminal)>
     ensures is { IfSome result (λ found. (seen found.1 ≡ spec.meaning_of kind spelling.now)

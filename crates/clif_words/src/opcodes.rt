@@ -1,13 +1,16 @@
-//! The opcodes: how each is spelled, and the class of its form. The words that are read are looked up in this table.
+//! The opcodes in one table, for reader, checker and printer: how each is spelled, the class of its form, and the opcode
+//! of its form with an immediate.
 
 ghost use Rattle.std.specs.Prelude.{◌≡◌, map};
 ghost use Rattle.clif_words.specs.declared.opcodes.OpcodeRow.{OpcodeRow};
 ghost use Rattle.clif_words.specs.Table as table;
 ghost use Rattle.clif_words.specs.Opcodes as spec;
+ghost use Rattle.clif_words.specs.Printed as printed;
 ghost use Rattle.clif_words.specs.OpcodeForms.{form};
 ghost use Rattle.clif_words.specs.Seen as seen;
 
 use crate::class::Class;
+use clk_num::Op;
 
 /// An opcode of CLIF that is read and printed.
 #[derive(Clone, Copy, Debug, PartialEq, Eq)]
@@ -94,167 +97,194 @@ pub enum Opcode {
 }
 
 impl Opcode {
+    /// That of an operation on values.
+    pub fn of(op: Op) -> Opcode
+        ensures { result ≡ printed.value_opcode op }
+    {
+        match op {
+            Op::Iadd => Opcode::Iadd,
+            Op::Isub => Opcode::Isub,
+            Op::Imul => Opcode::Imul,
+            Op::Band => Opcode::Band,
+            Op::Bor => Opcode::Bor,
+            Op::Bxor => Opcode::Bxor,
+            Op::Smin => Opcode::Smin,
+            Op::Smax => Opcode::Smax,
+            Op::Umin => Opcode::Umin,
+            Op::Umax => Opcode::Umax,
+            Op::Umulhi => Opcode::Umulhi,
+            Op::Smulhi => Opcode::Smulhi,
+            Op::Udiv => Opcode::Udiv,
+            Op::Urem => Opcode::Urem,
+            Op::Sdiv => Opcode::Sdiv,
+            Op::Srem => Opcode::Srem,
+            Op::Ishl => Opcode::Ishl,
+            Op::Ushr => Opcode::Ushr,
+            Op::Sshr => Opcode::Sshr,
+            Op::Rotl => Opcode::Rotl,
+            Op::Rotr => Opcode::Rotr,
+            Op::UaddOverflow => Opcode::UaddOverflow,
+            Op::SaddOverflow => Opcode::SaddOverflow,
+            Op::UsubOverflow => Opcode::UsubOverflow,
+            Op::SsubOverflow => Opcode::SsubOverflow,
+            Op::Iconcat => Opcode::Iconcat,
+            Op::Ineg => Opcode::Ineg,
+            Op::Bnot => Opcode::Bnot,
+            Op::Iabs => Opcode::Iabs,
+            Op::Clz => Opcode::Clz,
+            Op::Ctz => Opcode::Ctz,
+            Op::Popcnt => Opcode::Popcnt,
+            Op::Bitrev => Opcode::Bitrev,
+            Op::Bswap => Opcode::Bswap,
+            Op::Isplit => Opcode::Isplit,
+            Op::Icmp(_) => Opcode::Icmp,
+            Op::Select => Opcode::Select,
+            Op::Uextend(_) => Opcode::Uextend,
+            Op::Sextend(_) => Opcode::Sextend,
+            Op::Ireduce(_) => Opcode::Ireduce,
+        }
+    }
+
+    /// That of an operation with an immediate, where there is one.
+    pub fn of_immediate(op: Op) -> Option<Opcode>
+        ensures { result ≡ printed.immediate_opcode op }
+    {
+        Opcode::of(op).row().3
+    }
+
+    /// Its row of the table.
+    #[inline]
+    fn row(self) -> &'static OpcodeRow
+        ensures spelling { result.now.0.now ≡ spec.word self }
+        ensures form { result.now.2 ≡ form self }
+        ensures immediate { result.now.3 ≡ spec.with_immediate self }
+    {
+        &opcode_rows()[self as usize]
+    }
+
+    /// How it is spelled.
+    #[inline]
+    pub fn spelling(self) -> &'static str
+        ensures { result.now ≡ spec.word self }
+    {
+        self.row().0
+    }
+
     /// The class of the words of its form.
     #[inline]
     pub fn form(self) -> Class
         ensures { result ≡ form self }
     {
-        match self {
-            Opcode::Iconst => Class::Iconst,
-            Opcode::Iadd
-            | Opcode::Isub
-            | Opcode::Imul
-            | Opcode::Band
-            | Opcode::Bor
-            | Opcode::Bxor
-            | Opcode::Smin
-            | Opcode::Smax
-            | Opcode::Umin
-            | Opcode::Umax
-            | Opcode::Umulhi
-            | Opcode::Smulhi
-            | Opcode::Udiv
-            | Opcode::Urem
-            | Opcode::Sdiv
-            | Opcode::Srem
-            | Opcode::Ishl
-            | Opcode::Ushr
-            | Opcode::Sshr
-            | Opcode::Rotl
-            | Opcode::Rotr
-            | Opcode::UaddOverflow
-            | Opcode::SaddOverflow
-            | Opcode::UsubOverflow
-            | Opcode::SsubOverflow
-            | Opcode::Iconcat => Class::Binary,
-            Opcode::Ineg
-            | Opcode::Bnot
-            | Opcode::Iabs
-            | Opcode::Clz
-            | Opcode::Ctz
-            | Opcode::Popcnt
-            | Opcode::Bitrev
-            | Opcode::Bswap
-            | Opcode::Isplit => Class::Unary,
-            Opcode::Icmp => Class::Icmp,
-            Opcode::Select => Class::Select,
-            Opcode::Uextend | Opcode::Sextend | Opcode::Ireduce => Class::Convert,
-            Opcode::IaddImm
-            | Opcode::ImulImm
-            | Opcode::BandImm
-            | Opcode::BorImm
-            | Opcode::BxorImm
-            | Opcode::IshlImm
-            | Opcode::UshrImm
-            | Opcode::SshrImm => Class::BinaryImm,
-            Opcode::IcmpImm => Class::IcmpImm,
-            Opcode::Load | Opcode::Uload8 | Opcode::Sload8 | Opcode::Uload16 | Opcode::Sload16 =>
-                Class::Load,
-            Opcode::Uload32 | Opcode::Sload32 => Class::LoadWide,
-            Opcode::Store | Opcode::Istore8 | Opcode::Istore16 | Opcode::Istore32 => Class::Store,
-            Opcode::StackLoad => Class::StackLoad,
-            Opcode::StackStore => Class::StackStore,
-            Opcode::FuncAddr => Class::FuncAddr,
-            Opcode::Nop | Opcode::SequencePoint => Class::Nullary,
-            Opcode::Jump => Class::Jump,
-            Opcode::Brif => Class::Brif,
-            Opcode::BrTable => Class::BrTable,
-            Opcode::Return => Class::Return,
-            Opcode::Trap => Class::Trap,
-            Opcode::Trapz | Opcode::Trapnz => Class::TrapIf,
-            Opcode::Call | Opcode::ReturnCall => Class::Call,
-            Opcode::TryCall => Class::TryCall,
-            Opcode::CallIndirect | Opcode::ReturnCallIndirect => Class::CallIndirect,
-            Opcode::TryCallIndirect => Class::TryCallIndirect,
-        }
+        self.row().2
     }
 }
 
-/// A row of the table: how an opcode is spelled, and which one it is.
+/// A row of the table: how an opcode is spelled, which one it is, the class of the words of its form, and, of an
+/// operation that has a form with an immediate, the opcode of that form.
 #[derive(Clone, Copy, Debug)]
-pub struct OpcodeRow(pub &'static str, pub Opcode);
+pub struct OpcodeRow(pub &'static str, pub Opcode, pub Class, pub Option<Opcode>);
 
 /// The opcodes, grouped by form.
 pub const OPCODES: [OpcodeRow; 79] = [
-    OpcodeRow("iconst", Opcode::Iconst),
-    OpcodeRow("iadd", Opcode::Iadd),
-    OpcodeRow("isub", Opcode::Isub),
-    OpcodeRow("imul", Opcode::Imul),
-    OpcodeRow("band", Opcode::Band),
-    OpcodeRow("bor", Opcode::Bor),
-    OpcodeRow("bxor", Opcode::Bxor),
-    OpcodeRow("smin", Opcode::Smin),
-    OpcodeRow("smax", Opcode::Smax),
-    OpcodeRow("umin", Opcode::Umin),
-    OpcodeRow("umax", Opcode::Umax),
-    OpcodeRow("umulhi", Opcode::Umulhi),
-    OpcodeRow("smulhi", Opcode::Smulhi),
-    OpcodeRow("udiv", Opcode::Udiv),
-    OpcodeRow("urem", Opcode::Urem),
-    OpcodeRow("sdiv", Opcode::Sdiv),
-    OpcodeRow("srem", Opcode::Srem),
-    OpcodeRow("ishl", Opcode::Ishl),
-    OpcodeRow("ushr", Opcode::Ushr),
-    OpcodeRow("sshr", Opcode::Sshr),
-    OpcodeRow("rotl", Opcode::Rotl),
-    OpcodeRow("rotr", Opcode::Rotr),
-    OpcodeRow("uadd_overflow", Opcode::UaddOverflow),
-    OpcodeRow("sadd_overflow", Opcode::SaddOverflow),
-    OpcodeRow("usub_overflow", Opcode::UsubOverflow),
-    OpcodeRow("ssub_overflow", Opcode::SsubOverflow),
-    OpcodeRow("iconcat", Opcode::Iconcat),
-    OpcodeRow("ineg", Opcode::Ineg),
-    OpcodeRow("bnot", Opcode::Bnot),
-    OpcodeRow("iabs", Opcode::Iabs),
-    OpcodeRow("clz", Opcode::Clz),
-    OpcodeRow("ctz", Opcode::Ctz),
-    OpcodeRow("popcnt", Opcode::Popcnt),
-    OpcodeRow("bitrev", Opcode::Bitrev),
-    OpcodeRow("bswap", Opcode::Bswap),
-    OpcodeRow("isplit", Opcode::Isplit),
-    OpcodeRow("icmp", Opcode::Icmp),
-    OpcodeRow("select", Opcode::Select),
-    OpcodeRow("uextend", Opcode::Uextend),
-    OpcodeRow("sextend", Opcode::Sextend),
-    OpcodeRow("ireduce", Opcode::Ireduce),
-    OpcodeRow("iadd_imm", Opcode::IaddImm),
-    OpcodeRow("imul_imm", Opcode::ImulImm),
-    OpcodeRow("band_imm", Opcode::BandImm),
-    OpcodeRow("bor_imm", Opcode::BorImm),
-    OpcodeRow("bxor_imm", Opcode::BxorImm),
-    OpcodeRow("ishl_imm", Opcode::IshlImm),
-    OpcodeRow("ushr_imm", Opcode::UshrImm),
-    OpcodeRow("sshr_imm", Opcode::SshrImm),
-    OpcodeRow("icmp_imm", Opcode::IcmpImm),
-    OpcodeRow("load", Opcode::Load),
-    OpcodeRow("uload8", Opcode::Uload8),
-    OpcodeRow("sload8", Opcode::Sload8),
-    OpcodeRow("uload16", Opcode::Uload16),
-    OpcodeRow("sload16", Opcode::Sload16),
-    OpcodeRow("uload32", Opcode::Uload32),
-    OpcodeRow("sload32", Opcode::Sload32),
-    OpcodeRow("store", Opcode::Store),
-    OpcodeRow("istore8", Opcode::Istore8),
-    OpcodeRow("istore16", Opcode::Istore16),
-    OpcodeRow("istore32", Opcode::Istore32),
-    OpcodeRow("stack_load", Opcode::StackLoad),
-    OpcodeRow("stack_store", Opcode::StackStore),
-    OpcodeRow("func_addr", Opcode::FuncAddr),
-    OpcodeRow("nop", Opcode::Nop),
-    OpcodeRow("sequence_point", Opcode::SequencePoint),
-    OpcodeRow("jump", Opcode::Jump),
-    OpcodeRow("brif", Opcode::Brif),
-    OpcodeRow("br_table", Opcode::BrTable),
-    OpcodeRow("return", Opcode::Return),
-    OpcodeRow("trap", Opcode::Trap),
-    OpcodeRow("trapz", Opcode::Trapz),
-    OpcodeRow("trapnz", Opcode::Trapnz),
-    OpcodeRow("call", Opcode::Call),
-    OpcodeRow("return_call", Opcode::ReturnCall),
-    OpcodeRow("try_call", Opcode::TryCall),
-    OpcodeRow("call_indirect", Opcode::CallIndirect),
-    OpcodeRow("return_call_indirect", Opcode::ReturnCallIndirect),
-    OpcodeRow("try_call_indirect", Opcode::TryCallIndirect),
+    OpcodeRow("iconst", Opcode::Iconst, Class::Iconst, None),
+    OpcodeRow("iadd", Opcode::Iadd, Class::Binary, Some(Opcode::IaddImm)),
+    OpcodeRow("isub", Opcode::Isub, Class::Binary, None),
+    OpcodeRow("imul", Opcode::Imul, Class::Binary, Some(Opcode::ImulImm)),
+    OpcodeRow("band", Opcode::Band, Class::Binary, Some(Opcode::BandImm)),
+    OpcodeRow("bor", Opcode::Bor, Class::Binary, Some(Opcode::BorImm)),
+    OpcodeRow("bxor", Opcode::Bxor, Class::Binary, Some(Opcode::BxorImm)),
+    OpcodeRow("smin", Opcode::Smin, Class::Binary, None),
+    OpcodeRow("smax", Opcode::Smax, Class::Binary, None),
+    OpcodeRow("umin", Opcode::Umin, Class::Binary, None),
+    OpcodeRow("umax", Opcode::Umax, Class::Binary, None),
+    OpcodeRow("umulhi", Opcode::Umulhi, Class::Binary, None),
+    OpcodeRow("smulhi", Opcode::Smulhi, Class::Binary, None),
+    OpcodeRow("udiv", Opcode::Udiv, Class::Binary, None),
+    OpcodeRow("urem", Opcode::Urem, Class::Binary, None),
+    OpcodeRow("sdiv", Opcode::Sdiv, Class::Binary, None),
+    OpcodeRow("srem", Opcode::Srem, Class::Binary, None),
+    OpcodeRow("ishl", Opcode::Ishl, Class::Binary, Some(Opcode::IshlImm)),
+    OpcodeRow("ushr", Opcode::Ushr, Class::Binary, Some(Opcode::UshrImm)),
+    OpcodeRow("sshr", Opcode::Sshr, Class::Binary, Some(Opcode::SshrImm)),
+    OpcodeRow("rotl", Opcode::Rotl, Class::Binary, None),
+    OpcodeRow("rotr", Opcode::Rotr, Class::Binary, None),
+    OpcodeRow("uadd_overflow", Opcode::UaddOverflow, Class::Binary, None),
+    OpcodeRow("sadd_overflow", Opcode::SaddOverflow, Class::Binary, None),
+    OpcodeRow("usub_overflow", Opcode::UsubOverflow, Class::Binary, None),
+    OpcodeRow("ssub_overflow", Opcode::SsubOverflow, Class::Binary, None),
+    OpcodeRow("iconcat", Opcode::Iconcat, Class::Binary, None),
+    OpcodeRow("ineg", Opcode::Ineg, Class::Unary, None),
+    OpcodeRow("bnot", Opcode::Bnot, Class::Unary, None),
+    OpcodeRow("iabs", Opcode::Iabs, Class::Unary, None),
+    OpcodeRow("clz", Opcode::Clz, Class::Unary, None),
+    OpcodeRow("ctz", Opcode::Ctz, Class::Unary, None),
+    OpcodeRow("popcnt", Opcode::Popcnt, Class::Unary, None),
+    OpcodeRow("bitrev", Opcode::Bitrev, Class::Unary, None),
+    OpcodeRow("bswap", Opcode::Bswap, Class::Unary, None),
+    OpcodeRow("isplit", Opcode::Isplit, Class::Unary, None),
+    OpcodeRow("icmp", Opcode::Icmp, Class::Icmp, Some(Opcode::IcmpImm)),
+    OpcodeRow("select", Opcode::Select, Class::Select, None),
+    OpcodeRow("uextend", Opcode::Uextend, Class::Convert, None),
+    OpcodeRow("sextend", Opcode::Sextend, Class::Convert, None),
+    OpcodeRow("ireduce", Opcode::Ireduce, Class::Convert, None),
+    OpcodeRow("iadd_imm", Opcode::IaddImm, Class::BinaryImm, None),
+    OpcodeRow("imul_imm", Opcode::ImulImm, Class::BinaryImm, None),
+    OpcodeRow("band_imm", Opcode::BandImm, Class::BinaryImm, None),
+    OpcodeRow("bor_imm", Opcode::BorImm, Class::BinaryImm, None),
+    OpcodeRow("bxor_imm", Opcode::BxorImm, Class::BinaryImm, None),
+    OpcodeRow("ishl_imm", Opcode::IshlImm, Class::BinaryImm, None),
+    OpcodeRow("ushr_imm", Opcode::UshrImm, Class::BinaryImm, None),
+    OpcodeRow("sshr_imm", Opcode::SshrImm, Class::BinaryImm, None),
+    OpcodeRow("icmp_imm", Opcode::IcmpImm, Class::IcmpImm, None),
+    OpcodeRow("load", Opcode::Load, Class::Load, None),
+    OpcodeRow("uload8", Opcode::Uload8, Class::Load, None),
+    OpcodeRow("sload8", Opcode::Sload8, Class::Load, None),
+    OpcodeRow("uload16", Opcode::Uload16, Class::Load, None),
+    OpcodeRow("sload16", Opcode::Sload16, Class::Load, None),
+    OpcodeRow("uload32", Opcode::Uload32, Class::LoadWide, None),
+    OpcodeRow("sload32", Opcode::Sload32, Class::LoadWide, None),
+    OpcodeRow("store", Opcode::Store, Class::Store, None),
+    OpcodeRow("istore8", Opcode::Istore8, Class::Store, None),
+    OpcodeRow("istore16", Opcode::Istore16, Class::Store, None),
+    OpcodeRow("istore32", Opcode::Istore32, Class::Store, None),
+    OpcodeRow("stack_load", Opcode::StackLoad, Class::StackLoad, None),
+    OpcodeRow("stack_store", Opcode::StackStore, Class::StackStore, None),
+    OpcodeRow("func_addr", Opcode::FuncAddr, Class::FuncAddr, None),
+    OpcodeRow("nop", Opcode::Nop, Class::Nullary, None),
+    OpcodeRow(
+        "sequence_point",
+        Opcode::SequencePoint,
+        Class::Nullary,
+        None,
+    ),
+    OpcodeRow("jump", Opcode::Jump, Class::Jump, None),
+    OpcodeRow("brif", Opcode::Brif, Class::Brif, None),
+    OpcodeRow("br_table", Opcode::BrTable, Class::BrTable, None),
+    OpcodeRow("return", Opcode::Return, Class::Return, None),
+    OpcodeRow("trap", Opcode::Trap, Class::Trap, None),
+    OpcodeRow("trapz", Opcode::Trapz, Class::TrapIf, None),
+    OpcodeRow("trapnz", Opcode::Trapnz, Class::TrapIf, None),
+    OpcodeRow("call", Opcode::Call, Class::Call, None),
+    OpcodeRow("return_call", Opcode::ReturnCall, Class::Call, None),
+    OpcodeRow("try_call", Opcode::TryCall, Class::TryCall, None),
+    OpcodeRow(
+        "call_indirect",
+        Opcode::CallIndirect,
+        Class::CallIndirect,
+        None,
+    ),
+    OpcodeRow(
+        "return_call_indirect",
+        Opcode::ReturnCallIndirect,
+        Class::CallIndirect,
+        None,
+    ),
+    OpcodeRow(
+        "try_call_indirect",
+        Opcode::TryCallIndirect,
+        Class::TryCallIndirect,
+        None,
+    ),
 ];
 
 /// The table of opcodes. Its rows are those by which the reader knows the words of opcodes, and a row's number is its
@@ -263,6 +293,8 @@ pub fn opcode_rows() -> &'static [OpcodeRow]
     ensures words { map seen.opcode_row result.now ≡ table.numbered_through 0 table.opcodes }
     ensures opcodes { map (λ (row : OpcodeRow). row.1) result.now ≡ spec.all_opcodes }
     ensures spelled { map (λ (row : OpcodeRow). row.0.now) result.now ≡ map spec.word spec.all_opcodes }
+    ensures forms { map (λ (row : OpcodeRow). row.2) result.now ≡ map form spec.all_opcodes }
+    ensures immediates { map (λ (row : OpcodeRow). row.3) result.now ≡ map spec.with_immediate spec.all_opcodes }
 {
     &OPCODES
 }

@@ -7,19 +7,15 @@ ghost use Rattle.ir_semantics.specs.TypeRules.{is_narrow, access_form, access_su
 ghost use Rattle.ir_check.specs.Twins.{in_range};
 
 use crate::calls::width;
+use clif_words::Opcode;
 use clk_num::{Bits, Op, Width};
 use ir_core::{Access, Flags, Ty};
 
-/// Whether the operation has a form with an immediate.
+/// Whether the operation has a form with an immediate: whether the table of opcodes has one for it.
 pub fn takes_immediate(op: Op) -> bool
     ensures { result ≡ has_immediate op }
 {
-    match op {
-        Op::Iadd | Op::Imul | Op::Band | Op::Bor | Op::Bxor | Op::Ishl | Op::Ushr | Op::Sshr =>
-            true,
-        Op::Icmp(_) => true,
-        _ => false,
-    }
+    Opcode::of_immediate(op).is_some()
 }
 
 /// Whether the number is one of its type, as that of all bits is.

@@ -3,4 +3,5 @@ use Rattle.clif_print.proofs.control.put_br_table.Goals as goal
 
 pub returns : goal.returns
 returns g c =
-    rw (← c.as_slice.ensures) (c.put.ensures ▸ c.put_value.ensures ▸ c.put-2.ensures ▸ c.put_target.ensures ▸ c.put-3.ensures ▸ c.put_target_list.ensures)
+    rw (← c.as_slice.ensures)
+    (c.put_opcode.ensures ▸ c.put.ensures ▸ c.put_value.ensures ▸ c.put-2.ensures ▸ c.put_target.ensures ▸ c.put-3.ensures ▸ c.put_target_list.ensures)

@@ -3,4 +3,5 @@ use Rattle.clif_print.proofs.control.put_try_call_indirect.Goals as goal
 
 pub returns : goal.returns
 returns g c =
-    rw (← c.as_slice.ensures) (c.put.ensures ▸ (c.put_value.ensures ▸ c.put_call_arguments.ensures) ▸ c.put_outcomes.ensures)
+    rw (← c.as_slice.ensures)
+    (c.put_opcode.ensures ▸ c.put.ensures ▸ (c.put_value.ensures ▸ c.put_call_arguments.ensures) ▸ c.put_outcomes.ensures)

@@ -4,4 +4,4 @@ use Rattle.clif_print.proofs.instructions.put_stack_store.Goals as goal
 
 pub returns : goal.returns
 returns g c =
-    c.put.ensures ▸ c.put_suffix_if.ensures ▸ c.put-2.ensures ▸ (simp (to_z-of_z, c.ranges.offset) at c.put_stored_in_slot.ensures)
+    c.put_opcode.ensures ▸ c.put_suffix_if.ensures ▸ c.put.ensures ▸ (simp (to_z-of_z, c.ranges.offset) at c.put_stored_in_slot.ensures)

@@ -1,5 +1,9 @@
 -- An opcode is told by its number, and its row of the table by its place.
-use Rattle.std.proofs.Common.{◌≡◌, ◌<◌, ℕ, List, length, map, slice_get, Option, Some, refl, sym, ap, ◌∙◌}
+use Rattle.std.proofs.Common.{◌≡◌, ◌<◌, ℕ, List, length, map, Some, refl, sym, ap, ◌∙◌, arith}
+use Rattle.std.specs.Prelude.{slice_get, slice_index_or, option_map}
+use Rattle.std.proofs.lemmas.List.{length-map, get_or-map}
+use Rattle.std.proofs.lemmas.Option.{slice_get-map, slice_get_within, get_or_from_slice_get}
+use Rattle.clif_words.specs.declared.opcodes.OpcodeRow.{OpcodeRow}
 use Rattle.clif_words.specs.declared.opcodes.Opcode.{Opcode}
 use Rattle.clif_words.specs.declared.opcodes.Opcode.TheVariants as opcodes
 use Rattle.clif_words.specs.Opcodes.{all_opcodes, or_nop, place, opcode_of}
@@ -89,3 +93,17 @@ opcode_at opcodes.TryCallIndirect = refl
 pub place_opcode : (o : Opcode) → opcode_of (place o) ≡ o
 unfolding opcode_of
 place_opcode o = ap or_nop (opcode_at o)
+
+-- a table of all opcodes has a row at the place of each
+pub place_within : {A : Type 0} (f : OpcodeRow → A) (g : Opcode → A) (rows : List OpcodeRow) (o : Opcode) → map f rows ≡ map g all_opcodes → place o < length rows
+place_within f g rows o same =
+    let within : place o < length all_opcodes = slice_get_within all_opcodes (place o) o (opcode_at o) in
+    omega (arith, within, length-map rows f, ap length same, length-map all_opcodes g)
+
+-- and what the rows are seen as is there that of the opcode
+pub row_at : {A : Type 0} (f : OpcodeRow → A) (g : Opcode → A) (rows : List OpcodeRow) (d : OpcodeRow) (o : Opcode) (n : ℕ) → n ≡ place o → map f rows ≡ map g all_opcodes → f (slice_index_or rows n d) ≡ g o
+row_at f g rows d o n at same =
+    ap (λ k. f (slice_index_or rows k d)) at
+    ∙ sym (get_or-map f rows (place o) d (g o) (place_within f g rows o same))
+    ∙ ap (λ ys. slice_index_or ys (place o) (g o)) same
+    ∙ get_or_from_slice_get (map g all_opcodes) (place o) (g o) (g o) (slice_get-map g all_opcodes (place o) ∙ ap (option_map g) (opcode_at o))

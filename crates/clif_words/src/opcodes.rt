@@ -152,6 +152,14 @@ impl Opcode {
         Opcode::of(op).row().3
     }
 
+    /// Its place in the table.
+    #[inline]
+    fn place(self) -> usize
+        ensures { result ≡ spec.place self }
+    {
+        self as usize
+    }
+
     /// Its row of the table.
     #[inline]
     fn row(self) -> &'static OpcodeRow
@@ -159,7 +167,7 @@ impl Opcode {
         ensures form { result.now.2 ≡ form self }
         ensures immediate { result.now.3 ≡ spec.with_immediate self }
     {
-        &opcode_rows()[self as usize]
+        &opcode_rows()[self.place()]
     }
 
     /// How it is spelled.

@@ -4,6 +4,7 @@ ghost use Rattle.std.specs.Prelude.{◌≡◌, drop};
 ghost use Rattle.clif_words.specs.Lexemes as lexeme_specs;
 ghost use Rattle.clif_words.specs.Seen.{seen};
 
+use crate::reader::Next;
 use clif_lex::TokenKind;
 use clif_words::{Terminal, Word};
 
@@ -45,23 +46,23 @@ pub(crate) fn name_of(kind: TokenKind, spelling: &[u8]) -> &[u8]
     }
 }
 
-/// Which of its class a word is that names no entity.
+/// Which of its class the next token is, a word that names no entity.
 #[inline(never)]
-fn other_number(terminal: &Terminal) -> u64
-    ensures { result ≡ (seen terminal.now).number }
+fn other_number(next: &Next) -> u64
+    ensures { result ≡ (seen next.now.terminal).number }
 {
-    terminal.number()
+    next.terminal.number()
 }
 
 /// The number in the word of an entity; of another token, which of its class it is.
 /// The terminal is only looked at: for a call that takes it by value it would be copied first.
 #[inline]
-pub(crate) fn number_of(terminal: &Terminal) -> u64
-    ensures { result ≡ (seen terminal.now).number }
+pub(crate) fn number_of(next: &Next) -> u64
+    ensures { result ≡ (seen next.now.terminal).number }
 {
-    match terminal {
-        Terminal::Word(Word::Entity(_, number)) => *number,
-        Terminal::Word(_) => other_number(terminal),
+    match next.terminal {
+        Terminal::Word(Word::Entity(_, number)) => number,
+        Terminal::Word(_) => other_number(next),
         _ => 0,
     }
 }

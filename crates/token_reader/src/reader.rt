@@ -28,12 +28,12 @@ use std::marker::Model;
 
 /// The next token. Where none is left, only its place says anything.
 #[derive(Clone, Copy)]
-struct Next {
+pub(crate) struct Next {
     /// Its place in the list, or where the reader ends.
     at: usize,
     /// The class of its terminal, which is asked most.
     class: Class,
-    terminal: Terminal,
+    pub(crate) terminal: Terminal,
     /// Its first byte.
     spot: usize,
 }
@@ -271,7 +271,7 @@ impl<'a> Reader<'a> {
         ensures { (x : Lexeme) (xs : List Lexeme) → self.now ≡ x ∷ xs → result ≡ spec.name x }
     {
         RawName {
-            number: number_of(&self.next.terminal),
+            number: number_of(&self.next),
             spot: self.next.spot,
         }
     }

@@ -23,6 +23,7 @@ pub enum TargetRole {
 
 /// An argument of a target.
 #[tactic(auto, unfolding(crate::specs::Targets::arg_at))]
+#[inline(always)]
 pub(crate) fn arg(reader: &mut Reader<'_>, role: TargetRole) -> Result<RawArg, Stop>
     ensures is { Gives same reader.new result (spec.arg_at role reader.old) }
     ensures no_memory { IfErr result (λ e. e ≢ NoMemory) }
@@ -50,7 +51,7 @@ pub(crate) fn arg(reader: &mut Reader<'_>, role: TargetRole) -> Result<RawArg, S
 impl Items<RawArg> for TargetRole {
     ghost item_at = { spec.arg_at };
 
-    #[inline]
+    #[inline(always)]
     fn item(&self, _alloc: Global, reader: &mut Reader<'_>) -> Result<RawArg, Stop> {
         arg(reader, *self)
     }

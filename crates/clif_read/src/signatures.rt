@@ -79,6 +79,7 @@ fn opt_results(alloc: Global, reader: &mut Reader<'_>) -> Result<Vec<RawParam>, 
 
 /// A calling convention.
 #[tactic(auto, unfolding(crate::specs::Signatures::convention_at, token_reader::specs::Reading::name_at))]
+#[inline(never)]
 fn convention(reader: &mut Reader<'_>) -> Result<Conv, Stop>
     ensures is { Gives same reader.new result (spec.convention_at reader.old) }
     ensures shorter { IfOk result (λ _. length reader.new < length reader.old) }

@@ -1,9 +1,12 @@
-//! The kinds of tokens, and the names that they spell.
+//! The kinds of tokens, and the names and numbers that they spell.
 
 ghost use Rattle.std.specs.Prelude.{◌≡◌, drop};
 ghost use Rattle.clif_words.specs.Lexemes as lexeme_specs;
+ghost use Rattle.clif_words.specs.Seen.{seen};
 
+use crate::reader::Next;
 use clif_lex::TokenKind;
+use clif_words::{Terminal, Word};
 
 /// Whether a token is a comment.
 #[inline]
@@ -40,5 +43,26 @@ pub(crate) fn name_of(kind: TokenKind, spelling: &[u8]) -> &[u8]
     match kind {
         TokenKind::Name => behind_first(spelling),
         _ => &[],
+    }
+}
+
+/// Which of its class the next token is, a word that names no entity.
+#[inline(never)]
+fn other_number(next: &Next) -> u64
+    ensures { result ≡ (seen next.now.terminal).number }
+{
+    next.terminal.number()
+}
+
+/// The number in the word of an entity; of another token, which of its class it is.
+/// The terminal is only looked at: for a call that takes it by value it would be copied first.
+#[inline]
+pub(crate) fn number_of(next: &Next) -> u64
+    ensures { result ≡ (seen next.now.terminal).number }
+{
+    match next.terminal {
+        Terminal::Word(Word::Entity(_, number)) => number,
+        Terminal::Word(_) => other_number(next),
+        _ => 0,
     }
 }

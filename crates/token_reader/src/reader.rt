@@ -17,10 +17,10 @@ ghost use Rattle.token_reader.specs.Reading as spec;
 ghost use Rattle.token_reader.specs.Reading.{Gives, same};
 ghost use Rattle.token_reader.specs.Shown.{IsOf, Shows};
 
-use crate::kinds::{is_comment, is_number, name_of};
+use crate::kinds::{is_comment, is_number, name_of, number_of};
 use crate::raw::{RawName, RawNumber, RawOpcode, RawText};
 use crate::stop::Stop;
-use clif_lex::Tokens;
+use clif_lex::{TokenKind, Tokens};
 use clif_words::{Class, Terminal, Word, quick_terminal, word_meaning};
 use ir_core::List;
 use std::alloc::Global;
@@ -28,12 +28,12 @@ use std::marker::Model;
 
 /// The next token. Where none is left, only its place says anything.
 #[derive(Clone, Copy)]
-struct Next {
+pub(crate) struct Next {
     /// Its place in the list, or where the reader ends.
     at: usize,
     /// The class of its terminal, which is asked most.
     class: Class,
-    terminal: Terminal,
+    pub(crate) terminal: Terminal,
     /// Its first byte.
     spot: usize,
 }
@@ -77,6 +77,31 @@ fn keep_word(next: &mut Next, spelling: &[u8])
     next.terminal = Terminal::Word(word);
 }
 
+/// Keeps what a word is. Values, the most of the words, are told here.
+#[inline(never)]
+fn keep_any_word(next: &mut Next, spelling: &[u8])
+    ensures at { next.new.at ≡ next.old.at }
+    ensures spot { next.new.spot ≡ next.old.spot }
+    ensures terminal { seen next.new.terminal ≡ word_meaning spelling.now }
+    ensures class { next.new.class ≡ (seen next.new.terminal).class }
+{
+    let may_be_value = match spelling.first() {
+        Some(byte) => *byte == b'v',
+        None => false,
+    };
+    if !may_be_value {
+        keep_word(next, spelling);
+        return;
+    }
+    match quick_terminal(TokenKind::Word, spelling) {
+        Some((class, terminal)) => {
+            next.class = class;
+            next.terminal = terminal;
+        }
+        None => keep_word(next, spelling),
+    }
+}
+
 /// Keeps what the token at a place of the list is.
 #[inline]
 fn keep(next: &mut Next, text: &[u8], tokens: &Tokens, at: usize)
@@ -89,6 +114,10 @@ fn keep(next: &mut Next, text: &[u8], tokens: &Tokens, at: usize)
     let spelling = tokens.spelling(text, at);
     next.at = at;
     next.spot = token.start;
+    if let TokenKind::Word = token.kind {
+        keep_any_word(next, spelling);
+        return;
+    }
     match quick_terminal(token.kind, spelling) {
         Some((class, terminal)) => {
             next.class = class;
@@ -242,7 +271,7 @@ impl<'a> Reader<'a> {
         ensures { (x : Lexeme) (xs : List Lexeme) → self.now ≡ x ∷ xs → result ≡ spec.name x }
     {
         RawName {
-            number: self.next.terminal.number(),
+            number: number_of(&self.next),
             spot: self.next.spot,
         }
     }

@@ -14,6 +14,7 @@ use ir_core::{
     Module, Param, Purpose, Room, Sig, SigRef, SlotDecl, Ty, Value, Values,
 };
 use std::alloc::{AllocError, Global};
+use std::process::Abort;
 
 /// A parameter of a signature, of 64 bits.
 const WORD: Param = Param {
@@ -124,9 +125,9 @@ fn one_block(alloc: Global, name: FuncName) -> Result<Func, AllocError>
     Ok(func)
 }
 
-/// The declarations of `%f`: a signature, the callee `%g` and three values.
-fn declared(alloc: Global) -> Result<Func, AllocError>
-    ensures { IfOk result (λ func. func.function ≡ spec.declared) }
+/// The signature and the callee `%g` of `%f`.
+fn declared_callee(alloc: Global) -> Result<Func, AllocError>
+    ensures { IfOk result (λ func. func.function ≡ record spec.declared { types = [] }) }
 {
     let mut func = Func::new(alloc, named(alloc, 102)?, one_to_one(alloc)?)?;
     let sig = func.add_sig(one_to_one(alloc)?)?;
@@ -136,6 +137,14 @@ fn declared(alloc: Global) -> Result<Func, AllocError>
         colocated: false,
         sig,
     })?;
+    Ok(func)
+}
+
+/// The declarations of `%f`: a signature, the callee `%g` and three values.
+fn declared(alloc: Global) -> Result<Func, AllocError>
+    ensures { IfOk result (λ func. func.function ≡ spec.declared) }
+{
+    let mut func = declared_callee(alloc)?;
     func.declare(Ty::I64)?;
     func.declare(Ty::I64)?;
     func.declare(Ty::I64)?;
@@ -155,10 +164,11 @@ fn add_blocks(func: &mut Func) -> Result<(), AllocError>
     func.add_param(handler, Value::new(2))
 }
 
-/// block0 calls `%g`, block1 returns the result and block2 what was thrown.
-fn add_insts(alloc: Global, func: &mut Func) -> Result<(), AllocError>
+/// block0 calls `%g`.
+fn add_call(alloc: Global, func: &mut Func) -> Result<(), AllocError>
     requires { func.old.function ≡ spec.with_blocks }
-    ensures { OnOk result (func.new.function ≡ spec.calling) }
+    ensures { OnOk result (func.new.function ≡ record spec.calling
+        { blocks = spec.block 0 (spec.tried 0 0 1 2 ∷ []) ∷ spec.block 1 [] ∷ spec.block 2 [] ∷ [] }) }
 {
     let call = tried(
         alloc,
@@ -167,7 +177,15 @@ fn add_insts(alloc: Global, func: &mut Func) -> Result<(), AllocError>
         Block::new(1),
         Block::new(2),
     )?;
-    func.add_inst(Block::new(0), call)?;
+    func.add_inst(Block::new(0), call)
+}
+
+/// block1 returns the result of the call and block2 what was thrown.
+fn add_returns(alloc: Global, func: &mut Func) -> Result<(), AllocError>
+    requires { func.old.function ≡ record spec.calling
+        { blocks = spec.block 0 (spec.tried 0 0 1 2 ∷ []) ∷ spec.block 1 [] ∷ spec.block 2 [] ∷ [] } }
+    ensures { OnOk result (func.new.function ≡ spec.calling) }
+{
     func.add_inst(Block::new(1), returned(alloc, Value::new(1)))?;
     func.add_inst(Block::new(2), returned(alloc, Value::new(2)))
 }
@@ -246,7 +264,8 @@ fn inlined(alloc: Global) -> Result<Func, AllocError>
 {
     let mut func = declared(alloc)?;
     add_blocks(&mut func)?;
-    add_insts(alloc, &mut func)?;
+    add_call(alloc, &mut func)?;
+    add_returns(alloc, &mut func)?;
     append_declarations(alloc, &mut func)?;
     insert_blocks(alloc, &mut func)?;
     let enter = jump(alloc, Block::new(3), Value::new(0))?;
@@ -265,15 +284,20 @@ fn inlined(alloc: Global) -> Result<Func, AllocError>
 
 #[test]
 fn reads_back(rt: HostRuntime) -> Result<(), AllocError> {
-    let alloc = rt.alloc();
-    let name = FuncName::User(0, 1);
-    let func = one_block(alloc, name.clone()?)?;
+    let func = one_block(rt.alloc(), FuncName::User(0, 1))?;
     assert!(rt; func.whole());
     assert_eq!(rt; func.size(), 4);
     assert_eq!(rt; func.blocks().count(), 1);
     let copy = func.copy()?;
     assert_eq!(rt; copy.size(), 4);
+    Ok(())
+}
 
+#[test]
+fn finds_what_was_pushed(rt: HostRuntime) -> Result<(), AllocError> {
+    let alloc = rt.alloc();
+    let name = FuncName::User(0, 1);
+    let func = one_block(alloc, name.clone()?)?;
     let mut module = Module::new(alloc);
     assert_eq!(rt; module.find(&name), None);
     module.push(func)?;
@@ -334,10 +358,8 @@ fn first_argument(target: &BlockCall) -> u32 {
     }
 }
 
-#[test]
-fn reads_back_what_was_inlined(rt: HostRuntime) -> Result<(), AllocError> {
-    let alloc = rt.alloc();
-    let func = inlined(alloc)?;
+/// Reads the name, the signature and the declarations of what was inlined.
+fn reads_declarations<A: Abort>(rt: &A, func: &Func) {
     assert!(rt; matches!(func.name(), FuncName::Text(text) if text.as_slice() == b"f".as_slice()));
     assert_eq!(rt; func.sig().params.as_slice(), [WORD].as_slice());
     assert_eq!(rt; func.sig().results.as_slice(), [WORD].as_slice());
@@ -346,9 +368,12 @@ fn reads_back_what_was_inlined(rt: HostRuntime) -> Result<(), AllocError> {
     assert_eq!(rt; func.callees().len(), 2);
     assert_eq!(rt; func.values(), 5);
     assert_eq!(rt; func.ty(Value::new(4)), Ty::I64);
+}
+
+/// Reads the blocks of what was inlined.
+fn reads_blocks<A: Abort>(rt: &A, alloc: Global, func: &Func) -> Result<(), AllocError> {
     assert!(rt; func.whole());
     assert_eq!(rt; func.size(), 28);
-
     let expected = [
         (0, 1, "jump", 0, Some(3)),
         (3, 1, "try_call", 3, Some(4)),
@@ -356,18 +381,13 @@ fn reads_back_what_was_inlined(rt: HostRuntime) -> Result<(), AllocError> {
         (1, 1, "return", 1, None),
         (2, 1, "return", 2, None),
     ];
-    assert!(rt; all_told(alloc, &func)?.as_slice() == expected.as_slice());
+    assert!(rt; all_told(alloc, func)?.as_slice() == expected.as_slice());
     Ok(())
 }
 
 #[test]
-fn values_are_kept_however_many(rt: HostRuntime) -> Result<(), AllocError> {
-    let alloc = rt.alloc();
-    let numbers = [7, 3, 5, 3, 9].map(Value::new);
-    for count in 0..=numbers.len() {
-        let values = Values::from_slice(alloc, &numbers[..count])?;
-        assert!(rt; values.as_slice() == &numbers[..count]);
-        assert!(rt; values.clone()?.as_slice() == &numbers[..count]);
-    }
-    Ok(())
+fn reads_back_what_was_inlined(rt: HostRuntime) -> Result<(), AllocError> {
+    let func = inlined(rt.alloc())?;
+    reads_declarations(&rt, &func);
+    reads_blocks(&rt, rt.alloc(), &func)
 }

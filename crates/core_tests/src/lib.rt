@@ -4,3 +4,5 @@
 
 #[cfg(test)]
 mod functions;
+#[cfg(test)]
+mod values;

@@ -1,12 +1,36 @@
 //! The worked rows, to the byte.
-use filetest::{TestErr, run_tests};
-use std::alloc::AllocError;
+use filetest::{Report, TestErr, run_tests};
+use std::alloc::{AllocError, Global};
+
+/// The report on a text that is not long.
+fn report_on(alloc: Global, text: &[u8]) -> Result<Report, TestErr> {
+    if text.len() > 1_000_000 {
+        return Err(TestErr::NoMemory);
+    }
+    run_tests(alloc, text)
+}
+
+/// Whether this is the report on the text.
+fn has_report(alloc: Global, text: &str, report: &str) -> bool {
+    match report_on(alloc, text.as_bytes()) {
+        Ok(found) => found.text.as_slice() == report.as_bytes(),
+        Err(_) => false,
+    }
+}
+
+/// The line of the text that has a bad directive.
+fn bad_line(alloc: Global, text: &[u8]) -> Option<u32> {
+    match report_on(alloc, text) {
+        Err(TestErr::BadDirective(line)) => Some(line),
+        _ => None,
+    }
+}
 
 #[test]
-fn reports(rt: HostRuntime) -> Result<(), AllocError> {
+fn reports(rt: HostRuntime) {
     for (text, report) in [
         (
-            b"test inline precise-output\n\
+            "test inline precise-output\n\
             target x86_64\n\n\
             function %f0() -> i32 {\n\
             block0():\n    v0 = iconst.i32 10\n    return v0\n\
@@ -28,52 +52,44 @@ fn reports(rt: HostRuntime) -> Result<(), AllocError> {
             ;\n\
             ; block2(v1: i32):\n\
             ;     return v1\n\
-            ; }\n"
-                .as_slice(),
-            b"pass inline %f0 line 4\n\
+            ; }\n",
+            "pass inline %f0 line 4\n\
             pass inline %f1 line 12\n\
-            2 passed, 0 failed, 0 skipped\n"
-                .as_slice(),
+            2 passed, 0 failed, 0 skipped\n",
         ),
         (
-            b"test interpret\n\
+            "test interpret\n\
             function %f(i64) -> i64 {\n    fn0 = %h(i64) -> i64\n\
             block0(v0: i64):\n    v1 = call fn0(v0)\n    return v1\n\
             }\n\
             ; host: return(9)\n\
             ; run: %f(5) == 9\n\
             ; trace: host %h(5)\n\
-            ; run: %f(5) == 8\n"
-                .as_slice(),
-            b"pass interpret %f line 9\n\
+            ; run: %f(5) == 8\n",
+            "pass interpret %f line 9\n\
             fail interpret %f line 11\n  expected returned [8]\n  got script ended\n\
-            1 passed, 1 failed, 0 skipped\n"
-                .as_slice(),
+            1 passed, 1 failed, 0 skipped\n",
         ),
         (
-            b"test compile\n".as_slice(),
-            b"skip compile\n\
-            0 passed, 0 failed, 1 skipped\n"
-                .as_slice(),
+            "test compile\n",
+            "skip compile\n\
+            0 passed, 0 failed, 1 skipped\n",
         ),
         (
-            b"test compile".as_slice(),
-            b"skip compile\n\
-            0 passed, 0 failed, 1 skipped\n"
-                .as_slice(),
+            "test compile",
+            "skip compile\n\
+            0 passed, 0 failed, 1 skipped\n",
         ),
         (
-            b"test verifier\n\
+            "test verifier\n\
             function %f(i8) -> i32 {\n\
             block0(v0: i8):\n    return v0 ; error: type\n\
-            }\n"
-                .as_slice(),
-            b"pass verifier %f line 2\n\
-            1 passed, 0 failed, 0 skipped\n"
-                .as_slice(),
+            }\n",
+            "pass verifier %f line 2\n\
+            1 passed, 0 failed, 0 skipped\n",
         ),
         (
-            b"test inline\n\
+            "test inline\n\
             function %g(i64) -> i64 {\n\
             block0(v0: i64):\n    v1 = iadd_imm v0, 1\n    return v1\n\
             }\n\
@@ -81,14 +97,12 @@ fn reports(rt: HostRuntime) -> Result<(), AllocError> {
             block0(v0: i64):\n    v1 = imul_imm v0, 3\n    v2 = call fn0(v1)\n    v3 = isub v2, v0\n    return v3\n\
             }\n\
             ; check: jump block1(v1)\n\
-            ; nextln: block1\n"
-                .as_slice(),
-            b"fail inline %f line 7\n  expected block1\n  got \n\
-            0 passed, 1 failed, 0 skipped\n"
-                .as_slice(),
+            ; nextln: block1\n",
+            "fail inline %f line 7\n  expected block1\n  got \n\
+            0 passed, 1 failed, 0 skipped\n",
         ),
         (
-            b"test inline\n\
+            "test inline\n\
             function %g(i64) -> i64 {\n\
             block0(v0: i64):\n    v1 = iadd_imm v0, 1\n    return v1\n\
             }\n\
@@ -96,185 +110,74 @@ fn reports(rt: HostRuntime) -> Result<(), AllocError> {
             block0(v0: i64):\n    v1 = imul_imm v0, 3\n    v2 = call fn0(v1)\n    v3 = isub v2, v0\n    return v3\n\
             }\n\
             ; check: jump block1(v1)\n\
-            ; check: block1(v2: i64):\n"
-                .as_slice(),
-            b"pass inline %f line 7\n\
-            1 passed, 0 failed, 0 skipped\n"
-                .as_slice(),
+            ; check: block1(v2: i64):\n",
+            "pass inline %f line 7\n\
+            1 passed, 0 failed, 0 skipped\n",
         ),
-        (
-            b"; a".as_slice(),
-            b"0 passed, 0 failed, 0 skipped\n".as_slice(),
-        ),
+        ("; a", "0 passed, 0 failed, 0 skipped\n"),
     ] {
-        match run_tests(rt.alloc(), text) {
-            Ok(told) => assert!(rt; told.text.as_slice() == report),
-            Err(_) => assert!(rt; false),
-        }
+        assert!(rt; has_report(rt.alloc(), text, report), "at {text}");
+    }
+}
+
+/// A text whose tenth line is its last.
+const TRACED: &str = "test interpret\n\
+    function %f(i64) -> i64 {\n    fn0 = %h(i64) -> i64\n\
+    block0(v0: i64):\n    v1 = call fn0(v0)\n    return v1\n\
+    }\n\
+    ; host: return(9)\n\
+    ; run: %f(5) == 9\n\
+    ; trace: host %h(5)\n";
+
+#[test]
+fn bad_last_directives(rt: HostRuntime) -> Result<(), AllocError> {
+    for directive in [
+        "run: %f(",
+        "run: %x()",
+        "run: %f(5, 6)",
+        "run: %f(5) == [1, 2]",
+        "nextln: a",
+        "regex: a",
+        "check:",
+        "check: $x",
+        "run: %f(5) = 8",
+        "run: %f(5) == return",
+        "host: x",
+    ] {
+        let text = format!(in rt.alloc(); "{TRACED}; {directive}\n")?;
+        assert!(rt;
+            bad_line(rt.alloc(), text.as_bytes()) == Some(11),
+            "at {directive}"
+        );
     }
     Ok(())
 }
 
 #[test]
-fn bad_directives(rt: HostRuntime) -> Result<(), AllocError> {
+fn bad_directives(rt: HostRuntime) {
     for (text, line) in [
+        ("test\n", 1),
+        ("test inline callee-size=01\n", 1),
         (
-            b"test interpret\n\
-            function %f(i64) -> i64 {\n    fn0 = %h(i64) -> i64\n\
-            block0(v0: i64):\n    v1 = call fn0(v0)\n    return v1\n\
-            }\n\
-            ; host: return(9)\n\
-            ; run: %f(5) == 9\n\
-            ; trace: host %h(5)\n\
-            ; run: %f(\n"
-                .as_slice(),
-            11,
-        ),
-        (
-            b"test interpret\n\
-            function %f(i64) -> i64 {\n    fn0 = %h(i64) -> i64\n\
-            block0(v0: i64):\n    v1 = call fn0(v0)\n    return v1\n\
-            }\n\
-            ; host: return(9)\n\
-            ; run: %f(5) == 9\n\
-            ; trace: host %h(5)\n\
-            ; run: %x()\n"
-                .as_slice(),
-            11,
-        ),
-        (
-            b"test interpret\n\
-            function %f(i64) -> i64 {\n    fn0 = %h(i64) -> i64\n\
-            block0(v0: i64):\n    v1 = call fn0(v0)\n    return v1\n\
-            }\n\
-            ; host: return(9)\n\
-            ; run: %f(5) == 9\n\
-            ; trace: host %h(5)\n\
-            ; run: %f(5, 6)\n"
-                .as_slice(),
-            11,
-        ),
-        (
-            b"test interpret\n\
-            function %f(i64) -> i64 {\n    fn0 = %h(i64) -> i64\n\
-            block0(v0: i64):\n    v1 = call fn0(v0)\n    return v1\n\
-            }\n\
-            ; host: return(9)\n\
-            ; run: %f(5) == 9\n\
-            ; trace: host %h(5)\n\
-            ; run: %f(5) == [1, 2]\n"
-                .as_slice(),
-            11,
-        ),
-        (
-            b"test interpret\n\
-            function %f(i64) -> i64 {\n    fn0 = %h(i64) -> i64\n\
-            block0(v0: i64):\n    v1 = call fn0(v0)\n    return v1\n\
-            }\n\
-            ; host: return(9)\n\
-            ; run: %f(5) == 9\n\
-            ; trace: host %h(5)\n\
-            ; nextln: a\n"
-                .as_slice(),
-            11,
-        ),
-        (
-            b"test interpret\n\
-            function %f(i64) -> i64 {\n    fn0 = %h(i64) -> i64\n\
-            block0(v0: i64):\n    v1 = call fn0(v0)\n    return v1\n\
-            }\n\
-            ; host: return(9)\n\
-            ; run: %f(5) == 9\n\
-            ; trace: host %h(5)\n\
-            ; regex: a\n"
-                .as_slice(),
-            11,
-        ),
-        (
-            b"test interpret\n\
-            function %f(i64) -> i64 {\n    fn0 = %h(i64) -> i64\n\
-            block0(v0: i64):\n    v1 = call fn0(v0)\n    return v1\n\
-            }\n\
-            ; host: return(9)\n\
-            ; run: %f(5) == 9\n\
-            ; trace: host %h(5)\n\
-            ; check:\n"
-                .as_slice(),
-            11,
-        ),
-        (
-            b"test interpret\n\
-            function %f(i64) -> i64 {\n    fn0 = %h(i64) -> i64\n\
-            block0(v0: i64):\n    v1 = call fn0(v0)\n    return v1\n\
-            }\n\
-            ; host: return(9)\n\
-            ; run: %f(5) == 9\n\
-            ; trace: host %h(5)\n\
-            ; check: $x\n"
-                .as_slice(),
-            11,
-        ),
-        (
-            b"test interpret\n\
-            function %f(i64) -> i64 {\n    fn0 = %h(i64) -> i64\n\
-            block0(v0: i64):\n    v1 = call fn0(v0)\n    return v1\n\
-            }\n\
-            ; host: return(9)\n\
-            ; run: %f(5) == 9\n\
-            ; trace: host %h(5)\n\
-            ; run: %f(5) = 8\n"
-                .as_slice(),
-            11,
-        ),
-        (
-            b"test interpret\n\
-            function %f(i64) -> i64 {\n    fn0 = %h(i64) -> i64\n\
-            block0(v0: i64):\n    v1 = call fn0(v0)\n    return v1\n\
-            }\n\
-            ; host: return(9)\n\
-            ; run: %f(5) == 9\n\
-            ; trace: host %h(5)\n\
-            ; run: %f(5) == return\n"
-                .as_slice(),
-            11,
-        ),
-        (
-            b"test interpret\n\
-            function %f(i64) -> i64 {\n    fn0 = %h(i64) -> i64\n\
-            block0(v0: i64):\n    v1 = call fn0(v0)\n    return v1\n\
-            }\n\
-            ; host: return(9)\n\
-            ; run: %f(5) == 9\n\
-            ; trace: host %h(5)\n\
-            ; host: x\n"
-                .as_slice(),
-            11,
-        ),
-        (b"test\n".as_slice(), 1),
-        (b"test inline callee-size=01\n".as_slice(), 1),
-        (
-            b"test inline\n\
-            test inline caller-size=262145"
-                .as_slice(),
+            "test inline\n\
+            test inline caller-size=262145",
             2,
         ),
         (
-            b"test interpret\n\
+            "test interpret\n\
             function %f(i64) -> i64 {\n    fn0 = %h(i64) -> i64\n\
             block0(v0: i64):\n    v1 = call fn0(v0)\n    return v1\n\
             }\n\
             ; trace: a\n\
             ; run: %f(5) == 9\n\
             ; trace: host %h(5)\n\
-            ; run: %f(5) == 8\n"
-                .as_slice(),
+            ; run: %f(5) == 8\n",
             8,
         ),
     ] {
-        match run_tests(rt.alloc(), text) {
-            Err(err) => assert!(rt; err == TestErr::BadDirective(line)),
-            Ok(_) => assert!(rt; false),
-        }
+        assert!(rt;
+            bad_line(rt.alloc(), text.as_bytes()) == Some(line),
+            "at {text}"
+        );
     }
-    Ok(())
 }

@@ -1,11 +1,16 @@
 //! What no clause says: that calls succeed where memory is left, and one fault in mid-stream.
 use clk_flow::{
-    Failed, Gate, MemSink, MemSource, NoGate, NullSink, ReadErr, StdSink, StdSource, SureSource,
-    put, read_whole,
+    Failed, Gate, MemSink, MemSource, NoGate, NullSink, ReadErr, Source, StdSink, StdSource,
+    SureSource, put, read_whole,
 };
-use std::alloc::AllocError;
+use std::alloc::{AllocError, Global};
 
 const DIGITS: &[u8] = b"0123456789";
+
+/// How many bytes the source gives until it ends.
+fn count_to_end<S: Source>(alloc: Global, source: &mut S, limit: usize) -> Result<usize, ReadErr> {
+    Ok(read_whole(alloc, source, limit)?.len())
+}
 
 #[test]
 fn reads_to_the_end_or_one_past_the_limit(rt: HostRuntime) -> Result<(), AllocError> {
@@ -17,16 +22,19 @@ fn reads_to_the_end_or_one_past_the_limit(rt: HostRuntime) -> Result<(), AllocEr
         (0, Err(ReadErr::TooLong)),
     ] {
         let mut source = MemSource::new(Vec::from_slice(alloc, DIGITS)?, Vec::new(alloc), 3);
-        let whole = read_whole(alloc, &mut source, limit);
-        assert!(rt; whole.map(|bytes| bytes.len()) == answer, "at {limit}");
+        let count = count_to_end(alloc, &mut source, limit);
+        assert!(rt; count == answer, "at {limit}");
     }
+    Ok(())
+}
+
+#[test]
+fn reads_on_behind_a_limit(rt: HostRuntime) -> Result<(), AllocError> {
+    let alloc = rt.alloc();
     let mut source = SureSource::new(Vec::from_slice(alloc, DIGITS)?);
-    assert!(rt;
-        read_whole(alloc, &mut source, 4).map(|bytes| bytes.len()) == Err(ReadErr::TooLong)
-    );
+    assert!(rt; count_to_end(alloc, &mut source, 4) == Err(ReadErr::TooLong));
     // Five bytes are gone.
-    let rest = read_whole(alloc, &mut source, 10);
-    assert!(rt; rest.map(|bytes| bytes.len()) == Ok(5));
+    assert!(rt; count_to_end(alloc, &mut source, 10) == Ok(5));
     Ok(())
 }
 
@@ -34,12 +42,14 @@ fn reads_to_the_end_or_one_past_the_limit(rt: HostRuntime) -> Result<(), AllocEr
 fn one_fault_in_mid_stream(rt: HostRuntime) -> Result<(), AllocError> {
     let alloc = rt.alloc();
     let mut source = MemSource::new(Vec::from_slice(alloc, DIGITS)?, vec![in alloc; 1]?, 4);
-    assert!(rt;
-        read_whole(alloc, &mut source, 10).map(|bytes| bytes.len()) == Err(ReadErr::Failed)
-    );
-    let rest = read_whole(alloc, &mut source, 10);
-    assert!(rt; rest.map(|bytes| bytes.len()) == Ok(6));
+    assert!(rt; count_to_end(alloc, &mut source, 10) == Err(ReadErr::Failed));
+    assert!(rt; count_to_end(alloc, &mut source, 10) == Ok(6));
+    Ok(())
+}
 
+#[test]
+fn one_fault_in_mid_sink(rt: HostRuntime) -> Result<(), AllocError> {
+    let alloc = rt.alloc();
     let mut sink = MemSink::new(alloc, vec![in alloc; 1]?, 5)?;
     assert!(rt; put(&mut sink, b"abc") == Ok(()));
     assert!(rt; put(&mut sink, b"de") == Err(Failed));
@@ -53,8 +63,7 @@ fn one_fault_in_mid_stream(rt: HostRuntime) -> Result<(), AllocError> {
 fn passes_on_what_std_reads_and_writes(rt: HostRuntime) -> Result<(), AllocError> {
     let alloc = rt.alloc();
     let mut source = StdSource::new(b"abcdef".as_slice());
-    let whole = read_whole(alloc, &mut source, 6);
-    assert!(rt; whole.map(|bytes| bytes.len()) == Ok(6));
+    assert!(rt; count_to_end(alloc, &mut source, 6) == Ok(6));
     let mut place = [0u8; 4];
     let mut sink = StdSink::new(place.as_mut_slice());
     assert!(rt; put(&mut sink, b"abcdef") == Err(Failed));

@@ -1,7 +1,9 @@
 //! What no clause says: that the definitions are what the text form of CLIF asks for, and that tokens are given.
 
-use clif_lex::{TextErr, TextKind, TokenKind, next_line_with, place, tokens, tokens_between};
-use std::alloc::AllocError;
+use clif_lex::{
+    TextErr, TextKind, TokenKind, Tokens, next_line_with, place, tokens, tokens_between,
+};
+use std::alloc::{AllocError, Global};
 
 const HEADER: TokenKind = TokenKind::Header;
 
@@ -18,6 +20,22 @@ const SRCLOC: TokenKind = TokenKind::Srcloc;
 const ARROW: TokenKind = TokenKind::Arrow;
 
 const COLON: TokenKind = TokenKind::Mark(b':');
+
+/// Whether the text has these tokens and no more.
+fn has_tokens(alloc: Global, text: &[u8], want: &[(TokenKind, &str)]) -> bool {
+    let Ok(found) = tokens(alloc, text) else {
+        return false;
+    };
+    for (i, (kind, spelled)) in want.iter().enumerate() {
+        if i >= found.len() || found.get(i).kind != *kind {
+            return false;
+        }
+        if found.spelling(text, i) != spelled.as_bytes() {
+            return false;
+        }
+    }
+    found.len() == want.len()
+}
 
 #[test]
 fn reads_tokens(rt: HostRuntime) {
@@ -41,20 +59,18 @@ fn reads_tokens(rt: HostRuntime) {
         ("1 test", [(NUMBER, "1"), (WORD, "test")]),
         ("test:x\nv01", [(HEADER, "test:x"), (WORD, "v01")]),
     ] {
-        let found = tokens(rt.alloc(), text.as_bytes());
-        assert!(rt; found.is_ok(), "at {text}");
-        if let Ok(found) = found {
-            assert_eq!(rt; found.len(), 2, "at {text}");
-            for (i, (kind, spelled)) in want.iter().enumerate() {
-                if i < found.len() {
-                    let token = found.get(i);
-                    assert!(rt; token.kind == *kind, "at {text}");
-                    let bytes = found.spelling(text.as_bytes(), i);
-                    assert!(rt; bytes == spelled.as_bytes(), "at {text}");
-                }
-            }
-        }
+        let agrees = has_tokens(rt.alloc(), text.as_bytes(), want.as_slice());
+        assert!(rt; agrees, "at {text}");
     }
+}
+
+/// The value of the first token, if it is a number.
+fn first_number(alloc: Global, text: &[u8]) -> Option<i128> {
+    let found = tokens(alloc, text).ok()?;
+    if found.is_empty() || found.get(0).kind != NUMBER {
+        return None;
+    }
+    Some(found.number(text, 0))
 }
 
 #[test]
@@ -66,14 +82,52 @@ fn reads_numbers(rt: HostRuntime) {
         ("18446744073709551615", 18446744073709551615),
         ("-9223372036854775808", -9223372036854775808),
     ] {
-        match tokens(rt.alloc(), text.as_bytes()) {
-            Err(_) => assert!(rt; false, "no tokens at {text}"),
-            Ok(found) => {
-                assert!(rt; !found.is_empty(), "at {text}");
-                assert!(rt; found.get(0).kind == NUMBER, "at {text}");
-                assert!(rt; found.number(text.as_bytes(), 0) == want, "at {text}");
-            }
+        let found = first_number(rt.alloc(), text.as_bytes());
+        assert!(rt; found == Some(want), "at {text}");
+    }
+}
+
+/// How many tokens are seen behind those of the stretch, where `found` has these from `seen` on.
+fn seen_behind(stretch: &Tokens, found: &Tokens, seen: usize) -> Option<usize> {
+    let mut seen = seen;
+    for token in stretch.iter() {
+        if seen >= found.len() || token != found.get(seen) {
+            return None;
         }
+        seen += 1;
+    }
+    Some(seen)
+}
+
+/// Whether every token of the stretch may stand in a preamble.
+fn is_preamble(stretch: &Tokens) -> bool {
+    for token in stretch.iter() {
+        if !matches!(token.kind, HEADER | COMMENT) {
+            return false;
+        }
+    }
+    true
+}
+
+/// How many tokens the text has, where line by line it has those that it has as a whole.
+fn count_by_lines(alloc: Global, text: &[u8]) -> Option<usize> {
+    let found = tokens(alloc, text).ok()?;
+    let mut seen = 0;
+    let mut from = 0;
+    let mut preamble = true;
+    for _ in 0..text.len() {
+        if from < text.len() {
+            let end = next_line_with(text, from, b"");
+            let stretch = tokens_between(alloc, text, from, end, preamble).ok()?;
+            seen = seen_behind(&stretch, &found, seen)?;
+            preamble = preamble && is_preamble(&stretch);
+            from = end;
+        }
+    }
+    if seen == found.len() {
+        Some(seen)
+    } else {
+        None
     }
 }
 
@@ -84,35 +138,24 @@ fn reads_stretches(rt: HostRuntime) {
         ("; set c\n set c\n", 2),
         ("@1\r\n\n1 2", 3),
     ] {
-        let text = text.as_bytes();
-        let found = tokens(rt.alloc(), text);
-        assert!(rt; found.is_ok(), "no tokens");
-        if let Ok(found) = found {
-            let mut seen = 0;
-            let mut from = 0;
-            let mut preamble = true;
-            for _ in 0..text.len() {
-                if from < text.len() {
-                    let end = next_line_with(text, from, b"");
-                    let stretch = tokens_between(rt.alloc(), text, from, end, preamble);
-                    assert!(rt; stretch.is_ok(), "no tokens from {from}");
-                    if let Ok(stretch) = stretch {
-                        for token in stretch.iter() {
-                            assert!(rt; seen < found.len(), "too many at {from}");
-                            if seen < found.len() {
-                                assert!(rt; token == found.get(seen), "another at {from}");
-                                seen += 1;
-                            }
-                            preamble = preamble && matches!(token.kind, HEADER | COMMENT);
-                        }
-                    }
-                    from = end;
-                }
-            }
-            assert_eq!(rt; found.len(), count);
-            assert_eq!(rt; seen, count);
-        }
+        let seen = count_by_lines(rt.alloc(), text.as_bytes());
+        assert!(rt; seen == Some(count), "at {text}");
     }
+}
+
+/// Whether the first fault of the text is of this kind and stands there.
+fn has_fault(alloc: Global, text: &[u8], want: TextKind, line: u32, column: u32) -> bool {
+    let Err(err) = tokens(alloc, text) else {
+        return false;
+    };
+    let TextErr::Fault { kind, spot } = TextErr::from(err) else {
+        return false;
+    };
+    if spot > text.len() || text.len() >= 1000 {
+        return false;
+    }
+    let found = place(text, spot);
+    kind == want && found.line == line && found.column == column
 }
 
 #[test]
@@ -141,19 +184,8 @@ fn names_faults(rt: HostRuntime) -> Result<(), AllocError> {
         ("%", TextKind::BadChar, 3, 1),
     ] {
         let text = format!(in rt.alloc(); "{head}{line}")?;
-        match tokens(rt.alloc(), text.as_bytes()) {
-            Ok(_) => assert!(rt; false, "no fault at {line}"),
-            Err(err) => match TextErr::from(err) {
-                TextErr::Fault { kind, spot } => {
-                    assert_eq!(rt; kind.name(), want.name(), "at {line}");
-                    assert!(rt; spot <= text.len() && text.len() < 1000, "at {line}");
-                    let found = place(text.as_bytes(), spot);
-                    assert_eq!(rt; found.line, line_number, "at {line}");
-                    assert_eq!(rt; found.column, column, "at {line}");
-                }
-                TextErr::NoMemory => assert!(rt; false, "no memory at {line}"),
-            },
-        }
+        let agrees = has_fault(rt.alloc(), text.as_bytes(), want, line_number, column);
+        assert!(rt; agrees, "at {line}");
     }
     Ok(())
 }

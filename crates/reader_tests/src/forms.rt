@@ -1,7 +1,8 @@
 //! That each form of the language is read.
 
 use crate::modules::read;
-use clif_read::RawLine;
+use clif_read::{RawFunction, RawLine};
+use std::test::Fail;
 
 /// Each opcode, each of its forms, each word that may stand in them, each attribute and each declaration.
 const EVERYTHING: &str = "test run
@@ -162,30 +163,32 @@ fn counts(lines: &[RawLine]) -> (usize, usize, usize, usize) {
     (aliases, located, tagged, named)
 }
 
-#[test]
-fn reads_every_form(rt: HostRuntime) {
-    match read(&rt, rt.alloc(), EVERYTHING) {
-        Err(_) => assert!(rt; false, "no module"),
-        Ok(found) => {
-            assert_eq!(rt; found.headers.as_slice().len(), 3);
-            match found.functions.as_slice() {
-                [first, _] => {
-                    assert_eq!(rt; first.signature.params.as_slice().len(), 6);
-                    assert_eq!(rt; first.signature.results.as_slice().len(), 2);
-                    assert_eq!(rt; first.decls.as_slice().len(), 14);
-                    assert_eq!(rt; first.blocks.as_slice().len(), 4);
-                    match first.blocks.as_slice() {
-                        [block, ..] => {
-                            let lines = block.lines.as_slice();
-                            assert_eq!(rt; block.params.as_slice().len(), 3);
-                            assert_eq!(rt; lines.len(), 99);
-                            assert_eq!(rt; counts(lines), (2, 4, 3, 70));
-                        }
-                        _ => assert!(rt; false, "no block"),
-                    }
-                }
-                _ => assert!(rt; false, "not two functions"),
-            }
-        }
+/// How many parameters, results, declarations and blocks the first of two functions has.
+fn parts(functions: &[RawFunction]) -> Option<(usize, usize, usize, usize)> {
+    match functions {
+        [first, _] => Some((
+            first.signature.params.as_slice().len(),
+            first.signature.results.as_slice().len(),
+            first.decls.as_slice().len(),
+            first.blocks.as_slice().len(),
+        )),
+        _ => None,
     }
+}
+
+/// How many parameters and lines the first block of the first function has, and what its lines have.
+fn first_counts(functions: &[RawFunction]) -> Option<(usize, usize, (usize, usize, usize, usize))> {
+    let block = functions.first()?.blocks.as_slice().first()?;
+    let lines = block.lines.as_slice();
+    Some((block.params.as_slice().len(), lines.len(), counts(lines)))
+}
+
+#[test]
+fn reads_every_form(rt: HostRuntime) -> Result<(), Fail> {
+    let found = read(&rt, rt.alloc(), EVERYTHING)?;
+    assert_eq!(rt; found.headers.as_slice().len(), 3);
+    let functions = found.functions.as_slice();
+    assert!(rt; parts(functions) == Some((6, 2, 14, 4)));
+    assert!(rt; first_counts(functions) == Some((3, 99, (2, 4, 3, 70))));
+    Ok(())
 }

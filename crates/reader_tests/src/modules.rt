@@ -5,6 +5,7 @@ use clif_lex::{TextErr, TextKind, place, tokens};
 use clif_read::{RawLine, RawModule};
 use read_workers::read_raw;
 use std::alloc::{AllocError, Global};
+use std::test::Fail;
 use std::thread::Threads;
 
 /// The module of a text, or its first fault.
@@ -128,6 +129,21 @@ fn returned(lines: &[RawLine]) -> usize {
     count
 }
 
+/// How many lines the one block of a text's one function has, and how many values their `return`s have.
+fn line_counts<R: Threads + Sync>(rt: &R, alloc: Global, text: &str) -> Option<(usize, usize)> {
+    let found = read(rt, alloc, text).ok()?;
+    match found.functions.as_slice() {
+        [function] => match function.blocks.as_slice() {
+            [block] => {
+                let lines = block.lines.as_slice();
+                Some((lines.len(), returned(lines)))
+            }
+            _ => None,
+        },
+        _ => None,
+    }
+}
+
 #[test]
 fn reads_lines(rt: HostRuntime) -> Result<(), AllocError> {
     for (line, lines, values) in [
@@ -156,20 +172,8 @@ fn reads_lines(rt: HostRuntime) -> Result<(), AllocError> {
         ),
     ] {
         let text = with_line(rt.alloc(), line)?;
-        match read(&rt, rt.alloc(), &text) {
-            Err(_) => assert!(rt; false, "no module at {line}"),
-            Ok(found) => match found.functions.as_slice() {
-                [function] => match function.blocks.as_slice() {
-                    [block] => {
-                        let found = block.lines.as_slice();
-                        assert_eq!(rt; found.len(), lines, "at {line}");
-                        assert_eq!(rt; returned(found), values, "at {line}");
-                    }
-                    _ => assert!(rt; false, "not one block at {line}"),
-                },
-                _ => assert!(rt; false, "not one function at {line}"),
-            },
-        }
+        let found = line_counts(&rt, rt.alloc(), &text);
+        assert!(rt; found == Some((lines, values)), "at {line}");
     }
     Ok(())
 }
@@ -249,33 +253,34 @@ block2(v2: i64):
 }
 ";
 
+/// Why the text is no module.
+fn refusal<R: Threads + Sync>(rt: &R, alloc: Global, text: &[u8]) -> Option<TextErr> {
+    match tokens(alloc, text) {
+        Ok(list) => read_raw(rt, alloc, text, &list, 1).err(),
+        Err(err) => Some(TextErr::from(err)),
+    }
+}
+
 #[test]
-fn names_the_end_of_a_cut_text(rt: HostRuntime) {
+fn names_the_end_of_a_cut_text(rt: HostRuntime) -> Result<(), Fail> {
     let bytes = JOINED.as_bytes();
+    let whole = tokens(rt.alloc(), bytes)?;
+    assert!(rt; whole.len() == 146);
     let mut modules: usize = 0;
-    match tokens(rt.alloc(), bytes) {
-        Err(_) => assert!(rt; false),
-        Ok(whole) => {
-            assert!(rt; whole.len() == 146);
-            for i in 0..whole.len() {
-                let end = whole.get(i).end;
-                assert!(rt; end <= bytes.len());
-                let cut = &bytes[..end];
-                match tokens(rt.alloc(), cut) {
-                    Err(_) => assert!(rt; false, "at {end}"),
-                    Ok(list) => match read_raw(&rt, rt.alloc(), cut, &list, 1) {
-                        Ok(_) => modules = modules.saturating_add(1),
-                        Err(err) => {
-                            let want = TextErr::Fault {
-                                kind: TextKind::Syntax,
-                                spot: end,
-                            };
-                            assert!(rt; err == want, "at {end}");
-                        }
-                    },
-                }
+    for i in 0..whole.len() {
+        let end = whole.get(i).end;
+        assert!(rt; end <= bytes.len());
+        match refusal(&rt, rt.alloc(), &bytes[..end]) {
+            None => modules = modules.saturating_add(1),
+            Some(err) => {
+                let want = TextErr::Fault {
+                    kind: TextKind::Syntax,
+                    spot: end,
+                };
+                assert!(rt; err == want, "at {end}");
             }
         }
     }
     assert_eq!(rt; modules, 2);
+    Ok(())
 }

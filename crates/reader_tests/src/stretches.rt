@@ -40,20 +40,25 @@ fn counts(found: Result<RawModule, TextErr>) -> (usize, usize, Option<TextErr>) 
     }
 }
 
-#[test]
-fn reads_in_stretches(rt: HostRuntime) -> Result<(), AllocError> {
-    let text = text_with(rt.alloc(), "v1 = iadd v0, v0")?;
+/// Whether a text is read in stretches of any size, as one header and three functions.
+fn is_read_in_stretches<R: Threads + Sync>(rt: &R, alloc: Global, text: &[u8]) -> bool {
     for workers in WORKERS {
         for size in SIZES {
-            match read_text_ranges(&rt, rt.alloc(), text.as_bytes(), workers, size) {
-                Some(found) => {
-                    assert_eq!(rt; found.headers.as_slice().len(), 1);
-                    assert_eq!(rt; found.functions.as_slice().len(), 3);
-                }
-                None => assert!(rt; false),
+            let Some(found) = read_text_ranges(rt, alloc, text, workers, size) else {
+                return false;
+            };
+            if counts(Ok(found)) != (1, 3, None) {
+                return false;
             }
         }
     }
+    true
+}
+
+#[test]
+fn reads_in_stretches(rt: HostRuntime) -> Result<(), AllocError> {
+    let text = text_with(rt.alloc(), "v1 = iadd v0, v0")?;
+    assert!(rt; is_read_in_stretches(&rt, rt.alloc(), text.as_bytes()));
     assert!(rt; read_text(&rt, rt.alloc(), text.as_bytes(), 4).is_ok());
     Ok(())
 }
@@ -72,23 +77,28 @@ fn finds_the_first_fault(rt: HostRuntime) -> Result<(), AllocError> {
     Ok(())
 }
 
-#[test]
-fn reads_in_shares(rt: HostRuntime) -> Result<(), AllocError> {
-    let text = text_with(rt.alloc(), "v1 = iadd v0, v0")?;
-    let bytes = text.as_bytes();
-    match tokens(rt.alloc(), bytes) {
-        Err(_) => assert!(rt; false),
-        Ok(list) => {
-            for workers in WORKERS {
-                for size in SHARES {
-                    match read_token_ranges(&rt, rt.alloc(), bytes, &list, workers, size) {
-                        Some(found) => assert_eq!(rt; counts(Ok(found)), (1, 3, None)),
-                        None => assert!(rt; false),
-                    }
-                }
+/// Whether a text is read by shares of any size, as one header and three functions.
+fn is_read_in_shares<R: Threads + Sync>(rt: &R, alloc: Global, text: &[u8]) -> bool {
+    let Ok(list) = tokens(alloc, text) else {
+        return false;
+    };
+    for workers in WORKERS {
+        for size in SHARES {
+            let Some(found) = read_token_ranges(rt, alloc, text, &list, workers, size) else {
+                return false;
+            };
+            if counts(Ok(found)) != (1, 3, None) {
+                return false;
             }
         }
     }
+    true
+}
+
+#[test]
+fn reads_in_shares(rt: HostRuntime) -> Result<(), AllocError> {
+    let text = text_with(rt.alloc(), "v1 = iadd v0, v0")?;
+    assert!(rt; is_read_in_shares(&rt, rt.alloc(), text.as_bytes()));
     Ok(())
 }
 

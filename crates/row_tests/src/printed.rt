@@ -5,7 +5,26 @@ use crate::texts::CONSTANT;
 use clif_numbers::numbering;
 use clif_print::print;
 use clk_flow::MemSink;
-use std::alloc::AllocError;
+use std::alloc::{AllocError, Global};
+use std::thread::Threads;
+
+/// Whether a text, which is accepted, is printed so.
+fn is_printed<R: Threads + Sync>(
+    rt: &R,
+    alloc: Global,
+    text: &[u8],
+    printed: &[u8],
+) -> Result<bool, AllocError> {
+    let Ok(checked) = accepted(rt, alloc, text, 1) else {
+        return Ok(false);
+    };
+    let numbers = numbering(alloc, checked.module())?;
+    let mut out = MemSink::new(alloc, Vec::new(alloc), 1000)?;
+    if print(checked.module(), &numbers, &mut out).is_err() {
+        return Ok(false);
+    }
+    Ok(out.bytes() == printed)
+}
 
 #[test]
 fn printed_texts(rt: HostRuntime) -> Result<(), AllocError> {
@@ -46,14 +65,8 @@ fn printed_texts(rt: HostRuntime) -> Result<(), AllocError> {
              v4, v5 = isplit v3\n    return v4, v5\n}\n",
         ),
     ] {
-        let Ok(checked) = accepted(&rt, rt.alloc(), text.as_bytes(), 1) else {
-            assert!(rt; false, "at {text}");
-            return Ok(());
-        };
-        let numbers = numbering(rt.alloc(), checked.module())?;
-        let mut out = MemSink::new(rt.alloc(), Vec::new(rt.alloc()), 1000)?;
-        assert!(rt; print(checked.module(), &numbers, &mut out).is_ok());
-        assert!(rt; out.bytes() == printed.as_bytes(), "at {text}");
+        let is_so = is_printed(&rt, rt.alloc(), text.as_bytes(), printed.as_bytes())?;
+        assert!(rt; is_so, "at {text}");
     }
     Ok(())
 }

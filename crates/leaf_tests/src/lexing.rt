@@ -66,7 +66,9 @@ fn reads_tokens(rt: HostRuntime) {
 
 /// The value of the first token, if it is a number.
 fn first_number(alloc: Global, text: &[u8]) -> Option<i128> {
-    let found = tokens(alloc, text).ok()?;
+    let Ok(found) = tokens(alloc, text) else {
+        return None;
+    };
     if found.is_empty() || found.get(0).kind != NUMBER {
         return None;
     }

@@ -5,6 +5,7 @@
 #![tactic(auto)]
 
 mod acts;
+mod commas;
 pub mod laws;
 mod reader;
 mod replies;

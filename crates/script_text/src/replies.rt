@@ -1,18 +1,19 @@
 //! Replies.
 
-ghost use Rattle.std.specs.Prelude.{◌≡◌, ◌<◌, ◌≤◌, length, map, IfOk};
+ghost use Rattle.std.specs.Prelude.{◌≡◌, ◌<◌, length, map, IfOk};
 ghost use Rattle.token_reader.specs.Reading.{Gives};
 ghost use Rattle.host_script.specs.Script.{reply_of};
+ghost use Rattle.ir_semantics.specs.Machine as run;
 ghost use Rattle.script_text.specs.Reading as spec;
 
 use crate::acts::act;
+use crate::commas::{Items, joined_by_commas};
 use crate::reader::Reader;
-use crate::terminal::Terminal;
 use crate::writes::writes;
 use host_script::Reply;
 use ir_core::List;
 use std::alloc::Global;
-use token_reader::{Stop, one_item};
+use token_reader::Stop;
 
 /// What a reply does, and its writes behind it.
 #[tactic(auto, unfolding(crate::specs::Reading::reply_at))]
@@ -25,40 +26,18 @@ fn reply(alloc: Global, reader: &mut Reader<'_>) -> Result<Reply, Stop>
     Ok(Reply { act, writes })
 }
 
-#[tactic(auto, unfolding(crate::specs::Reading::comma_at))]
-fn comma_reply(alloc: Global, reader: &mut Reader<'_>) -> Result<Reply, Stop>
-    ensures is { Gives reply_of reader.new result (spec.comma_at spec.reply_at reader.old) }
-    ensures shorter { IfOk result (λ _. length reader.new < length reader.old) }
-{
-    reader.take(Terminal::Comma)?;
-    reply(alloc, reader)
-}
+struct ReplyItems;
 
-/// Those behind commas, after those in front.
-fn more_replies(
-    alloc: Global,
-    reader: &mut Reader<'_>,
-    front: Vec<Reply>,
-) -> Result<Vec<Reply>, Stop>
-    ensures { Gives (λ x. map reply_of x.items) reader.new result
-        (spec.more_at spec.reply_at (map reply_of front.items) reader.old) }
-{
-    let mut list = front;
-    'list: while reader.next_is(Terminal::Comma) {
-        let item = comma_reply(alloc, reader)?;
-        list.push(item)?;
+impl Items<Reply> for ReplyItems {
+    ghost Seen = { run.Reply };
+
+    ghost seen = { reply_of };
+
+    ghost item_at = { λ _. spec.reply_at };
+
+    fn item(&self, alloc: Global, reader: &mut Reader<'_>) -> Result<Reply, Stop> {
+        reply(alloc, reader)
     }
-    Ok(list)
-}
-
-/// Replies joined by commas, one at least.
-#[tactic(auto, unfolding(crate::specs::Reading::commas_at))]
-fn some_replies(alloc: Global, reader: &mut Reader<'_>) -> Result<Vec<Reply>, Stop>
-    ensures { Gives (λ x. map reply_of x.items) reader.new result (spec.commas_at spec.reply_at reader.old) }
-{
-    let reply = reply(alloc, reader)?;
-    let front = one_item(alloc, reply)?;
-    more_replies(alloc, reader, front)
 }
 
 /// Replies joined by commas, or none.
@@ -67,7 +46,7 @@ pub(crate) fn replies(alloc: Global, reader: &mut Reader<'_>) -> Result<Vec<Repl
     ensures { Gives (λ x. map reply_of x.items) reader.new result (spec.script_at reader.old) }
 {
     if reader.next_is_reply() {
-        some_replies(alloc, reader)
+        joined_by_commas(alloc, reader, &ReplyItems)
     } else {
         Ok(Vec::new(alloc))
     }

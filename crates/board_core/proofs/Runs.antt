@@ -12,7 +12,7 @@ use Rattle.board_core.specs.declared.state.Phase.{Phase}
 use Rattle.board_core.specs.declared.state.Phase.TheVariants.{Vacant, Filling, Full, Reading}
 use Rattle.board_core.specs.declared.state.BoardEvent.{BoardEvent}
 use Rattle.board_core.specs.declared.state.BoardEvent.TheVariants.{Draw, BeginFill, EndFill, BeginRead, EndRead}
-use Rattle.board_core.specs.declared.state.BoardState.{BoardState}
+use Rattle.board_core.specs.Board.{Board}
 use Rattle.board_core.specs.Machine.{start, is_owned_by, is_vacant, is_filled_by, is_read_by, has_body, is_allowed, changed_by, after, run, phase_at, owner_at}
 use Rattle.board_core.specs.Sound.{IsSound, Fill, drawn_by, filled_by, draws, fills, FilledAs, DrawnOnce, IsTold}
 
@@ -52,7 +52,7 @@ reading_found w (Some (Full m)) h = cc
 reading_found w (Some (Reading v)) h = let e : v ≡ w = grind (arith, nat_tests) in ap (λ (x : ℕ). Some (Reading x)) e
 
 -- what each event keeps: the board is sound, and the draws and fills so far are those that the board shows
-record Inv (n : ℕ) (b : BoardState) (ds : ℕ → List ℕ) (fs : ℕ → List Fill) : Type 0 where
+record Inv (n : ℕ) (b : Board) (ds : ℕ → List ℕ) (fs : ℕ → List Fill) : Type 0 where
   sound : IsSound n b
   drawn : (t : ℕ) → t < b.next → DrawnOnce n t (ds t) (owner_at b t)
   undrawn : (t : ℕ) → b.next ≤ t → ds t ≡ []
@@ -64,7 +64,7 @@ both_true true false h = cc
 both_true false b h = cc
 
 -- only what the histories have at each ticket counts
-same_histories : {n : ℕ} {b : BoardState} {ds' : ℕ → List ℕ} {fs' : ℕ → List Fill} (ds : ℕ → List ℕ) (fs : ℕ → List Fill) → ((t : ℕ) → ds' t ≡ ds t) → ((t : ℕ) → fs' t ≡ fs t)
+same_histories : {n : ℕ} {b : Board} {ds' : ℕ → List ℕ} {fs' : ℕ → List Fill} (ds : ℕ → List ℕ) (fs : ℕ → List Fill) → ((t : ℕ) → ds' t ≡ ds t) → ((t : ℕ) → fs' t ≡ fs t)
     → Inv n b ds fs → Inv n b ds' fs'
 same_histories {n} {b} {ds'} {fs'} ds fs d f h = record {
   sound = h.sound;
@@ -73,7 +73,7 @@ same_histories {n} {b} {ds'} {fs'} ds fs d f h = record {
   fills = λ t. subst (λ (x : List Fill). FilledAs (owner_at b t) x (phase_at b t)) (sym (f t)) (h.fills t);
 }
 
-module _ (n : ℕ) (b : BoardState) (ds : ℕ → List ℕ) (fs : ℕ → List Fill) (i : Inv n b ds fs) where
+module _ (n : ℕ) (b : Board) (ds : ℕ → List ℕ) (fs : ℕ → List Fill) (i : Inv n b ds fs) where
   -- one cell goes to another phase
   cell_moves : (t : ℕ) (p : Phase) (fs' : ℕ → List Fill) → t < length b.phases → owner_at b t ≢ None → ((w : ℕ) → p ≡ Filling w → owner_at b t ≡ Some w)
       → ((k : ℕ) → k ≢ t → fs' k ≡ fs k) → FilledAs (owner_at b t) (fs' t) p → Inv n (record { next = b.next; owners = b.owners; phases = set b.phases t p }) ds fs'
@@ -98,7 +98,7 @@ module _ (n : ℕ) (b : BoardState) (ds : ℕ → List ℕ) (fs : ℕ → List F
             (λ ne. subst (λ (x : List Fill × Phase). FilledAs (owner_at b k) x.0 x.1) (λ c. (sym (other k ne) c, sym (else_ k ne) c)) (i.fills k));
       }
 
-  same_draws : (ds' : ℕ → List ℕ) (b' : BoardState) (fs' : ℕ → List Fill) → ((t : ℕ) → ds' t ≡ ds t) → Inv n b' ds fs' → Inv n b' ds' fs'
+  same_draws : (ds' : ℕ → List ℕ) (b' : Board) (fs' : ℕ → List Fill) → ((t : ℕ) → ds' t ≡ ds t) → Inv n b' ds fs' → Inv n b' ds' fs'
   same_draws ds' b' fs' e h = same_histories ds fs' e (λ t. refl) h
 
   draw_moves : (w : ℕ) → Inv n (changed_by b (Draw w)) (λ t. ds t ++ cond (eqb b.next t) (w ∷ []) []) (λ t. fs t ++ [])
@@ -190,11 +190,11 @@ module _ (n : ℕ) (b : BoardState) (ds : ℕ → List ℕ) (fs : ℕ → List F
   silent (EndRead w k) h t = (refl, refl)
 
   any_step : (e : BoardEvent) (a : Bool) → is_allowed b e ≡ a → Inv n (after b e) (λ t. ds t ++ drawn_by t b e) (λ t. fs t ++ filled_by t b e)
-  any_step e true h = subst (λ (b' : BoardState). Inv n b' (λ t. ds t ++ drawn_by t b e) (λ t. fs t ++ filled_by t b e)) (sym (ap (λ c. cond c (changed_by b e) b) h)) (allowed_step e h)
-  any_step e false h = subst (λ (b' : BoardState). Inv n b' (λ t. ds t ++ drawn_by t b e) (λ t. fs t ++ filled_by t b e)) (sym (ap (λ c. cond c (changed_by b e) b) h))
+  any_step e true h = subst (λ (b' : Board). Inv n b' (λ t. ds t ++ drawn_by t b e) (λ t. fs t ++ filled_by t b e)) (sym (ap (λ c. cond c (changed_by b e) b) h)) (allowed_step e h)
+  any_step e false h = subst (λ (b' : Board). Inv n b' (λ t. ds t ++ drawn_by t b e) (λ t. fs t ++ filled_by t b e)) (sym (ap (λ c. cond c (changed_by b e) b) h))
       (same_histories ds fs (λ t. ap (λ (x : List ℕ). ds t ++ x) (silent e h t).0 ∙ append-nil (ds t)) (λ t. ap (λ (x : List Fill). fs t ++ x) (silent e h t).1 ∙ append-nil (fs t)) i)
 
-run_keeps : (n : ℕ) (es : List BoardEvent) (b : BoardState) (ds : ℕ → List ℕ) (fs : ℕ → List Fill) → Inv n b ds fs → Inv n (run b es) (λ t. ds t ++ draws t b es) (λ t. fs t ++ fills t b es)
+run_keeps : (n : ℕ) (es : List BoardEvent) (b : Board) (ds : ℕ → List ℕ) (fs : ℕ → List Fill) → Inv n b ds fs → Inv n (run b es) (λ t. ds t ++ draws t b es) (λ t. fs t ++ fills t b es)
 run_keeps n [] b ds fs i = same_histories ds fs (λ t. append-nil (ds t)) (λ t. append-nil (fs t)) i
 run_keeps n (e ∷ es) b ds fs i =
     same_histories (λ t. (ds t ++ drawn_by t b e) ++ draws t (after b e) es) (λ t. (fs t ++ filled_by t b e) ++ fills t (after b e) es)

@@ -8,10 +8,10 @@ use Rattle.board_core.specs.declared.state.Phase.{Phase}
 use Rattle.board_core.specs.declared.state.Phase.TheVariants.{Vacant, Filling, Full, Reading}
 use Rattle.board_core.specs.declared.state.BoardEvent.{BoardEvent}
 use Rattle.board_core.specs.declared.state.BoardEvent.TheVariants.{Draw, BeginFill, EndFill, BeginRead, EndRead}
-use Rattle.board_core.specs.declared.state.BoardState.{BoardState}
+use Rattle.board_core.specs.Board.{Board}
 
 -- nothing is drawn, and each cell is empty
-abbrev pub start : ℕ → BoardState
+abbrev pub start : ℕ → Board
 start functions = record { next = 0; owners = replicate functions None; phases = replicate functions Vacant }
 
 -- what a list of owners, or of phases, has at a ticket: `None` where the ticket has no function
@@ -50,7 +50,7 @@ has_body (Some (Full Refused)) = false
 has_body (Some (Reading reader)) = false
 
 -- a draw is allowed while the next ticket is below the greatest number of 64 bits
-abbrev pub is_allowed : BoardState → BoardEvent → Bool
+abbrev pub is_allowed : Board → BoardEvent → Bool
 is_allowed board (Draw worker) = nat_lt board.next 18446744073709551615
 is_allowed board (BeginFill worker ticket) =
     is_owned_by worker (slice_get board.owners ticket) && is_vacant (slice_get board.phases ticket)
@@ -59,7 +59,7 @@ is_allowed board (BeginRead worker ticket) = has_body (slice_get board.phases ti
 is_allowed board (EndRead worker ticket) = is_read_by worker (slice_get board.phases ticket)
 
 -- the state after an event that is allowed; a drawn ticket gets an owner where it has a function
-abbrev pub changed_by : BoardState → BoardEvent → BoardState
+abbrev pub changed_by : Board → BoardEvent → Board
 changed_by board (Draw worker) =
     record { next = board.next + 1; owners = slice_set board.owners board.next (Some worker); phases = board.phases }
 changed_by board (BeginFill worker ticket) =
@@ -72,22 +72,22 @@ changed_by board (EndRead worker ticket) =
     record { next = board.next; owners = board.owners; phases = slice_set board.phases ticket (Full Body) }
 
 -- the state after an event: an event that is not allowed changes nothing
-abbrev pub after : BoardState → BoardEvent → BoardState
+abbrev pub after : Board → BoardEvent → Board
 after board event = if is_allowed board event then changed_by board event else board
 
 -- the state after each event of a list, in turn
-abbrev pub run : BoardState → List BoardEvent → BoardState
+abbrev pub run : Board → List BoardEvent → Board
 run board [] = board
 run board (event ∷ events) = run (after board event) events
 
 -- the answers of `step` to each event of a list, in turn
-abbrev pub answers : BoardState → List BoardEvent → List Bool
+abbrev pub answers : Board → List BoardEvent → List Bool
 answers board [] = []
 answers board (event ∷ events) = is_allowed board event ∷ answers (after board event) events
 
 -- a ticket without a function has an empty cell and no owner
-abbrev pub phase_at : BoardState → ℕ → Phase
+abbrev pub phase_at : Board → ℕ → Phase
 phase_at board ticket = slice_index_or board.phases ticket Vacant
 
-abbrev pub owner_at : BoardState → ℕ → Option ℕ
+abbrev pub owner_at : Board → ℕ → Option ℕ
 owner_at board ticket = slice_index_or board.owners ticket None

@@ -7,12 +7,12 @@ use Rattle.board_core.specs.declared.state.Phase.{Phase}
 use Rattle.board_core.specs.declared.state.Phase.TheVariants.{Vacant, Filling, Full, Reading}
 use Rattle.board_core.specs.declared.state.BoardEvent.{BoardEvent}
 use Rattle.board_core.specs.declared.state.BoardEvent.TheVariants.{Draw, BeginFill, EndFill, BeginRead, EndRead}
-use Rattle.board_core.specs.declared.state.BoardState.{BoardState}
+use Rattle.board_core.specs.Board.{Board}
 use Rattle.board_core.specs.Machine.{start, is_allowed, after, run, phase_at, owner_at}
 
 -- each ticket below `next` that has a function has an owner, and no other ticket has one; a cell that is not vacant has
 -- an owner, and the owner is the one that fills it
-pub record IsSound (functions : ℕ) (board : BoardState) : Type 0 where
+pub record IsSound (functions : ℕ) (board : Board) : Type 0 where
   pub owners : length board.owners ≡ functions
   pub phases : length board.phases ≡ functions
   pub owned : (ticket : ℕ) → ticket < board.next → ticket < functions
@@ -28,7 +28,7 @@ pub record Fill : Type 0 where
   pub mark : Mark
 
 -- the worker that draws the ticket by the event, where that is allowed
-abbrev pub drawn_by : ℕ → BoardState → BoardEvent → List ℕ
+abbrev pub drawn_by : ℕ → Board → BoardEvent → List ℕ
 drawn_by ticket board (Draw worker) =
     if is_allowed board (Draw worker) then (if board.next == ticket then worker ∷ [] else []) else []
 drawn_by ticket board (BeginFill worker filled) = []
@@ -37,7 +37,7 @@ drawn_by ticket board (BeginRead worker read) = []
 drawn_by ticket board (EndRead worker read) = []
 
 -- the fill of the ticket's cell that ends by the event, where that is allowed
-abbrev pub filled_by : ℕ → BoardState → BoardEvent → List Fill
+abbrev pub filled_by : ℕ → Board → BoardEvent → List Fill
 filled_by ticket board (Draw worker) = []
 filled_by ticket board (BeginFill worker filled) = []
 filled_by ticket board (EndFill worker filled mark) =
@@ -47,11 +47,11 @@ filled_by ticket board (BeginRead worker read) = []
 filled_by ticket board (EndRead worker read) = []
 
 -- the workers that draw the ticket, and the ends of fills of its cell, along a list of events
-abbrev pub draws : ℕ → BoardState → List BoardEvent → List ℕ
+abbrev pub draws : ℕ → Board → List BoardEvent → List ℕ
 draws ticket board [] = []
 draws ticket board (event ∷ events) = drawn_by ticket board event ++ draws ticket (after board event) events
 
-abbrev pub fills : ℕ → BoardState → List BoardEvent → List Fill
+abbrev pub fills : ℕ → Board → List BoardEvent → List Fill
 fills ticket board [] = []
 fills ticket board (event ∷ events) = filled_by ticket board event ++ fills ticket (after board event) events
 

@@ -3,8 +3,6 @@
 #![tactic(auto)]
 
 pub mod laws;
-mod row;
 mod state;
 
-pub use row::Row;
 pub use state::{BoardEvent, BoardState, Mark, Phase, step};

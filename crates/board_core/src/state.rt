@@ -3,8 +3,8 @@ ghost use Rattle.std.specs.Prelude.{◌≡◌, ◌+◌, ◌<◌, ◌^◌, ℕ, l
 ghost use Rattle.board_core.specs.Machine.{is_allowed, after, start};
 ghost use Rattle.board_core.specs.declared.state.BoardEvent.TheVariants.{Draw, BeginFill, EndFill, BeginRead, EndRead};
 
-use crate::row::Row;
 use std::alloc::{AllocError, Global};
+use std::marker::Model;
 
 /// With what a cell was filled.
 #[derive(Clone, Copy, PartialEq, Eq, Debug)]
@@ -43,15 +43,20 @@ pub enum BoardEvent {
     EndRead(u32, u64),
 }
 
-/// The board: one ticket and one cell for each function.
+/// The board: one ticket and one cell for each function. Contracts see it as a `Board`.
 #[derive(Debug, Drop)]
 pub struct BoardState {
-    /// The ticket that the next draw gives. It passes the number of functions where more tickets are drawn.
-    pub next: u64,
-    /// Who drew each function's ticket.
-    pub owners: Row<Option<u32>>,
-    /// The phase of each function's cell.
-    pub phases: Row<Phase>,
+    next: u64,
+    owners: Vec<Option<u32>>,
+    phases: Vec<Phase>,
+}
+
+impl Model for BoardState {
+    ghost use Rattle.board_core.specs.Board.{Board};
+
+    ghost Value = { Board };
+
+    ghost view = { λ b. record { next = b.next; owners = b.owners.items; phases = b.phases.items } };
 }
 
 impl BoardState {
@@ -60,13 +65,32 @@ impl BoardState {
     pub fn new(alloc: Global, functions: usize) -> Result<BoardState, AllocError>
         ensures { IfOk result (λ board. board ≡ start functions) }
     {
-        let owners: Vec<Option<u32>> = vec![in alloc; None; functions]?;
-        let phases: Vec<Phase> = vec![in alloc; Phase::Vacant; functions]?;
         Ok(BoardState {
             next: 0,
-            owners: Row::from_vec(owners),
-            phases: Row::from_vec(phases),
+            owners: vec![in alloc; None; functions]?,
+            phases: vec![in alloc; Phase::Vacant; functions]?,
         })
+    }
+
+    /// The ticket that the next draw gives. It passes the number of functions where more tickets are drawn.
+    pub fn next(&self) -> u64
+        ensures { result ≡ self.now.next }
+    {
+        self.next
+    }
+
+    /// Who drew each function's ticket.
+    pub fn owners(&self) -> &[Option<u32>]
+        ensures { result.now ≡ self.now.owners }
+    {
+        self.owners.as_slice()
+    }
+
+    /// The phase of each function's cell.
+    pub fn phases(&self) -> &[Phase]
+        ensures { result.now ≡ self.now.phases }
+    {
+        self.phases.as_slice()
     }
 }
 
@@ -98,8 +122,8 @@ fn draw(state: &mut BoardState, worker: u32) -> bool
     }
     state.next = ticket + 1;
     let place = ticket as usize;
-    if place < state.owners.as_slice().len() {
-        state.owners.put(place, Some(worker));
+    if place < state.owners.len() {
+        state.owners[place] = Some(worker);
     }
     true
 }
@@ -109,16 +133,16 @@ fn begin_fill(state: &mut BoardState, worker: u32, ticket: u64) -> bool
     ensures state { state.new ≡ after state.old (BeginFill worker ticket) }
 {
     let place = ticket as usize;
-    let Some(Some(owner)) = state.owners.at(place) else {
+    let Some(Some(owner)) = state.owners.get(place).copied() else {
         return false;
     };
-    let Some(Phase::Vacant) = state.phases.at(place) else {
+    let Some(Phase::Vacant) = state.phases.get(place).copied() else {
         return false;
     };
     if owner != worker {
         return false;
     }
-    state.phases.put(place, Phase::Filling(worker));
+    state.phases[place] = Phase::Filling(worker);
     true
 }
 
@@ -127,13 +151,13 @@ fn end_fill(state: &mut BoardState, worker: u32, ticket: u64, mark: Mark) -> boo
     ensures state { state.new ≡ after state.old (EndFill worker ticket mark) }
 {
     let place = ticket as usize;
-    let Some(Phase::Filling(filler)) = state.phases.at(place) else {
+    let Some(Phase::Filling(filler)) = state.phases.get(place).copied() else {
         return false;
     };
     if filler != worker {
         return false;
     }
-    state.phases.put(place, Phase::Full(mark));
+    state.phases[place] = Phase::Full(mark);
     true
 }
 
@@ -142,10 +166,10 @@ fn begin_read(state: &mut BoardState, worker: u32, ticket: u64) -> bool
     ensures state { state.new ≡ after state.old (BeginRead worker ticket) }
 {
     let place = ticket as usize;
-    let Some(Phase::Full(Mark::Body)) = state.phases.at(place) else {
+    let Some(Phase::Full(Mark::Body)) = state.phases.get(place).copied() else {
         return false;
     };
-    state.phases.put(place, Phase::Reading(worker));
+    state.phases[place] = Phase::Reading(worker);
     true
 }
 
@@ -154,12 +178,12 @@ fn end_read(state: &mut BoardState, worker: u32, ticket: u64) -> bool
     ensures state { state.new ≡ after state.old (EndRead worker ticket) }
 {
     let place = ticket as usize;
-    let Some(Phase::Reading(reader)) = state.phases.at(place) else {
+    let Some(Phase::Reading(reader)) = state.phases.get(place).copied() else {
         return false;
     };
     if reader != worker {
         return false;
     }
-    state.phases.put(place, Phase::Full(Mark::Body));
+    state.phases[place] = Phase::Full(Mark::Body);
     true
 }

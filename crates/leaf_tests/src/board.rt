@@ -40,13 +40,10 @@ fn events_have_their_answers(rt: HostRuntime) -> Result<(), AllocError> {
     ] {
         assert_eq!(rt; step(&mut board, event), answer, "at {event:?}");
     }
-    assert_eq!(rt; board.next, 3);
-    assert_eq!(rt; board.owners.at(1), Some(Some(1)));
-    assert_eq!(rt; board.owners.at(2), None);
-    assert!(rt; board.owners.as_slice() == [Some(0), Some(1)].as_slice());
-    assert!(rt;
-        board.phases.into_vec().as_slice()
-            == [Phase::Full(Mark::Body), Phase::Full(Mark::Refused)].as_slice()
-    );
+    assert_eq!(rt; board.next(), 3);
+    assert_eq!(rt; board.owners().get(1), Some(&Some(1)));
+    assert_eq!(rt; board.owners().get(2), None);
+    assert!(rt; board.owners() == [Some(0), Some(1)].as_slice());
+    assert!(rt; board.phases() == [Phase::Full(Mark::Body), Phase::Full(Mark::Refused)].as_slice());
     Ok(())
 }

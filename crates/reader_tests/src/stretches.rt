@@ -12,7 +12,7 @@ const WORKERS: [usize; 3] = [1, 2, 5];
 const SIZES: [usize; 3] = [1, 70, 1000];
 
 /// How many tokens a stretch of a list takes.
-const SHARES: [usize; 4] = [0, 1, 20, 1000];
+const RANGE_SIZES: [usize; 4] = [0, 1, 20, 1000];
 
 /// A header, comments and three functions, of which each has one of these lines.
 fn text_of(alloc: Global, first: &str, second: &str, third: &str) -> Result<String, AllocError> {
@@ -77,13 +77,13 @@ fn finds_the_first_fault(rt: HostRuntime) -> Result<(), AllocError> {
     Ok(())
 }
 
-/// Whether a text is read by shares of any size, as one header and three functions.
-fn is_read_in_shares<R: Threads + Sync>(rt: &R, alloc: Global, text: &[u8]) -> bool {
+/// Whether a text is read in ranges of its tokens of any size, as one header and three functions.
+fn is_read_in_token_ranges<R: Threads + Sync>(rt: &R, alloc: Global, text: &[u8]) -> bool {
     let Ok(list) = tokens(alloc, text) else {
         return false;
     };
     for workers in WORKERS {
-        for size in SHARES {
+        for size in RANGE_SIZES {
             let Some(found) = read_token_ranges(rt, alloc, text, &list, workers, size) else {
                 return false;
             };
@@ -96,9 +96,9 @@ fn is_read_in_shares<R: Threads + Sync>(rt: &R, alloc: Global, text: &[u8]) -> b
 }
 
 #[test]
-fn reads_in_shares(rt: HostRuntime) -> Result<(), AllocError> {
+fn reads_in_token_ranges(rt: HostRuntime) -> Result<(), AllocError> {
     let text = text_with(rt.alloc(), "v1 = iadd v0, v0")?;
-    assert!(rt; is_read_in_shares(&rt, rt.alloc(), text.as_bytes()));
+    assert!(rt; is_read_in_token_ranges(&rt, rt.alloc(), text.as_bytes()));
     Ok(())
 }
 
@@ -109,7 +109,7 @@ fn is_read_alike<R: Threads + Sync>(rt: &R, alloc: Global, text: &str) -> bool {
     };
     let wanted = counts(read(rt, alloc, text));
     for workers in WORKERS {
-        for size in SHARES {
+        for size in RANGE_SIZES {
             let found = read_raw_by(rt, alloc, text.as_bytes(), &list, workers, size);
             if counts(found) != wanted {
                 return false;

@@ -12,7 +12,7 @@ highest number, so that there is a next row to it. The words that share a shift 
 places of their own, those with the most words first.
 
 The prover checks that each row is found where these tables say, so a change of a row needs this script again. Where it
-finds no shift, other factors are needed, here and in `row_number` and `sum_of`, its definition for the proof."""
+finds no shift, other factors are needed, here and in `find_row` and `sum_of`, its definition for the proof."""
 import os
 import re
 import sys

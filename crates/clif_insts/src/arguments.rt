@@ -8,7 +8,7 @@ ghost use Rattle.clif_insts.specs.Arguments as spec;
 use crate::lists::RawNames;
 use clif_words::Class;
 use std::alloc::Global;
-use token_reader::{Items, RawName, Reader, Stop, behind_commas, item_in_room, joined_by_commas};
+use token_reader::{Items, RawName, Reader, Stop, read_items, read_more_items, start_list_in_room};
 
 struct ValueItems;
 
@@ -16,13 +16,13 @@ impl Items<RawName> for ValueItems {
     ghost item_at = { λ _. name_at classes.Value };
 
     #[inline]
-    fn item(&self, _alloc: Global, reader: &mut Reader<'_>) -> Result<RawName, Stop> {
+    fn read_item(&self, _alloc: Global, reader: &mut Reader<'_>) -> Result<RawName, Stop> {
         reader.take(Class::Value)
     }
 }
 
 /// Those behind commas, after those in front.
-pub fn more_values(
+pub fn read_more_values(
     alloc: Global,
     reader: &mut Reader<'_>,
     front: Vec<RawName>,
@@ -30,38 +30,42 @@ pub fn more_values(
     ensures is { Gives (λ x. x.items) reader.new result (spec.more_values_at front.items reader.old) }
     ensures shorter { IfOk result (λ _. length reader.new ≤ length reader.old) }
 {
-    behind_commas(alloc, reader, &ValueItems, front)
+    read_more_items(alloc, reader, &ValueItems, front)
 }
 
 /// This value and those behind commas after it.
-pub fn more_names(alloc: Global, reader: &mut Reader<'_>, first: RawName) -> Result<RawNames, Stop>
+pub fn read_more_names(
+    alloc: Global,
+    reader: &mut Reader<'_>,
+    first: RawName,
+) -> Result<RawNames, Stop>
     ensures is { Gives same reader.new result (spec.more_values_at (first ∷ []) reader.old) }
     ensures shorter { IfOk result (λ _. length reader.new ≤ length reader.old) }
 {
     if reader.next_is(Class::Comma) {
-        let front = item_in_room(alloc, first, 2)?;
-        Ok(RawNames::from_vec(more_values(alloc, reader, front)?))
+        let front = start_list_in_room(alloc, first, 2)?;
+        Ok(RawNames::from_vec(read_more_values(alloc, reader, front)?))
     } else {
         Ok(RawNames::one(first))
     }
 }
 
 /// Values.
-pub fn values(alloc: Global, reader: &mut Reader<'_>) -> Result<Vec<RawName>, Stop>
+pub fn read_values(alloc: Global, reader: &mut Reader<'_>) -> Result<Vec<RawName>, Stop>
     ensures is { Gives (λ x. x.items) reader.new result (spec.values_at reader.old) }
     ensures shorter { IfOk result (λ _. length reader.new < length reader.old) }
 {
-    joined_by_commas(alloc, reader, &ValueItems)
+    read_items(alloc, reader, &ValueItems)
 }
 
 #[tactic(auto, unfolding(crate::specs::Arguments::args_at))]
-pub(crate) fn args(alloc: Global, reader: &mut Reader<'_>) -> Result<Vec<RawName>, Stop>
+pub(crate) fn read_args(alloc: Global, reader: &mut Reader<'_>) -> Result<Vec<RawName>, Stop>
     ensures is { Gives (λ x. x.items) reader.new result (spec.args_at reader.old) }
     ensures shorter { IfOk result (λ _. length reader.new < length reader.old) }
 {
     reader.take(Class::LeftParen)?;
     let list = if reader.next_is(Class::Value) {
-        values(alloc, reader)?
+        read_values(alloc, reader)?
     } else {
         Vec::new(alloc)
     };

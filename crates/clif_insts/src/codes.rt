@@ -17,7 +17,7 @@ use clk_num::Cc;
 use token_reader::{Reader, Stop};
 
 /// A condition.
-pub(crate) fn condition(reader: &mut Reader<'_>) -> Result<Cc, Stop>
+pub(crate) fn read_condition(reader: &mut Reader<'_>) -> Result<Cc, Stop>
     ensures is { Gives same reader.new result (seen condition_value (read words.condition reader.old)) }
     ensures no_memory { IfErr result (λ e. e ≢ NoMemory) }
     ensures shorter { IfOk result (λ _. length reader.new < length reader.old) }
@@ -32,7 +32,7 @@ pub(crate) fn condition(reader: &mut Reader<'_>) -> Result<Cc, Stop>
 }
 
 /// What a trap code but `userN` is in an instruction.
-fn named_trap(code: NamedTrap) -> RawTrap
+fn raw_trap(code: NamedTrap) -> RawTrap
     ensures { result ≡ spec.trap_of (trap_place code) }
 {
     match code {
@@ -46,7 +46,7 @@ fn named_trap(code: NamedTrap) -> RawTrap
 
 /// A trap code.
 #[tactic(auto, unfolding(token_reader::specs::Reading::name_at))]
-pub(crate) fn trap(reader: &mut Reader<'_>) -> Result<RawTrap, Stop>
+pub(crate) fn read_trap_code(reader: &mut Reader<'_>) -> Result<RawTrap, Stop>
     ensures is { Gives same reader.new result (seen trap_value (read any_trap reader.old)) }
     ensures no_memory { IfErr result (λ e. e ≢ NoMemory) }
     ensures shorter { IfOk result (λ _. length reader.new < length reader.old) }
@@ -54,7 +54,7 @@ pub(crate) fn trap(reader: &mut Reader<'_>) -> Result<RawTrap, Stop>
     match reader.next_terminal() {
         Some(Terminal::Word(Word::TrapCode(code))) => {
             reader.advance();
-            Ok(named_trap(code))
+            Ok(raw_trap(code))
         }
         _ => Ok(RawTrap::User(reader.take(Class::UserTrap)?)),
     }

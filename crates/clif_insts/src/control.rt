@@ -5,17 +5,17 @@ ghost use Rattle.token_reader.specs.declared.stop.Stop.TheVariants.{NoMemory};
 ghost use Rattle.token_reader.specs.Reading.{Gives, same};
 ghost use Rattle.clif_insts.specs.Forms as spec;
 
-use crate::codes::trap;
+use crate::codes::read_trap_code;
 use crate::raw::{RawInst, RawOperands};
-use crate::targets::{TargetRole, boxed_target, target, target_list};
+use crate::targets::{TargetRole, read_boxed_target, read_target, read_target_list};
 use clif_words::Class;
 use ir_core::List;
 use std::alloc::Global;
-use token_reader::{Reader, Stop, opt_suffix};
+use token_reader::{Reader, Stop, read_opt_suffix};
 
 /// No operands
 #[tactic(auto, unfolding(crate::specs::Forms::nullary_at))]
-pub(crate) fn nullary(reader: &mut Reader<'_>) -> Result<RawInst, Stop>
+pub(crate) fn read_nullary(reader: &mut Reader<'_>) -> Result<RawInst, Stop>
     ensures is { Gives same reader.new result (spec.nullary_at reader.old) }
     ensures no_memory { IfErr result (λ e. e ≢ NoMemory) }
     ensures shorter { IfOk result (λ _. length reader.new < length reader.old) }
@@ -30,12 +30,12 @@ pub(crate) fn nullary(reader: &mut Reader<'_>) -> Result<RawInst, Stop>
 
 /// `jump call-to`
 #[tactic(auto, unfolding(crate::specs::Forms::jump_at))]
-pub(crate) fn jump(alloc: Global, reader: &mut Reader<'_>) -> Result<RawInst, Stop>
+pub(crate) fn read_jump(alloc: Global, reader: &mut Reader<'_>) -> Result<RawInst, Stop>
     ensures is { Gives same reader.new result (spec.jump_at reader.old) }
     ensures shorter { IfOk result (λ _. length reader.new < length reader.old) }
 {
     let opcode = reader.take_opcode(Class::Jump)?;
-    let target = target(alloc, reader, TargetRole::Branch)?;
+    let target = read_target(alloc, reader, TargetRole::Branch)?;
     Ok(RawInst {
         opcode,
         suffix: None,
@@ -45,17 +45,17 @@ pub(crate) fn jump(alloc: Global, reader: &mut Reader<'_>) -> Result<RawInst, St
 
 /// `brif[.T] x, call-to, call-to`
 #[tactic(auto, unfolding(crate::specs::Forms::brif_at))]
-pub(crate) fn brif(alloc: Global, reader: &mut Reader<'_>) -> Result<RawInst, Stop>
+pub(crate) fn read_brif(alloc: Global, reader: &mut Reader<'_>) -> Result<RawInst, Stop>
     ensures is { Gives same reader.new result (spec.brif_at reader.old) }
     ensures shorter { IfOk result (λ _. length reader.new < length reader.old) }
 {
     let opcode = reader.take_opcode(Class::Brif)?;
-    let suffix = opt_suffix(reader)?;
+    let suffix = read_opt_suffix(reader)?;
     let cond = reader.take(Class::Value)?;
     reader.take(Class::Comma)?;
-    let then_target = boxed_target(alloc, reader, TargetRole::Branch)?;
+    let then_target = read_boxed_target(alloc, reader, TargetRole::Branch)?;
     reader.take(Class::Comma)?;
-    let else_target = boxed_target(alloc, reader, TargetRole::Branch)?;
+    let else_target = read_boxed_target(alloc, reader, TargetRole::Branch)?;
     Ok(RawInst {
         opcode,
         suffix,
@@ -69,16 +69,16 @@ pub(crate) fn brif(alloc: Global, reader: &mut Reader<'_>) -> Result<RawInst, St
 
 /// `br_table v, call-to, [call-to, ..]`
 #[tactic(auto, unfolding(crate::specs::Forms::br_table_at))]
-pub(crate) fn br_table(alloc: Global, reader: &mut Reader<'_>) -> Result<RawInst, Stop>
+pub(crate) fn read_br_table(alloc: Global, reader: &mut Reader<'_>) -> Result<RawInst, Stop>
     ensures is { Gives same reader.new result (spec.br_table_at reader.old) }
     ensures shorter { IfOk result (λ _. length reader.new < length reader.old) }
 {
     let opcode = reader.take_opcode(Class::BrTable)?;
     let index = reader.take(Class::Value)?;
     reader.take(Class::Comma)?;
-    let default = boxed_target(alloc, reader, TargetRole::Branch)?;
+    let default = read_boxed_target(alloc, reader, TargetRole::Branch)?;
     reader.take(Class::Comma)?;
-    let entries = target_list(alloc, reader)?;
+    let entries = read_target_list(alloc, reader)?;
     Ok(RawInst {
         opcode,
         suffix: None,
@@ -92,7 +92,7 @@ pub(crate) fn br_table(alloc: Global, reader: &mut Reader<'_>) -> Result<RawInst
 
 /// `return v, ..`
 #[tactic(auto, unfolding(crate::specs::Forms::return_inst_at))]
-pub(crate) fn return_inst(alloc: Global, reader: &mut Reader<'_>) -> Result<RawInst, Stop>
+pub(crate) fn read_return(alloc: Global, reader: &mut Reader<'_>) -> Result<RawInst, Stop>
     ensures is { Gives same reader.new result (spec.return_inst_at reader.old) }
     ensures shorter { IfOk result (λ _. length reader.new < length reader.old) }
 {
@@ -106,13 +106,13 @@ pub(crate) fn return_inst(alloc: Global, reader: &mut Reader<'_>) -> Result<RawI
 
 /// `trap code`
 #[tactic(auto, unfolding(crate::specs::Forms::trap_inst_at))]
-pub(crate) fn trap_inst(reader: &mut Reader<'_>) -> Result<RawInst, Stop>
+pub(crate) fn read_trap(reader: &mut Reader<'_>) -> Result<RawInst, Stop>
     ensures is { Gives same reader.new result (spec.trap_inst_at reader.old) }
     ensures no_memory { IfErr result (λ e. e ≢ NoMemory) }
     ensures shorter { IfOk result (λ _. length reader.new < length reader.old) }
 {
     let opcode = reader.take_opcode(Class::Trap)?;
-    let code = trap(reader)?;
+    let code = read_trap_code(reader)?;
     Ok(RawInst {
         opcode,
         suffix: None,
@@ -122,16 +122,16 @@ pub(crate) fn trap_inst(reader: &mut Reader<'_>) -> Result<RawInst, Stop>
 
 /// `op[.T] x, code`
 #[tactic(auto, unfolding(crate::specs::Forms::trap_if_at))]
-pub(crate) fn trap_if(reader: &mut Reader<'_>) -> Result<RawInst, Stop>
+pub(crate) fn read_trap_if(reader: &mut Reader<'_>) -> Result<RawInst, Stop>
     ensures is { Gives same reader.new result (spec.trap_if_at reader.old) }
     ensures no_memory { IfErr result (λ e. e ≢ NoMemory) }
     ensures shorter { IfOk result (λ _. length reader.new < length reader.old) }
 {
     let opcode = reader.take_opcode(Class::TrapIf)?;
-    let suffix = opt_suffix(reader)?;
+    let suffix = read_opt_suffix(reader)?;
     let x = reader.take(Class::Value)?;
     reader.take(Class::Comma)?;
-    let code = trap(reader)?;
+    let code = read_trap_code(reader)?;
     Ok(RawInst {
         opcode,
         suffix,

@@ -67,7 +67,7 @@ fn begins_plain_flag(reader: &Reader<'_>) -> bool
 
 /// A flag but `little` and `big`.
 #[tactic(auto, unfolding(crate::specs::Flags::plain_flag_at, token_reader::specs::Reading::name_at))]
-pub(crate) fn plain_flag(reader: &mut Reader<'_>) -> Result<RawFlag, Stop>
+pub(crate) fn read_plain_flag(reader: &mut Reader<'_>) -> Result<RawFlag, Stop>
     ensures is { Gives same reader.new result (spec.plain_flag_at reader.old) }
     ensures no_memory { IfErr result (λ e. e ≢ NoMemory) }
     ensures shorter { IfOk result (λ _. length reader.new < length reader.old) }
@@ -89,13 +89,13 @@ pub(crate) fn plain_flag(reader: &mut Reader<'_>) -> Result<RawFlag, Stop>
 }
 
 /// Flags but `little` and `big`.
-fn plain_flags(alloc: Global, reader: &mut Reader<'_>) -> Result<Vec<RawFlag>, Stop>
+fn read_plain_flags(alloc: Global, reader: &mut Reader<'_>) -> Result<Vec<RawFlag>, Stop>
     ensures is { Gives (λ x. x.items) reader.new result (spec.plain_flags_at reader.old) }
     ensures shorter { IfOk result (λ _. length reader.new ≤ length reader.old) }
 {
     let mut list = Vec::new(alloc);
     'list: while begins_plain_flag(reader) {
-        let item = plain_flag(reader)?;
+        let item = read_plain_flag(reader)?;
         list.push(item)?;
     }
     Ok(list)
@@ -109,13 +109,13 @@ fn begins_ordered_flag(reader: &Reader<'_>, order: Order) -> bool
 }
 
 #[tactic(auto, unfolding(crate::specs::Flags::ordered_flag_at))]
-pub(crate) fn ordered_flag(reader: &mut Reader<'_>, order: Order) -> Result<RawFlag, Stop>
+pub(crate) fn read_ordered_flag(reader: &mut Reader<'_>, order: Order) -> Result<RawFlag, Stop>
     ensures is { Gives same reader.new result (spec.ordered_flag_at order reader.old) }
     ensures no_memory { IfErr result (λ e. e ≢ NoMemory) }
     ensures shorter { IfOk result (λ _. length reader.new < length reader.old) }
 {
     if begins_plain_flag(reader) {
-        plain_flag(reader)
+        read_plain_flag(reader)
     } else {
         reader.take(order.class())?;
         Ok(order.flag())
@@ -123,7 +123,7 @@ pub(crate) fn ordered_flag(reader: &mut Reader<'_>, order: Order) -> Result<RawF
 }
 
 /// Flags, with `little` or `big` among them.
-fn ordered_flags(
+fn read_ordered_flags(
     reader: &mut Reader<'_>,
     order: Order,
     front: Vec<RawFlag>,
@@ -133,7 +133,7 @@ fn ordered_flags(
 {
     let mut list = front;
     'list: while begins_ordered_flag(reader, order) {
-        let item = ordered_flag(reader, order)?;
+        let item = read_ordered_flag(reader, order)?;
         list.push(item)?;
     }
     Ok(list)
@@ -141,15 +141,15 @@ fn ordered_flags(
 
 /// Flags.
 #[tactic(auto, unfolding(crate::specs::Flags::flags_at))]
-pub(crate) fn flags(alloc: Global, reader: &mut Reader<'_>) -> Result<Vec<RawFlag>, Stop>
+pub(crate) fn read_flags(alloc: Global, reader: &mut Reader<'_>) -> Result<Vec<RawFlag>, Stop>
     ensures is { Gives (λ x. x.items) reader.new result (spec.flags_at reader.old) }
     ensures shorter { IfOk result (λ _. length reader.new ≤ length reader.old) }
 {
-    let list = plain_flags(alloc, reader)?;
+    let list = read_plain_flags(alloc, reader)?;
     if reader.next_is(Class::Big) {
-        ordered_flags(reader, Order::Big, list)
+        read_ordered_flags(reader, Order::Big, list)
     } else if reader.next_is(Class::Little) {
-        ordered_flags(reader, Order::Little, list)
+        read_ordered_flags(reader, Order::Little, list)
     } else {
         Ok(list)
     }

@@ -10,8 +10,8 @@ ghost use Rattle.clif_insts.specs.Insts as insts;
 ghost use Rattle.clif_insts.specs.Marks.{MarksFormed, inst_marks};
 ghost use Rattle.clif_insts.specs.OfForm.{InstFormed};
 
-use crate::arguments::more_values;
-use crate::forms::any_inst;
+use crate::arguments::read_more_values;
+use crate::forms::read_inst;
 use crate::opening::Opening;
 use crate::raw::{RawInst, RawOperands};
 use clif_lex::{TextKind, Tokens};
@@ -20,7 +20,7 @@ use ir_core::List;
 use std::alloc::Global;
 use std::error::Error;
 use std::fmt;
-use token_reader::{RawName, Reader, Stop, one_item};
+use token_reader::{RawName, Reader, Stop, start_list};
 
 /// Why the tokens are no instruction, and at which token of the list. At the end it is the list's length.
 #[derive(Clone, Copy, Debug, PartialEq, Eq)]
@@ -66,7 +66,7 @@ fn error_at(stop: Stop, place: usize) -> SyntaxErr
 
 /// The values of a `return`, but none where they would be the results of the next line, or its alias.
 #[tactic(auto, unfolding(crate::specs::Forms::own_values_at))]
-fn own_values(alloc: Global, reader: &mut Reader<'_>) -> Result<Vec<RawName>, Stop>
+fn read_own_values(alloc: Global, reader: &mut Reader<'_>) -> Result<Vec<RawName>, Stop>
     ensures { Gives (λ x. x.items) reader.new result (forms.own_values_at reader.old) }
 {
     if !reader.next_is(Class::Value) {
@@ -78,8 +78,8 @@ fn own_values(alloc: Global, reader: &mut Reader<'_>) -> Result<Vec<RawName>, St
         *reader = behind;
         return Ok(Vec::new(alloc));
     }
-    let front = one_item(alloc, value)?;
-    let values = more_values(alloc, reader, front)?;
+    let front = start_list(alloc, value)?;
+    let values = read_more_values(alloc, reader, front)?;
     if reader.next_is(Class::Equals) {
         *reader = behind;
         return Ok(Vec::new(alloc));
@@ -89,11 +89,11 @@ fn own_values(alloc: Global, reader: &mut Reader<'_>) -> Result<Vec<RawName>, St
 
 /// `return` and its own values.
 #[tactic(auto, unfolding(crate::specs::Forms::return_line_at))]
-fn return_line(alloc: Global, reader: &mut Reader<'_>) -> Result<RawInst, Stop>
+fn read_return_line(alloc: Global, reader: &mut Reader<'_>) -> Result<RawInst, Stop>
     ensures { Gives same reader.new result (forms.return_line_at reader.old) }
 {
     let opcode = reader.take_opcode(Class::Return)?;
-    let values = own_values(alloc, reader)?;
+    let values = read_own_values(alloc, reader)?;
     Ok(RawInst {
         opcode,
         suffix: None,
@@ -103,18 +103,18 @@ fn return_line(alloc: Global, reader: &mut Reader<'_>) -> Result<RawInst, Stop>
 
 /// An instruction of a block, with the values of a `return` that are its own.
 #[tactic(auto, unfolding(crate::specs::Forms::one_at))]
-fn one_inst(alloc: Global, reader: &mut Reader<'_>) -> Result<RawInst, Stop>
+fn read_one_inst(alloc: Global, reader: &mut Reader<'_>) -> Result<RawInst, Stop>
     ensures { Gives same reader.new result (forms.one_at reader.old) }
 {
     if reader.next_is(Class::Return) {
-        return_line(alloc, reader)
+        read_return_line(alloc, reader)
     } else {
-        any_inst(alloc, reader, Opening::AfterResults)
+        read_inst(alloc, reader, Opening::AfterResults)
     }
 }
 
 /// The place in the list of the first token from `i` on that does not start before the spot, or the list's length.
-fn place_of(tokens: &Tokens, i: usize, spot: usize) -> usize
+fn find_place(tokens: &Tokens, i: usize, spot: usize) -> usize
     requires { i ≤ length tokens.now }
     ensures { result ≡ insts.place_of tokens.now i spot }
 {
@@ -149,8 +149,8 @@ pub fn inst(
         (λ e. Stopped (lexemes text.now (drop i tokens.now)) (insts.place_left text.now tokens.now i) e) }
 {
     let mut reader = Reader::new(text, tokens, i);
-    let read = one_inst(alloc, &mut reader);
-    let place = place_of(tokens, i, reader.spot_or(text.len()));
+    let read = read_one_inst(alloc, &mut reader);
+    let place = find_place(tokens, i, reader.spot_or(text.len()));
     match read {
         Ok(found) => Ok((found, place)),
         Err(stop) => Err(error_at(stop, place)),

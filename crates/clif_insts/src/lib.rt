@@ -17,8 +17,8 @@ mod raw;
 mod tables;
 mod targets;
 
-pub use arguments::{more_names, more_values, values};
-pub use forms::any_inst;
+pub use arguments::{read_more_names, read_more_values, read_values};
+pub use forms::read_inst;
 pub use insts::{SyntaxErr, inst};
 pub use lists::RawNames;
 pub use opening::Opening;

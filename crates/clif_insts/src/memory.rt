@@ -5,24 +5,24 @@ ghost use Rattle.token_reader.specs.declared.stop.Stop.TheVariants.{NoMemory};
 ghost use Rattle.token_reader.specs.Reading.{Gives, same};
 ghost use Rattle.clif_insts.specs.Forms as spec;
 
-use crate::flags::flags;
+use crate::flags::read_flags;
 use crate::raw::{RawInst, RawOperands};
 use clif_words::Class;
 use ir_core::List;
 use std::alloc::Global;
-use token_reader::{Reader, Stop, offset, opt_suffix, suffix, suffix_i64};
+use token_reader::{Reader, Stop, read_i64_suffix, read_offset, read_opt_suffix, read_suffix};
 
 /// `op.T flags p+off`
 #[tactic(auto, unfolding(crate::specs::Forms::load_at))]
-pub(crate) fn load(alloc: Global, reader: &mut Reader<'_>) -> Result<RawInst, Stop>
+pub(crate) fn read_load(alloc: Global, reader: &mut Reader<'_>) -> Result<RawInst, Stop>
     ensures is { Gives same reader.new result (spec.load_at reader.old) }
     ensures shorter { IfOk result (λ _. length reader.new < length reader.old) }
 {
     let opcode = reader.take_opcode(Class::Load)?;
-    let suffix = suffix(reader)?;
-    let flags = flags(alloc, reader)?;
+    let suffix = read_suffix(reader)?;
+    let flags = read_flags(alloc, reader)?;
     let address = reader.take(Class::Value)?;
-    let offset = offset(alloc, reader)?;
+    let offset = read_offset(alloc, reader)?;
     Ok(RawInst {
         opcode,
         suffix: Some(suffix),
@@ -36,15 +36,15 @@ pub(crate) fn load(alloc: Global, reader: &mut Reader<'_>) -> Result<RawInst, St
 
 /// `op[.i64] flags p+off`
 #[tactic(auto, unfolding(crate::specs::Forms::load_wide_at))]
-pub(crate) fn load_wide(alloc: Global, reader: &mut Reader<'_>) -> Result<RawInst, Stop>
+pub(crate) fn read_load_wide(alloc: Global, reader: &mut Reader<'_>) -> Result<RawInst, Stop>
     ensures is { Gives same reader.new result (spec.load_wide_at reader.old) }
     ensures shorter { IfOk result (λ _. length reader.new < length reader.old) }
 {
     let opcode = reader.take_opcode(Class::LoadWide)?;
-    let suffix = opt_suffix(reader)?;
-    let flags = flags(alloc, reader)?;
+    let suffix = read_opt_suffix(reader)?;
+    let flags = read_flags(alloc, reader)?;
     let address = reader.take(Class::Value)?;
-    let offset = offset(alloc, reader)?;
+    let offset = read_offset(alloc, reader)?;
     Ok(RawInst {
         opcode,
         suffix,
@@ -58,17 +58,17 @@ pub(crate) fn load_wide(alloc: Global, reader: &mut Reader<'_>) -> Result<RawIns
 
 /// `op[.T] flags x, p+off`
 #[tactic(auto, unfolding(crate::specs::Forms::store_at))]
-pub(crate) fn store(alloc: Global, reader: &mut Reader<'_>) -> Result<RawInst, Stop>
+pub(crate) fn read_store(alloc: Global, reader: &mut Reader<'_>) -> Result<RawInst, Stop>
     ensures is { Gives same reader.new result (spec.store_at reader.old) }
     ensures shorter { IfOk result (λ _. length reader.new < length reader.old) }
 {
     let opcode = reader.take_opcode(Class::Store)?;
-    let suffix = opt_suffix(reader)?;
-    let flags = flags(alloc, reader)?;
+    let suffix = read_opt_suffix(reader)?;
+    let flags = read_flags(alloc, reader)?;
     let value = reader.take(Class::Value)?;
     reader.take(Class::Comma)?;
     let address = reader.take(Class::Value)?;
-    let offset = offset(alloc, reader)?;
+    let offset = read_offset(alloc, reader)?;
     Ok(RawInst {
         opcode,
         suffix,
@@ -83,14 +83,14 @@ pub(crate) fn store(alloc: Global, reader: &mut Reader<'_>) -> Result<RawInst, S
 
 /// `stack_load.T ssN+off`
 #[tactic(auto, unfolding(crate::specs::Forms::stack_load_at))]
-pub(crate) fn stack_load(alloc: Global, reader: &mut Reader<'_>) -> Result<RawInst, Stop>
+pub(crate) fn read_stack_load(alloc: Global, reader: &mut Reader<'_>) -> Result<RawInst, Stop>
     ensures is { Gives same reader.new result (spec.stack_load_at reader.old) }
     ensures shorter { IfOk result (λ _. length reader.new < length reader.old) }
 {
     let opcode = reader.take_opcode(Class::StackLoad)?;
-    let suffix = suffix(reader)?;
+    let suffix = read_suffix(reader)?;
     let slot = reader.take(Class::Slot)?;
-    let offset = offset(alloc, reader)?;
+    let offset = read_offset(alloc, reader)?;
     Ok(RawInst {
         opcode,
         suffix: Some(suffix),
@@ -100,16 +100,16 @@ pub(crate) fn stack_load(alloc: Global, reader: &mut Reader<'_>) -> Result<RawIn
 
 /// `stack_store[.T] x, ssN+off`
 #[tactic(auto, unfolding(crate::specs::Forms::stack_store_at))]
-pub(crate) fn stack_store(alloc: Global, reader: &mut Reader<'_>) -> Result<RawInst, Stop>
+pub(crate) fn read_stack_store(alloc: Global, reader: &mut Reader<'_>) -> Result<RawInst, Stop>
     ensures is { Gives same reader.new result (spec.stack_store_at reader.old) }
     ensures shorter { IfOk result (λ _. length reader.new < length reader.old) }
 {
     let opcode = reader.take_opcode(Class::StackStore)?;
-    let suffix = opt_suffix(reader)?;
+    let suffix = read_opt_suffix(reader)?;
     let value = reader.take(Class::Value)?;
     reader.take(Class::Comma)?;
     let slot = reader.take(Class::Slot)?;
-    let offset = offset(alloc, reader)?;
+    let offset = read_offset(alloc, reader)?;
     Ok(RawInst {
         opcode,
         suffix,
@@ -123,13 +123,13 @@ pub(crate) fn stack_store(alloc: Global, reader: &mut Reader<'_>) -> Result<RawI
 
 /// `func_addr.i64 fnN`
 #[tactic(auto, unfolding(crate::specs::Forms::func_addr_at))]
-pub(crate) fn func_addr(reader: &mut Reader<'_>) -> Result<RawInst, Stop>
+pub(crate) fn read_func_addr(reader: &mut Reader<'_>) -> Result<RawInst, Stop>
     ensures is { Gives same reader.new result (spec.func_addr_at reader.old) }
     ensures no_memory { IfErr result (λ e. e ≢ NoMemory) }
     ensures shorter { IfOk result (λ _. length reader.new < length reader.old) }
 {
     let opcode = reader.take_opcode(Class::FuncAddr)?;
-    suffix_i64(reader)?;
+    read_i64_suffix(reader)?;
     let callee = reader.take(Class::Callee)?;
     Ok(RawInst {
         opcode,

@@ -5,21 +5,21 @@ ghost use Rattle.token_reader.specs.declared.stop.Stop.TheVariants.{NoMemory};
 ghost use Rattle.token_reader.specs.Reading.{Gives, same};
 ghost use Rattle.clif_insts.specs.Forms as spec;
 
-use crate::codes::condition;
+use crate::codes::read_condition;
 use crate::raw::{RawInst, RawOperands};
 use clif_words::Class;
-use token_reader::{Reader, Stop, number, opt_suffix, suffix};
+use token_reader::{Reader, Stop, read_number, read_opt_suffix, read_suffix};
 
 /// `iconst.T n`
 #[tactic(auto, unfolding(crate::specs::Forms::iconst_at))]
-pub(crate) fn iconst(reader: &mut Reader<'_>) -> Result<RawInst, Stop>
+pub(crate) fn read_iconst(reader: &mut Reader<'_>) -> Result<RawInst, Stop>
     ensures is { Gives same reader.new result (spec.iconst_at reader.old) }
     ensures no_memory { IfErr result (λ e. e ≢ NoMemory) }
     ensures shorter { IfOk result (λ _. length reader.new < length reader.old) }
 {
     let opcode = reader.take_opcode(Class::Iconst)?;
-    let suffix = suffix(reader)?;
-    let number = number(reader)?;
+    let suffix = read_suffix(reader)?;
+    let number = read_number(reader)?;
     Ok(RawInst {
         opcode,
         suffix: Some(suffix),
@@ -29,13 +29,13 @@ pub(crate) fn iconst(reader: &mut Reader<'_>) -> Result<RawInst, Stop>
 
 /// `op[.T] x, y`
 #[tactic(auto, unfolding(crate::specs::Forms::binary_at))]
-pub(crate) fn binary(reader: &mut Reader<'_>) -> Result<RawInst, Stop>
+pub(crate) fn read_binary(reader: &mut Reader<'_>) -> Result<RawInst, Stop>
     ensures is { Gives same reader.new result (spec.binary_at reader.old) }
     ensures no_memory { IfErr result (λ e. e ≢ NoMemory) }
     ensures shorter { IfOk result (λ _. length reader.new < length reader.old) }
 {
     let opcode = reader.take_opcode(Class::Binary)?;
-    let suffix = opt_suffix(reader)?;
+    let suffix = read_opt_suffix(reader)?;
     let x = reader.take(Class::Value)?;
     reader.take(Class::Comma)?;
     let y = reader.take(Class::Value)?;
@@ -48,13 +48,13 @@ pub(crate) fn binary(reader: &mut Reader<'_>) -> Result<RawInst, Stop>
 
 /// `op[.T] x`
 #[tactic(auto, unfolding(crate::specs::Forms::unary_at))]
-pub(crate) fn unary(reader: &mut Reader<'_>) -> Result<RawInst, Stop>
+pub(crate) fn read_unary(reader: &mut Reader<'_>) -> Result<RawInst, Stop>
     ensures is { Gives same reader.new result (spec.unary_at reader.old) }
     ensures no_memory { IfErr result (λ e. e ≢ NoMemory) }
     ensures shorter { IfOk result (λ _. length reader.new < length reader.old) }
 {
     let opcode = reader.take_opcode(Class::Unary)?;
-    let suffix = opt_suffix(reader)?;
+    let suffix = read_opt_suffix(reader)?;
     let x = reader.take(Class::Value)?;
     Ok(RawInst {
         opcode,
@@ -65,14 +65,14 @@ pub(crate) fn unary(reader: &mut Reader<'_>) -> Result<RawInst, Stop>
 
 /// `icmp[.T] cc x, y`
 #[tactic(auto, unfolding(crate::specs::Forms::icmp_at))]
-pub(crate) fn icmp(reader: &mut Reader<'_>) -> Result<RawInst, Stop>
+pub(crate) fn read_icmp(reader: &mut Reader<'_>) -> Result<RawInst, Stop>
     ensures is { Gives same reader.new result (spec.icmp_at reader.old) }
     ensures no_memory { IfErr result (λ e. e ≢ NoMemory) }
     ensures shorter { IfOk result (λ _. length reader.new < length reader.old) }
 {
     let opcode = reader.take_opcode(Class::Icmp)?;
-    let suffix = opt_suffix(reader)?;
-    let condition = condition(reader)?;
+    let suffix = read_opt_suffix(reader)?;
+    let condition = read_condition(reader)?;
     let x = reader.take(Class::Value)?;
     reader.take(Class::Comma)?;
     let y = reader.take(Class::Value)?;
@@ -85,13 +85,13 @@ pub(crate) fn icmp(reader: &mut Reader<'_>) -> Result<RawInst, Stop>
 
 /// `select[.T] c, x, y`
 #[tactic(auto, unfolding(crate::specs::Forms::select_at))]
-pub(crate) fn select(reader: &mut Reader<'_>) -> Result<RawInst, Stop>
+pub(crate) fn read_select(reader: &mut Reader<'_>) -> Result<RawInst, Stop>
     ensures is { Gives same reader.new result (spec.select_at reader.old) }
     ensures no_memory { IfErr result (λ e. e ≢ NoMemory) }
     ensures shorter { IfOk result (λ _. length reader.new < length reader.old) }
 {
     let opcode = reader.take_opcode(Class::Select)?;
-    let suffix = opt_suffix(reader)?;
+    let suffix = read_opt_suffix(reader)?;
     let x = reader.take(Class::Value)?;
     reader.take(Class::Comma)?;
     let y = reader.take(Class::Value)?;
@@ -106,13 +106,13 @@ pub(crate) fn select(reader: &mut Reader<'_>) -> Result<RawInst, Stop>
 
 /// `op.T x`
 #[tactic(auto, unfolding(crate::specs::Forms::convert_at))]
-pub(crate) fn convert(reader: &mut Reader<'_>) -> Result<RawInst, Stop>
+pub(crate) fn read_convert(reader: &mut Reader<'_>) -> Result<RawInst, Stop>
     ensures is { Gives same reader.new result (spec.convert_at reader.old) }
     ensures no_memory { IfErr result (λ e. e ≢ NoMemory) }
     ensures shorter { IfOk result (λ _. length reader.new < length reader.old) }
 {
     let opcode = reader.take_opcode(Class::Convert)?;
-    let suffix = suffix(reader)?;
+    let suffix = read_suffix(reader)?;
     let x = reader.take(Class::Value)?;
     Ok(RawInst {
         opcode,
@@ -123,16 +123,16 @@ pub(crate) fn convert(reader: &mut Reader<'_>) -> Result<RawInst, Stop>
 
 /// `op[.T] x, n`
 #[tactic(auto, unfolding(crate::specs::Forms::binary_imm_at))]
-pub(crate) fn binary_imm(reader: &mut Reader<'_>) -> Result<RawInst, Stop>
+pub(crate) fn read_binary_imm(reader: &mut Reader<'_>) -> Result<RawInst, Stop>
     ensures is { Gives same reader.new result (spec.binary_imm_at reader.old) }
     ensures no_memory { IfErr result (λ e. e ≢ NoMemory) }
     ensures shorter { IfOk result (λ _. length reader.new < length reader.old) }
 {
     let opcode = reader.take_opcode(Class::BinaryImm)?;
-    let suffix = opt_suffix(reader)?;
+    let suffix = read_opt_suffix(reader)?;
     let x = reader.take(Class::Value)?;
     reader.take(Class::Comma)?;
-    let number = number(reader)?;
+    let number = read_number(reader)?;
     Ok(RawInst {
         opcode,
         suffix,
@@ -142,17 +142,17 @@ pub(crate) fn binary_imm(reader: &mut Reader<'_>) -> Result<RawInst, Stop>
 
 /// `icmp_imm[.T] cc x, n`
 #[tactic(auto, unfolding(crate::specs::Forms::icmp_imm_at))]
-pub(crate) fn icmp_imm(reader: &mut Reader<'_>) -> Result<RawInst, Stop>
+pub(crate) fn read_icmp_imm(reader: &mut Reader<'_>) -> Result<RawInst, Stop>
     ensures is { Gives same reader.new result (spec.icmp_imm_at reader.old) }
     ensures no_memory { IfErr result (λ e. e ≢ NoMemory) }
     ensures shorter { IfOk result (λ _. length reader.new < length reader.old) }
 {
     let opcode = reader.take_opcode(Class::IcmpImm)?;
-    let suffix = opt_suffix(reader)?;
-    let condition = condition(reader)?;
+    let suffix = read_opt_suffix(reader)?;
+    let condition = read_condition(reader)?;
     let x = reader.take(Class::Value)?;
     reader.take(Class::Comma)?;
-    let number = number(reader)?;
+    let number = read_number(reader)?;
     Ok(RawInst {
         opcode,
         suffix,

@@ -10,7 +10,7 @@ use crate::raw::{RawArg, RawTarget};
 use clif_words::Class;
 use ir_core::{Boxed, List};
 use std::alloc::Global;
-use token_reader::{Items, Reader, Stop, joined_by_commas};
+use token_reader::{Items, Reader, Stop, read_items};
 
 /// Where a target stands: at a branch, as the normal target of a `try_call`, or in its table.
 /// `retN` stands only in the second, `exnN` only in the third.
@@ -24,7 +24,7 @@ pub enum TargetRole {
 /// An argument of a target.
 #[tactic(auto, unfolding(crate::specs::Targets::arg_at))]
 #[inline(always)]
-pub(crate) fn arg(reader: &mut Reader<'_>, role: TargetRole) -> Result<RawArg, Stop>
+pub(crate) fn read_arg(reader: &mut Reader<'_>, role: TargetRole) -> Result<RawArg, Stop>
     ensures is { Gives same reader.new result (spec.arg_at role reader.old) }
     ensures no_memory { IfErr result (λ e. e ≢ NoMemory) }
     ensures shorter { IfOk result (λ _. length reader.new < length reader.old) }
@@ -52,8 +52,8 @@ impl Items<RawArg> for TargetRole {
     ghost item_at = { spec.arg_at };
 
     #[inline(always)]
-    fn item(&self, _alloc: Global, reader: &mut Reader<'_>) -> Result<RawArg, Stop> {
-        arg(reader, *self)
+    fn read_item(&self, _alloc: Global, reader: &mut Reader<'_>) -> Result<RawArg, Stop> {
+        read_arg(reader, *self)
     }
 }
 
@@ -69,7 +69,7 @@ fn begins_arg(reader: &Reader<'_>, role: TargetRole) -> bool
 }
 
 #[tactic(auto, unfolding(crate::specs::Targets::target_args_at))]
-pub(crate) fn target_args(
+pub(crate) fn read_target_args(
     alloc: Global,
     reader: &mut Reader<'_>,
     role: TargetRole,
@@ -79,7 +79,7 @@ pub(crate) fn target_args(
 {
     reader.take(Class::LeftParen)?;
     let list = if begins_arg(reader, role) {
-        joined_by_commas(alloc, reader, &role)?
+        read_items(alloc, reader, &role)?
     } else {
         Vec::new(alloc)
     };
@@ -88,7 +88,7 @@ pub(crate) fn target_args(
 }
 
 #[tactic(auto, unfolding(crate::specs::Targets::opt_target_args_at))]
-pub(crate) fn opt_target_args(
+pub(crate) fn read_opt_target_args(
     alloc: Global,
     reader: &mut Reader<'_>,
     role: TargetRole,
@@ -97,7 +97,7 @@ pub(crate) fn opt_target_args(
     ensures shorter { IfOk result (λ _. length reader.new ≤ length reader.old) }
 {
     if reader.next_is(Class::LeftParen) {
-        target_args(alloc, reader, role)
+        read_target_args(alloc, reader, role)
     } else {
         Ok(Vec::new(alloc))
     }
@@ -105,7 +105,7 @@ pub(crate) fn opt_target_args(
 
 /// A target.
 #[tactic(auto, unfolding(crate::specs::Targets::target_at))]
-pub(crate) fn target(
+pub(crate) fn read_target(
     alloc: Global,
     reader: &mut Reader<'_>,
     role: TargetRole,
@@ -114,7 +114,7 @@ pub(crate) fn target(
     ensures shorter { IfOk result (λ _. length reader.new < length reader.old) }
 {
     let block = reader.take(Class::Block)?;
-    let args = opt_target_args(alloc, reader, role)?;
+    let args = read_opt_target_args(alloc, reader, role)?;
     Ok(RawTarget {
         block,
         args: List::from_vec(args),
@@ -122,7 +122,7 @@ pub(crate) fn target(
 }
 
 /// A target behind a pointer: so an instruction is no larger for it.
-pub(crate) fn boxed_target(
+pub(crate) fn read_boxed_target(
     alloc: Global,
     reader: &mut Reader<'_>,
     role: TargetRole,
@@ -130,7 +130,7 @@ pub(crate) fn boxed_target(
     ensures is { Gives same reader.new result (spec.target_at role reader.old) }
     ensures shorter { IfOk result (λ _. length reader.new < length reader.old) }
 {
-    let target = target(alloc, reader, role)?;
+    let target = read_target(alloc, reader, role)?;
     Ok(Boxed::new(alloc, target)?)
 }
 
@@ -141,19 +141,22 @@ impl Items<RawTarget> for TargetItems {
     ghost item_at = { λ _. spec.target_at Branch };
 
     #[inline]
-    fn item(&self, alloc: Global, reader: &mut Reader<'_>) -> Result<RawTarget, Stop> {
-        target(alloc, reader, TargetRole::Branch)
+    fn read_item(&self, alloc: Global, reader: &mut Reader<'_>) -> Result<RawTarget, Stop> {
+        read_target(alloc, reader, TargetRole::Branch)
     }
 }
 
 #[tactic(auto, unfolding(crate::specs::Targets::target_list_at))]
-pub(crate) fn target_list(alloc: Global, reader: &mut Reader<'_>) -> Result<Vec<RawTarget>, Stop>
+pub(crate) fn read_target_list(
+    alloc: Global,
+    reader: &mut Reader<'_>,
+) -> Result<Vec<RawTarget>, Stop>
     ensures is { Gives (λ x. x.items) reader.new result (spec.target_list_at reader.old) }
     ensures shorter { IfOk result (λ _. length reader.new < length reader.old) }
 {
     reader.take(Class::LeftBracket)?;
     let list = if reader.next_is(Class::Block) {
-        joined_by_commas(alloc, reader, &TargetItems)?
+        read_items(alloc, reader, &TargetItems)?
     } else {
         Vec::new(alloc)
     };

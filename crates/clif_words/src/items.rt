@@ -46,7 +46,7 @@ fn spells(word: &[u8], spelling: &[u8]) -> bool
 
 /// What the word is, if the row has it.
 #[inline]
-fn row_word(row: &Entry, word: &[u8]) -> Option<Word>
+fn match_row(row: &Entry, word: &[u8]) -> Option<Word>
     ensures { option_map seen_word result ≡ words.look_up (word_row row.now ∷ []) word.now }
 {
     if spells(row.0.as_bytes(), word) {
@@ -71,16 +71,16 @@ fn look_up(table: &[Entry], word: &[u8]) -> Option<Word>
 
 /// What the word is, if the row at this place has it.
 #[inline]
-fn entry_word(entries: &[Entry], place: usize, word: &[u8]) -> Option<Word>
+fn match_entry(entries: &[Entry], place: usize, word: &[u8]) -> Option<Word>
     requires { place < length entries.now }
     ensures { option_map seen_word result ≡ words.look_up (take 1 (drop place (map word_row entries.now))) word.now }
 {
-    row_word(&entries[place], word)
+    match_row(&entries[place], word)
 }
 
 /// The opcode that the word is, if the row has it.
 #[inline]
-fn row_opcode(row: &OpcodeRow, word: &[u8]) -> Option<Word>
+fn match_opcode_row(row: &OpcodeRow, word: &[u8]) -> Option<Word>
     ensures { option_map seen_word result ≡ words.look_up (opcode_row row.now ∷ []) word.now }
 {
     if spells(row.0.as_bytes(), word) {
@@ -92,31 +92,31 @@ fn row_opcode(row: &OpcodeRow, word: &[u8]) -> Option<Word>
 
 /// The opcode that the word is, if the row at this place has it.
 #[inline]
-fn opcode_word(opcodes: &[OpcodeRow], place: usize, word: &[u8]) -> Option<Word>
+fn match_opcode(opcodes: &[OpcodeRow], place: usize, word: &[u8]) -> Option<Word>
     requires { place < length opcodes.now }
     ensures { option_map seen_word result ≡ words.look_up (take 1 (drop place (map opcode_row opcodes.now))) word.now }
 {
-    row_opcode(&opcodes[place], word)
+    match_opcode_row(&opcodes[place], word)
 }
 
 /// What the word is, if the row with this number has it: the opcodes come first, behind them the other words.
 #[inline]
-fn word_at(number: usize, word: &[u8]) -> Option<Word>
+fn match_word(number: usize, word: &[u8]) -> Option<Word>
     requires { number < length table.all_words }
     ensures { option_map seen_word result ≡ words.look_up (take 1 (drop number table.all_words)) word.now }
 {
     let opcodes = opcode_rows();
     if number < opcodes.len() {
-        opcode_word(opcodes, number, word)
+        match_opcode(opcodes, number, word)
     } else {
-        entry_word(&WORDS, number - opcodes.len(), word)
+        match_entry(&WORDS, number - opcodes.len(), word)
     }
 }
 
 /// The number of a row, where no row but this and the next one may have the word.
 /// `bench/word_places.py` makes the tables for it.
 #[inline]
-fn row_number(word: &[u8]) -> usize
+fn find_row(word: &[u8]) -> usize
     requires { 2 ≤ length word.now }
     ensures within { result + 1 < length table.all_words }
     ensures only { words.look_up table.all_words word.now
@@ -130,22 +130,22 @@ fn row_number(word: &[u8]) -> usize
 
 /// What a word is that stands in the tables.
 #[inline(always)]
-fn own_word(word: &[u8]) -> Option<Word>
+fn find_word(word: &[u8]) -> Option<Word>
     ensures { option_map seen_word result ≡ words.look_up table.all_words word.now }
 {
     if word.len() < 2 {
         return None;
     }
-    let number = row_number(word);
-    match word_at(number, word) {
+    let number = find_row(word);
+    match match_word(number, word) {
         Some(found) => Some(found),
-        None => word_at(number + 1, word),
+        None => match_word(number + 1, word),
     }
 }
 
 #[tactic(auto, unfolding(crate::specs::Words::entity_number))]
 /// The number that digits write, or `u64::MAX` where it is above that.
-fn entity_number(digits: &[u8]) -> u64
+fn parse_entity_number(digits: &[u8]) -> u64
     ensures { result ≡ words.entity_number digits.now }
 {
     let mut number: u64 = 0;
@@ -169,7 +169,7 @@ fn is_plain(digits: &[u8]) -> bool
 
 /// How many digits stand at the end.
 #[inline]
-fn digits_len(word: &[u8]) -> usize
+fn count_digits(word: &[u8]) -> usize
     ensures len { result ≡ words.digits_len word.now }
     ensures within { result ≤ length word.now }
 {
@@ -195,7 +195,7 @@ fn is_lanes(stem: &[u8]) -> bool
 }
 
 /// What the first row of the table that has the stem says that its words name.
-fn entity_in(table: &[Stem], stem: &[u8]) -> Option<Entity>
+fn find_entity_in(table: &[Stem], stem: &[u8]) -> Option<Entity>
     ensures { option_map (λ e. words.means (entity_class e) 0) result
         ≡ words.look_up (map stem_row table.now) stem.now }
 {
@@ -208,10 +208,10 @@ fn entity_in(table: &[Stem], stem: &[u8]) -> Option<Entity>
 }
 
 /// What the words name that a number makes of the stem.
-fn entity(stem: &[u8]) -> Option<Entity>
+fn find_entity(stem: &[u8]) -> Option<Entity>
     ensures { option_map (λ e. words.means (entity_class e) 0) result ≡ words.look_up words.stems stem.now }
 {
-    entity_in(&STEMS, stem)
+    find_entity_in(&STEMS, stem)
 }
 
 /// Whether the stem and a number begin another declaration.
@@ -223,17 +223,17 @@ fn is_refused(stem: &[u8]) -> bool
 
 /// What a word with a number behind it is.
 #[tactic(auto, unfolding(crate::specs::Words::numbered_meaning))]
-fn numbered_word(word: &[u8]) -> Word
+fn parse_numbered_word(word: &[u8]) -> Word
     ensures { seen_word result ≡ words.numbered_meaning word.now }
 {
-    let count = digits_len(word);
+    let count = count_digits(word);
     if count == 0 {
         return Word::Other;
     }
     let (stem, digits) = word.split_at(word.len() - count);
-    if let Some(entity) = entity(stem) {
+    if let Some(entity) = find_entity(stem) {
         return if is_plain(digits) {
-            Word::Entity(entity, entity_number(digits))
+            Word::Entity(entity, parse_entity_number(digits))
         } else {
             Word::Other
         };
@@ -249,7 +249,7 @@ fn numbered_word(word: &[u8]) -> Word
 
 /// The number of the value whose name is `v` and these digits, if they are at most 19.
 #[inline]
-fn value_number(digits: &[u8]) -> Option<u64>
+fn parse_value_number(digits: &[u8]) -> Option<u64>
     ensures { IfSome result (λ number. words.word_meaning (118 ∷ digits.now) ≡ words.means Value number) }
 {
     if digits.is_empty() || digits.len() > 19 || !is_plain(digits) {
@@ -267,11 +267,11 @@ fn value_number(digits: &[u8]) -> Option<u64>
 
 /// The number of the value that a word names, if it has at most 19 digits.
 #[inline]
-fn value_of(word: &[u8]) -> Option<u64>
+fn parse_value(word: &[u8]) -> Option<u64>
     ensures { IfSome result (λ number. words.word_meaning word.now ≡ words.means Value number) }
 {
     match word.split_first() {
-        Some((letter, digits)) if *letter == b'v' => value_number(digits),
+        Some((letter, digits)) if *letter == b'v' => parse_value_number(digits),
         _ => None,
     }
 }
@@ -282,15 +282,15 @@ fn value_of(word: &[u8]) -> Option<u64>
 pub fn word_meaning(word: &[u8]) -> Word
     ensures { seen_word result ≡ words.word_meaning word.now }
 {
-    match own_word(word) {
+    match find_word(word) {
         Some(found) => found,
-        None => numbered_word(word),
+        None => parse_numbered_word(word),
     }
 }
 
 /// The class of a mark, and what it is.
 #[inline(always)]
-fn mark(byte: u8) -> (Class, Terminal)
+fn classify_mark(byte: u8) -> (Class, Terminal)
     ensures { (seen result.1 ≡ words.means (spec.mark_class byte) 0) × (result.0 ≡ spec.mark_class byte) }
 {
     match byte {
@@ -312,7 +312,7 @@ fn mark(byte: u8) -> (Class, Terminal)
 
 /// The class of a number, and what it is.
 #[inline(always)]
-fn number(spelling: &[u8]) -> (Class, Terminal)
+fn classify_number(spelling: &[u8]) -> (Class, Terminal)
     ensures { (seen result.1 ≡ words.means (spec.number_class spelling.now) 0)
         × (result.0 ≡ spec.number_class spelling.now) }
 {
@@ -331,15 +331,15 @@ pub fn quick_terminal(kind: TokenKind, spelling: &[u8]) -> Option<(Class, Termin
     ensures word { result ≡ None → kind ≡ kinds.Word }
 {
     match kind {
-        TokenKind::Word => match value_of(spelling) {
+        TokenKind::Word => match parse_value(spelling) {
             Some(number) => Some((
                 Class::Value,
                 Terminal::Word(Word::Entity(Entity::Value, number)),
             )),
             None => None,
         },
-        TokenKind::Mark(byte) => Some(mark(byte)),
-        TokenKind::Number => Some(number(spelling)),
+        TokenKind::Mark(byte) => Some(classify_mark(byte)),
+        TokenKind::Number => Some(classify_number(spelling)),
         TokenKind::Header => Some((Class::Header, Terminal::Header)),
         TokenKind::Comment => Some((Class::Other, Terminal::Other)),
         TokenKind::Name => Some((Class::Name, Terminal::Name)),

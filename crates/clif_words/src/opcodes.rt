@@ -1,5 +1,5 @@
-//! The opcodes in one table, for reader, checker and printer: how each is spelled, the class of its form, and the opcode
-//! of its form with an immediate.
+//! The opcodes in one table, for reader, checker and printer: how each is spelled, the class of its form, and the
+//! opcode of its form with an immediate.
 
 ghost use Rattle.std.specs.Prelude.{◌≡◌, map};
 ghost use Rattle.clif_words.specs.declared.opcodes.OpcodeRow.{OpcodeRow};

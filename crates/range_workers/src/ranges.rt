@@ -70,8 +70,8 @@ fn read_range<T: Drop, P: Ranges<T>>(
 
 /// The items of a range, read by so many workers at once. None where anything else stands there, or memory runs
 /// out.
-#[cycle(shares)]
-fn read_shares<R: Threads + Sync, T: Drop + Send, P: Ranges<T>>(
+#[cycle(halves)]
+fn read_halves<R: Threads + Sync, T: Drop + Send, P: Ranges<T>>(
     rt: &R,
     alloc: Global,
     ranges: &P,
@@ -93,11 +93,11 @@ fn read_shares<R: Threads + Sync, T: Drop + Send, P: Ranges<T>>(
     let low = || -> Option<Vec<T>>
         requires { IsSync R.row × IsSync P.row × P.range ranges.now from middle }
         ensures { IfSome result (λ found. Follow (P.stand ranges.entry.now) from middle found.items) }
-    { read_shares(rt, alloc, ranges, from, middle, few, size) };
+    { read_halves(rt, alloc, ranges, from, middle, few, size) };
     let high = || -> Option<Vec<T>>
         requires { IsSync R.row × IsSync P.row × P.range ranges.now middle «end» }
         ensures { IfSome result (λ found. Follow (P.stand ranges.entry.now) middle «end» found.items) }
-    { read_shares(rt, alloc, ranges, middle, end, others, size) };
+    { read_halves(rt, alloc, ranges, middle, end, others, size) };
     let (front, rest) = join(rt, low, high);
     join_items(front?, rest?)
 }
@@ -116,7 +116,7 @@ pub fn read_by_workers<R: Threads + Sync, T: Drop + Send, P: Ranges<T>>(
     requires { P.range ranges.now from «end» }
     ensures { IfSome result (λ found. Follow (P.stand ranges.now) from «end» found.items) }
 {
-    read_shares(
+    read_halves(
         rt,
         alloc,
         ranges,

@@ -9,7 +9,7 @@ ghost use Rattle.clif_read.specs.Texts.{IsFaultOf, IsModuleText};
 ghost use Rattle.read_workers.specs.Ranges.{AreFunctions, IsFront, IsTextRange, with_functions};
 
 use clif_lex::{TextErr, TokenKind, Tokens, next_line_with, tokens_between};
-use clif_read::{RawFunction, RawModule, all_functions, read_text_alone, whole_module};
+use clif_read::{RawFunction, RawModule, read_all_functions, read_text_alone, read_whole_module};
 use ir_core::List;
 use range_workers::{Ranges, join_items, read_by_workers};
 use std::alloc::Global;
@@ -53,7 +53,7 @@ impl<'t> Ranges<RawFunction> for TextRanges<'t> {
             return None;
         };
         let mut reader = Reader::new(self.text, &tokens, 0);
-        all_functions(alloc, &mut reader)
+        read_all_functions(alloc, &mut reader)
     }
 
     ghost ordered = { λ ranges from to range. range.ordered };
@@ -94,14 +94,14 @@ pub fn read_front(alloc: Global, text: &[u8], end: usize) -> Option<RawModule>
         return None;
     }
     let mut reader = Reader::new(text, &tokens, 0);
-    match whole_module(alloc, &mut reader) {
+    match read_whole_module(alloc, &mut reader) {
         Ok(found) => Some(found),
         Err(_) => None,
     }
 }
 
 /// A module with further functions behind its own. None where memory runs out.
-pub(crate) fn extended(front: RawModule, more: Vec<RawFunction>) -> Option<RawModule>
+pub(crate) fn add_functions(front: RawModule, more: Vec<RawFunction>) -> Option<RawModule>
     ensures { IfSome result (λ found. found ≡ with_functions front more.items) }
 {
     let functions = join_items(front.functions.into_vec(), more)?;
@@ -125,7 +125,7 @@ pub fn read_text_ranges<R: Threads + Sync>(
     let front = read_front(alloc, text, end)?;
     let ranges = TextRanges { text };
     let rest = read_by_workers(rt, alloc, &ranges, end, text.len(), workers, size)?;
-    extended(front, rest)
+    add_functions(front, rest)
 }
 
 /// As `read_text`, by stretches of this size.

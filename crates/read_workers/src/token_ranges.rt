@@ -8,9 +8,9 @@ ghost use Rattle.clif_read.specs.Formed.{IsFormed};
 ghost use Rattle.read_workers.specs.Ranges.{AreListed, IsTokenRange};
 ghost use Rattle.clif_read.specs.Texts.{IsModule, Stopped};
 
-use crate::text_ranges::extended;
+use crate::text_ranges::add_functions;
 use clif_lex::{TextErr, Tokens};
-use clif_read::{RawFunction, RawModule, all_functions, read_raw_alone, whole_module};
+use clif_read::{RawFunction, RawModule, read_all_functions, read_raw_alone, read_whole_module};
 use range_workers::{Ranges, read_by_workers};
 use std::alloc::Global;
 use std::thread::Threads;
@@ -20,7 +20,7 @@ use token_reader::Reader;
 const STRETCH: usize = 16_384;
 
 /// The next place of a range of tokens at which the word `function` stands, or the range's end.
-fn next_function(text: &[u8], tokens: &Tokens, from: usize, end: usize) -> usize
+fn find_next_function(text: &[u8], tokens: &Tokens, from: usize, end: usize) -> usize
     requires { IsTokenRange text.now tokens.now from end }
     ensures before { IsTokenRange text.now tokens.now from result }
     ensures behind { IsTokenRange text.now tokens.now result end }
@@ -46,7 +46,7 @@ fn token_stretch_end(text: &[u8], tokens: &Tokens, from: usize, end: usize, size
     if end - from <= size {
         return end;
     }
-    next_function(text, tokens, from + size + 1, end)
+    find_next_function(text, tokens, from + size + 1, end)
 }
 
 /// A list of a text's tokens that is read range by range.
@@ -68,7 +68,7 @@ impl<'t> Ranges<RawFunction> for TokenRanges<'t> {
 
     fn read_stretch(&self, alloc: Global, from: usize, end: usize) -> Option<Vec<RawFunction>> {
         let mut reader = Reader::between(self.text, self.tokens, from, end);
-        all_functions(alloc, &mut reader)
+        read_all_functions(alloc, &mut reader)
     }
 
     ghost ordered = { λ ranges from to range. range.ordered };
@@ -80,7 +80,7 @@ fn read_front(alloc: Global, text: &[u8], tokens: &Tokens, end: usize) -> Option
     ensures { IfSome result (λ found. IsModule (lexemes text.now (slice_range tokens.now 0 «end»)) found) }
 {
     let mut reader = Reader::between(text, tokens, 0, end);
-    match whole_module(alloc, &mut reader) {
+    match read_whole_module(alloc, &mut reader) {
         Ok(found) => Some(found),
         Err(_) => None,
     }
@@ -100,11 +100,11 @@ pub fn read_token_ranges<R: Threads + Sync>(
     ensures { IfSome result (λ found. IsModule (lexemes text.now tokens.now) found) }
 {
     let end = tokens.len();
-    let first = next_function(text, tokens, 0, end);
+    let first = find_next_function(text, tokens, 0, end);
     let front = read_front(alloc, text, tokens, first)?;
     let ranges = TokenRanges { text, tokens };
     let rest = read_by_workers(rt, alloc, &ranges, first, end, workers, size)?;
-    extended(front, rest)
+    add_functions(front, rest)
 }
 
 /// As `read_raw`, by stretches of so many tokens.

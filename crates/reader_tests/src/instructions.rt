@@ -1,6 +1,6 @@
 //! What no clause says: that the definitions are what the text form of CLIF asks for, and that instructions are read.
 
-use clif_insts::{Opening, SyntaxErr, any_inst, inst};
+use clif_insts::{Opening, SyntaxErr, inst, read_inst};
 use clif_lex::tokens;
 use clif_words::{OPCODES, Opcode};
 use std::alloc::Global;
@@ -98,7 +98,7 @@ fn names_the_first_fault(rt: HostRuntime) {
 fn refusal(alloc: Global, text: &str, opening: Opening) -> Option<Stop> {
     let bytes = text.as_bytes();
     match tokens(alloc, bytes) {
-        Ok(list) => match any_inst(alloc, &mut Reader::new(bytes, &list, 0), opening) {
+        Ok(list) => match read_inst(alloc, &mut Reader::new(bytes, &list, 0), opening) {
             Ok(_) => None,
             Err(stop) => Some(stop),
         },
@@ -117,7 +117,7 @@ fn is_alone_between(alloc: Global, text: &str, from: usize, end: usize) -> Resul
         return Err(Stop::NoMemory);
     }
     let mut reader = Reader::between(bytes, &list, from, end);
-    any_inst(alloc, &mut reader, Opening::AfterResults)?;
+    read_inst(alloc, &mut reader, Opening::AfterResults)?;
     Ok(reader.is_at_end())
 }
 

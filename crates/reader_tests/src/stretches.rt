@@ -102,7 +102,7 @@ fn reads_in_token_ranges(rt: HostRuntime) -> Result<(), AllocError> {
     Ok(())
 }
 
-/// Whether a text is read by shares as one worker reads it.
+/// Whether a text is read by several workers as one reads it.
 fn is_read_alike<R: Threads + Sync>(rt: &R, alloc: Global, text: &str) -> bool {
     let Ok(list) = tokens(alloc, text.as_bytes()) else {
         return false;
@@ -120,7 +120,7 @@ fn is_read_alike<R: Threads + Sync>(rt: &R, alloc: Global, text: &str) -> bool {
 }
 
 #[test]
-fn reads_any_text_in_shares(rt: HostRuntime) {
+fn reads_any_text_by_workers(rt: HostRuntime) {
     for text in [
         "",
         "; nothing",
@@ -136,7 +136,7 @@ fn reads_any_text_in_shares(rt: HostRuntime) {
 }
 
 #[test]
-fn finds_the_first_fault_in_shares(rt: HostRuntime) -> Result<(), AllocError> {
+fn finds_the_first_fault_by_workers(rt: HostRuntime) -> Result<(), AllocError> {
     for (first, second, third) in [
         ("v1, v2 nop", "nop", "nop"),
         ("nop", "v1 = frob v0", "nop"),

@@ -8,7 +8,7 @@ ghost use Rattle.script_text.specs.Values.{trap_of};
 
 use crate::reader::Reader;
 use crate::terminal::Terminal;
-use crate::values::{payload, returned};
+use crate::values::{read_payload, read_returned};
 use clk_num::TrapCode;
 use host_script::Act;
 use ir_core::List;
@@ -29,7 +29,7 @@ fn trap_code_at(number: u64) -> TrapCode
 }
 
 #[tactic(auto, unfolding(crate::specs::Reading::trap_code_at))]
-fn trap_code(reader: &mut Reader<'_>) -> Result<TrapCode, Stop>
+fn read_trap_code(reader: &mut Reader<'_>) -> Result<TrapCode, Stop>
     ensures is { Gives same reader.new result (spec.trap_code_at reader.old) }
     ensures shorter { IfOk result (λ _. length reader.new < length reader.old) }
 {
@@ -44,38 +44,38 @@ fn trap_code(reader: &mut Reader<'_>) -> Result<TrapCode, Stop>
 
 /// `return(1, -2)`, or `return` alone.
 #[tactic(auto, unfolding(crate::specs::Reading::returns_at))]
-fn returns(alloc: Global, reader: &mut Reader<'_>) -> Result<Act, Stop>
+fn read_returns(alloc: Global, reader: &mut Reader<'_>) -> Result<Act, Stop>
     ensures is { Gives act_of reader.new result (spec.returns_at reader.old) }
     ensures shorter { IfOk result (λ _. length reader.new < length reader.old) }
 {
     reader.take(Terminal::Return)?;
-    let values = returned(alloc, reader)?;
+    let values = read_returned(alloc, reader)?;
     Ok(Act::Return(List::from_vec(values)))
 }
 
 /// `trap int_divz`.
 #[tactic(auto, unfolding(crate::specs::Reading::traps_at))]
-fn traps(reader: &mut Reader<'_>) -> Result<Act, Stop>
+fn read_traps(reader: &mut Reader<'_>) -> Result<Act, Stop>
     ensures is { Gives act_of reader.new result (spec.traps_at reader.old) }
     ensures shorter { IfOk result (λ _. length reader.new < length reader.old) }
 {
     reader.take(Terminal::Trap)?;
-    let code = trap_code(reader)?;
+    let code = read_trap_code(reader)?;
     Ok(Act::Trap(code))
 }
 
 /// `throw tag3(7, 8)`.
 #[tactic(auto, unfolding(crate::specs::Reading::throws_at))]
-fn throws(reader: &mut Reader<'_>) -> Result<Act, Stop>
+fn read_throws(reader: &mut Reader<'_>) -> Result<Act, Stop>
     ensures is { Gives act_of reader.new result (spec.throws_at reader.old) }
     ensures shorter { IfOk result (λ _. length reader.new < length reader.old) }
 {
     reader.take(Terminal::Throw)?;
     let tag = reader.take(Terminal::Tag)?;
     reader.take(Terminal::LeftParen)?;
-    let p0 = payload(reader)?;
+    let p0 = read_payload(reader)?;
     reader.take(Terminal::Comma)?;
-    let p1 = payload(reader)?;
+    let p1 = read_payload(reader)?;
     reader.take(Terminal::RightParen)?;
     Ok(Act::Throw {
         tag: tag.number as u32,
@@ -86,15 +86,15 @@ fn throws(reader: &mut Reader<'_>) -> Result<Act, Stop>
 
 /// What a reply does.
 #[tactic(auto, unfolding(crate::specs::Reading::act_at))]
-pub(crate) fn act(alloc: Global, reader: &mut Reader<'_>) -> Result<Act, Stop>
+pub(crate) fn read_act(alloc: Global, reader: &mut Reader<'_>) -> Result<Act, Stop>
     ensures is { Gives act_of reader.new result (spec.act_at reader.old) }
     ensures shorter { IfOk result (λ _. length reader.new < length reader.old) }
 {
     if reader.next_is(Terminal::Return) {
-        returns(alloc, reader)
+        read_returns(alloc, reader)
     } else if reader.next_is(Terminal::Trap) {
-        traps(reader)
+        read_traps(reader)
     } else {
-        throws(reader)
+        read_throws(reader)
     }
 }

@@ -8,7 +8,7 @@ ghost use Rattle.script_text.specs.Reading as spec;
 use crate::reader::Reader;
 use crate::terminal::Terminal;
 use std::alloc::Global;
-use token_reader::{Stop, one_item};
+use token_reader::{Stop, start_list};
 
 /// Items of a kind, which are read one by one.
 pub trait Items<T> {
@@ -21,13 +21,13 @@ pub trait Items<T> {
     ghost item_at: { Self → List Lexeme → Out Seen };
 
     /// Reads an item.
-    fn item(&self, alloc: Global, reader: &mut Reader<'_>) -> Result<T, Stop>
+    fn read_item(&self, alloc: Global, reader: &mut Reader<'_>) -> Result<T, Stop>
         ensures is { Gives seen reader.new result (item_at self.now reader.old) }
         ensures shorter { IfOk result (λ _. length reader.new < length reader.old) };
 }
 
 #[tactic(auto, unfolding(crate::specs::Reading::comma_at))]
-fn behind_comma<T, I: Items<T>>(
+fn read_next_item<T, I: Items<T>>(
     alloc: Global,
     reader: &mut Reader<'_>,
     items: &I,
@@ -36,11 +36,11 @@ fn behind_comma<T, I: Items<T>>(
     ensures shorter { IfOk result (λ _. length reader.new < length reader.old) }
 {
     reader.take(Terminal::Comma)?;
-    items.item(alloc, reader)
+    items.read_item(alloc, reader)
 }
 
 /// Items behind commas, after those in front.
-fn behind_commas<T: Drop, I: Items<T>>(
+fn read_more_items<T: Drop, I: Items<T>>(
     alloc: Global,
     reader: &mut Reader<'_>,
     items: &I,
@@ -52,7 +52,7 @@ fn behind_commas<T: Drop, I: Items<T>>(
 {
     let mut list = front;
     'list: while reader.next_is(Terminal::Comma) {
-        let item = behind_comma(alloc, reader, items)?;
+        let item = read_next_item(alloc, reader, items)?;
         list.push(item)?;
     }
     Ok(list)
@@ -60,7 +60,7 @@ fn behind_commas<T: Drop, I: Items<T>>(
 
 /// Items joined by commas, one at least.
 #[tactic(auto, unfolding(crate::specs::Reading::commas_at))]
-pub fn joined_by_commas<T: Drop, I: Items<T>>(
+pub fn read_items<T: Drop, I: Items<T>>(
     alloc: Global,
     reader: &mut Reader<'_>,
     items: &I,
@@ -68,14 +68,14 @@ pub fn joined_by_commas<T: Drop, I: Items<T>>(
     ensures is { Gives (λ x. map I.seen x.items) reader.new result (spec.commas_at (I.item_at items.now) reader.old) }
     ensures shorter { IfOk result (λ _. length reader.new < length reader.old) }
 {
-    let first = items.item(alloc, reader)?;
-    let front = one_item(alloc, first)?;
-    behind_commas(alloc, reader, items, front)
+    let first = items.read_item(alloc, reader)?;
+    let front = start_list(alloc, first)?;
+    read_more_items(alloc, reader, items, front)
 }
 
 /// Items joined by commas, between two tokens.
 #[tactic(auto, unfolding(crate::specs::Reading::between_at))]
-fn joined_between<T: Drop, I: Items<T>>(
+fn read_items_between<T: Drop, I: Items<T>>(
     alloc: Global,
     reader: &mut Reader<'_>,
     items: &I,
@@ -87,14 +87,14 @@ fn joined_between<T: Drop, I: Items<T>>(
     ensures shorter { IfOk result (λ _. length reader.new < length reader.old) }
 {
     reader.take(left)?;
-    let list = joined_by_commas(alloc, reader, items)?;
+    let list = read_items(alloc, reader, items)?;
     reader.take(right)?;
     Ok(list)
 }
 
 /// Items joined by commas, between two tokens, or none where the first of the two is missing.
 #[tactic(auto, unfolding(crate::specs::Reading::listed_at))]
-pub fn listed<T: Drop, I: Items<T>>(
+pub fn read_list<T: Drop, I: Items<T>>(
     alloc: Global,
     reader: &mut Reader<'_>,
     items: &I,
@@ -106,7 +106,7 @@ pub fn listed<T: Drop, I: Items<T>>(
     ensures shorter { IfOk result (λ _. length reader.new ≤ length reader.old) }
 {
     if reader.next_is(left) {
-        joined_between(alloc, reader, items, left, right)
+        read_items_between(alloc, reader, items, left, right)
     } else {
         Ok(Vec::new(alloc))
     }

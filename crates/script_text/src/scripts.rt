@@ -11,9 +11,9 @@ ghost use Rattle.script_text.specs.Scripts as spec;
 ghost use Rattle.script_text.specs.Values.{number_list_value, script_value};
 
 use crate::reader::Reader;
-use crate::replies::replies;
-use crate::symbols::lexed;
-use crate::values::numbers;
+use crate::replies::read_replies;
+use crate::symbols::lex_symbols;
+use crate::values::read_numbers;
 use host_script::{Reply, Script};
 use ir_core::List;
 use std::alloc::{AllocError, AllocFailed, Global};
@@ -72,20 +72,20 @@ fn error_at(stop: Stop, spot: usize) -> ScriptErr
 
 /// All of the tokens as replies.
 #[tactic(auto, unfolding(crate::specs::Reading::whole))]
-fn whole_script(alloc: Global, reader: &mut Reader<'_>) -> Result<Vec<Reply>, Stop>
+fn read_whole_script(alloc: Global, reader: &mut Reader<'_>) -> Result<Vec<Reply>, Stop>
     ensures { Gives (λ x. map reply_of x.items) reader.new result (reading.whole reading.script_at reader.old) }
 {
-    let replies = replies(alloc, reader)?;
+    let replies = read_replies(alloc, reader)?;
     reader.finish()?;
     Ok(replies)
 }
 
 /// All of the tokens as numbers.
 #[tactic(auto, unfolding(crate::specs::Reading::whole))]
-fn whole_list(alloc: Global, reader: &mut Reader<'_>) -> Result<Vec<i128>, Stop>
+fn read_whole_list(alloc: Global, reader: &mut Reader<'_>) -> Result<Vec<i128>, Stop>
     ensures { Gives (λ x. x.items) reader.new result (reading.whole reading.number_list_at reader.old) }
 {
-    let numbers = numbers(alloc, reader)?;
+    let numbers = read_numbers(alloc, reader)?;
     reader.finish()?;
     Ok(numbers)
 }
@@ -101,9 +101,9 @@ pub fn script(alloc: Global, text: &str) -> Result<Script, ScriptErr>
     ensures read { IfOk result (λ s. Reads grammar.script script_value text.now (replies_of s)) }
     ensures refused { IfErr result (Refuses grammar.script text.now) }
 {
-    let symbols = lexed(alloc, text.as_bytes())?;
+    let symbols = lex_symbols(alloc, text.as_bytes())?;
     let mut reader = Reader::new(symbols.as_slice());
-    match whole_script(alloc, &mut reader) {
+    match read_whole_script(alloc, &mut reader) {
         Ok(replies) => Ok(Script {
             replies: List::from_vec(replies),
         }),
@@ -121,9 +121,9 @@ pub fn number_list(alloc: Global, text: &str) -> Result<Vec<i128>, ScriptErr>
     ensures read { IfOk result (λ v. Reads grammar.number_list number_list_value text.now v.items) }
     ensures refused { IfErr result (Refuses grammar.number_list text.now) }
 {
-    let symbols = lexed(alloc, text.as_bytes())?;
+    let symbols = lex_symbols(alloc, text.as_bytes())?;
     let mut reader = Reader::new(symbols.as_slice());
-    match whole_list(alloc, &mut reader) {
+    match read_whole_list(alloc, &mut reader) {
         Ok(numbers) => Ok(numbers),
         Err(stop) => Err(error_at(stop, reader.spot_or(text.len()))),
     }

@@ -23,7 +23,7 @@ const MOST_USER: u64 = 65_535;
 const MOST_TAG: u64 = 4_294_967_294;
 
 /// A token of which nothing but its terminal counts.
-fn plain(terminal: Terminal, spot: usize) -> Symbol
+fn make_symbol(terminal: Terminal, spot: usize) -> Symbol
     ensures { spec.lexeme_of result ≡ spec.plain terminal spot }
 {
     Symbol {
@@ -39,7 +39,7 @@ fn user_trap(number: u64, spot: usize) -> Symbol
     ensures { spec.lexeme_of result ≡ spec.limited Terminal.UserTrap spec.most_user number spot }
 {
     if number > MOST_USER {
-        return plain(Terminal::Other, spot);
+        return make_symbol(Terminal::Other, spot);
     }
     Symbol {
         terminal: Terminal::UserTrap,
@@ -54,7 +54,7 @@ fn tag(number: u64, spot: usize) -> Symbol
     ensures { spec.lexeme_of result ≡ spec.limited Terminal.Tag spec.most_tag number spot }
 {
     if number > MOST_TAG {
-        return plain(Terminal::Other, spot);
+        return make_symbol(Terminal::Other, spot);
     }
     Symbol {
         terminal: Terminal::Tag,
@@ -69,8 +69,8 @@ fn clif_word(word: Word, spot: usize) -> Symbol
     ensures { spec.lexeme_of result ≡ spec.by_meaning (seen_word word) spot }
 {
     match word.class() {
-        Class::Return => plain(Terminal::Return, spot),
-        Class::Trap => plain(Terminal::Trap, spot),
+        Class::Return => make_symbol(Terminal::Return, spot),
+        Class::Trap => make_symbol(Terminal::Trap, spot),
         Class::TrapCode => Symbol {
             terminal: Terminal::TrapCode,
             number: word.number(),
@@ -79,7 +79,7 @@ fn clif_word(word: Word, spot: usize) -> Symbol
         },
         Class::UserTrap => user_trap(word.number(), spot),
         Class::Tag => tag(word.number(), spot),
-        _ => plain(Terminal::Other, spot),
+        _ => make_symbol(Terminal::Other, spot),
     }
 }
 
@@ -89,7 +89,7 @@ fn word(spelled: &[u8], spot: usize) -> Symbol
     ensures { spec.lexeme_of result ≡ spec.word spelled.now spot }
 {
     if spelled == b"throw".as_slice() {
-        plain(Terminal::Throw, spot)
+        make_symbol(Terminal::Throw, spot)
     } else {
         clif_word(word_meaning(spelled), spot)
     }
@@ -114,7 +114,7 @@ fn number(amount: i128, spot: usize) -> Symbol
     ensures { spec.lexeme_of result ≡ spec.number amount spot }
 {
     let Some(bits) = Bits::fit(Width::W64, amount) else {
-        return plain(Terminal::Other, spot);
+        return make_symbol(Terminal::Other, spot);
     };
     Symbol {
         terminal: number_terminal(amount),
@@ -149,8 +149,8 @@ fn symbol(text: &[u8], tokens: &Tokens, i: usize) -> Symbol
     match token.kind {
         TokenKind::Word => word(tokens.spelling(text, i), spot),
         TokenKind::Number => number(tokens.number(text, i), spot),
-        TokenKind::Mark(byte) => plain(mark_terminal(byte), spot),
-        _ => plain(Terminal::Other, spot),
+        TokenKind::Mark(byte) => make_symbol(mark_terminal(byte), spot),
+        _ => make_symbol(Terminal::Other, spot),
     }
 }
 
@@ -178,7 +178,7 @@ fn symbols_before(alloc: Global, text: &[u8], spot: usize) -> Result<Vec<Symbol>
         Err(LexErr::NoMemory) => return Err(ScriptErr::NoMemory),
         Err(LexErr::BadChar(_) | LexErr::BadNumber(_)) => Vec::new(alloc),
     };
-    symbols.push(plain(Terminal::Other, spot))?;
+    symbols.push(make_symbol(Terminal::Other, spot))?;
     Ok(symbols)
 }
 
@@ -186,7 +186,7 @@ fn symbols_before(alloc: Global, text: &[u8], spot: usize) -> Result<Vec<Symbol>
 /// It takes time and memory in proportion to the text.
 /// A text of 2^32 bytes or more is refused with NoMemory, since tokens keep their places in 32 bits.
 #[tactic(auto, unfolding(crate::specs::Lexed::lexed))]
-pub(crate) fn lexed(alloc: Global, text: &[u8]) -> Result<Vec<Symbol>, ScriptErr>
+pub(crate) fn lex_symbols(alloc: Global, text: &[u8]) -> Result<Vec<Symbol>, ScriptErr>
     ensures symbols { IfOk result (λ v. map spec.lexeme_of v.items ≡ lexed.lexed text.now) }
     ensures none { IfErr result (λ e. e ≡ NoMemory) }
 {

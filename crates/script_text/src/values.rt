@@ -5,7 +5,7 @@ ghost use Rattle.token_reader.specs.Reading.{Gives, same};
 ghost use Rattle.script_text.specs.Symbols.{lexeme_of};
 ghost use Rattle.script_text.specs.Reading as spec;
 
-use crate::commas::{Items, joined_by_commas, listed};
+use crate::commas::{Items, read_items, read_list};
 use crate::reader::Reader;
 use crate::symbol::Symbol;
 use crate::terminal::Terminal;
@@ -14,7 +14,7 @@ use token_reader::Stop;
 
 /// A number.
 #[tactic(auto, unfolding(crate::specs::Reading::number_at))]
-fn number(reader: &mut Reader<'_>) -> Result<Symbol, Stop>
+fn read_number(reader: &mut Reader<'_>) -> Result<Symbol, Stop>
     ensures is { Gives lexeme_of reader.new result (spec.number_at reader.old) }
     ensures shorter { IfOk result (λ _. length reader.new < length reader.old) }
 {
@@ -29,21 +29,21 @@ fn number(reader: &mut Reader<'_>) -> Result<Symbol, Stop>
 
 /// What a number is.
 #[tactic(auto, unfolding(crate::specs::Reading::value_at))]
-fn value(reader: &mut Reader<'_>) -> Result<i128, Stop>
+fn read_value(reader: &mut Reader<'_>) -> Result<i128, Stop>
     ensures is { Gives same reader.new result (spec.value_at reader.old) }
     ensures shorter { IfOk result (λ _. length reader.new < length reader.old) }
 {
-    let number = number(reader)?;
+    let number = read_number(reader)?;
     Ok(number.amount)
 }
 
 /// What a number is modulo 2^64, as a payload.
 #[tactic(auto, unfolding(crate::specs::Reading::payload_at))]
-pub(crate) fn payload(reader: &mut Reader<'_>) -> Result<u64, Stop>
+pub(crate) fn read_payload(reader: &mut Reader<'_>) -> Result<u64, Stop>
     ensures is { Gives same reader.new result (spec.payload_at reader.old) }
     ensures shorter { IfOk result (λ _. length reader.new < length reader.old) }
 {
-    let number = number(reader)?;
+    let number = read_number(reader)?;
     Ok(number.number)
 }
 
@@ -56,18 +56,18 @@ impl Items<i128> for ValueItems {
 
     ghost item_at = { λ _. spec.value_at };
 
-    fn item(&self, _alloc: Global, reader: &mut Reader<'_>) -> Result<i128, Stop> {
-        value(reader)
+    fn read_item(&self, _alloc: Global, reader: &mut Reader<'_>) -> Result<i128, Stop> {
+        read_value(reader)
     }
 }
 
 /// The values of a `return`, which are none where no `(` follows.
-pub(crate) fn returned(alloc: Global, reader: &mut Reader<'_>) -> Result<Vec<i128>, Stop>
+pub(crate) fn read_returned(alloc: Global, reader: &mut Reader<'_>) -> Result<Vec<i128>, Stop>
     ensures is { Gives (λ x. x.items) reader.new result
         (spec.listed_at Terminal.LeftParen Terminal.RightParen spec.value_at reader.old) }
     ensures shorter { IfOk result (λ _. length reader.new ≤ length reader.old) }
 {
-    listed(
+    read_list(
         alloc,
         reader,
         &ValueItems,
@@ -78,11 +78,11 @@ pub(crate) fn returned(alloc: Global, reader: &mut Reader<'_>) -> Result<Vec<i12
 
 /// Numbers joined by commas, or none.
 #[tactic(auto, unfolding(crate::specs::Reading::number_list_at))]
-pub(crate) fn numbers(alloc: Global, reader: &mut Reader<'_>) -> Result<Vec<i128>, Stop>
+pub(crate) fn read_numbers(alloc: Global, reader: &mut Reader<'_>) -> Result<Vec<i128>, Stop>
     ensures { Gives (λ x. x.items) reader.new result (spec.number_list_at reader.old) }
 {
     if reader.next_is_number() {
-        joined_by_commas(alloc, reader, &ValueItems)
+        read_items(alloc, reader, &ValueItems)
     } else {
         Ok(Vec::new(alloc))
     }

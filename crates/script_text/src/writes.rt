@@ -5,7 +5,7 @@ ghost use Rattle.token_reader.specs.Reading.{Gives, same};
 ghost use Rattle.script_text.specs.Symbols.{lexeme_of};
 ghost use Rattle.script_text.specs.Reading as spec;
 
-use crate::commas::{Items, listed};
+use crate::commas::{Items, read_list};
 use crate::reader::Reader;
 use crate::symbol::Symbol;
 use crate::terminal::Terminal;
@@ -14,7 +14,7 @@ use token_reader::Stop;
 
 /// A number that is not negative.
 #[tactic(auto, unfolding(crate::specs::Reading::address_at))]
-fn address(reader: &mut Reader<'_>) -> Result<Symbol, Stop>
+fn read_address(reader: &mut Reader<'_>) -> Result<Symbol, Stop>
     ensures is { Gives lexeme_of reader.new result (spec.address_at reader.old) }
     ensures shorter { IfOk result (λ _. length reader.new < length reader.old) }
 {
@@ -27,11 +27,11 @@ fn address(reader: &mut Reader<'_>) -> Result<Symbol, Stop>
 
 /// An address and a byte, as `16: 255`.
 #[tactic(auto, unfolding(crate::specs::Reading::write_at))]
-fn write(reader: &mut Reader<'_>) -> Result<(u64, u8), Stop>
+fn read_written_byte(reader: &mut Reader<'_>) -> Result<(u64, u8), Stop>
     ensures is { Gives same reader.new result (spec.write_at reader.old) }
     ensures shorter { IfOk result (λ _. length reader.new < length reader.old) }
 {
-    let address = address(reader)?;
+    let address = read_address(reader)?;
     reader.take(Terminal::Colon)?;
     let byte = reader.take(Terminal::Byte)?;
     Ok((address.number, byte.number as u8))
@@ -46,18 +46,21 @@ impl Items<(u64, u8)> for WriteItems {
 
     ghost item_at = { λ _. spec.write_at };
 
-    fn item(&self, _alloc: Global, reader: &mut Reader<'_>) -> Result<(u64, u8), Stop> {
-        write(reader)
+    fn read_item(&self, _alloc: Global, reader: &mut Reader<'_>) -> Result<(u64, u8), Stop> {
+        read_written_byte(reader)
     }
 }
 
 /// The writes of a reply, which are none where no `[` follows.
-pub(crate) fn writes(alloc: Global, reader: &mut Reader<'_>) -> Result<Vec<(u64, u8)>, Stop>
+pub(crate) fn read_written_bytes(
+    alloc: Global,
+    reader: &mut Reader<'_>,
+) -> Result<Vec<(u64, u8)>, Stop>
     ensures is { Gives (λ x. x.items) reader.new result
         (spec.listed_at Terminal.LeftBracket Terminal.RightBracket spec.write_at reader.old) }
     ensures shorter { IfOk result (λ _. length reader.new ≤ length reader.old) }
 {
-    listed(
+    read_list(
         alloc,
         reader,
         &WriteItems,

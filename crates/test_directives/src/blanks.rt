@@ -50,7 +50,7 @@ fn trim_end(text: &[u8]) -> &[u8]
 }
 
 /// The text without the blanks at both ends.
-pub(crate) fn trimmed(text: &[u8]) -> &[u8]
+pub(crate) fn trim(text: &[u8]) -> &[u8]
     ensures { result.now ≡ spec.trimmed text.now }
 {
     trim_end(trim_front(text))

@@ -3,7 +3,7 @@ ghost use Rattle.std.specs.Prelude.{◌≡◌, if◌then◌else◌, option_map, 
 ghost use Rattle.test_directives.specs.Directives as spec;
 ghost use Rattle.test_directives.specs.Views as views;
 
-use crate::blanks::{behind, trim_front, trimmed};
+use crate::blanks::{behind, trim, trim_front};
 use crate::directives::{Directive, LineCheck, LineTest};
 use crate::runs::run_of;
 use crate::values::script_of;
@@ -38,7 +38,7 @@ fn host_of(alloc: Global, text: &[u8]) -> Result<Option<Directive>, AllocError>
 }
 
 /// A copy of a text.
-fn copied(alloc: Global, text: &[u8]) -> Result<List<u8>, AllocError>
+fn copy_bytes(alloc: Global, text: &[u8]) -> Result<List<u8>, AllocError>
     ensures { IfOk result (λ copy. copy ≡ text.now) }
 {
     Ok(List::from_vec(Vec::from_slice(alloc, text)?))
@@ -49,11 +49,11 @@ fn lines_of(alloc: Global, check: LineCheck, text: &[u8]) -> Result<Option<Direc
     ensures { IfOk result (λ lines. option_map views.directive_of lines
         ≡ spec.lines_of (views.line_test_by check) text.now) }
 {
-    let text = trimmed(text);
+    let text = trim(text);
     if text.is_empty() || text.contains(&b'$') {
         return Ok(None);
     }
-    let text = copied(alloc, text)?;
+    let text = copy_bytes(alloc, text)?;
     Ok(Some(Directive::Line(LineTest { check, text })))
 }
 
@@ -79,7 +79,7 @@ pub(crate) fn comment_of(alloc: Global, comment: &[u8]) -> Result<Comment, Alloc
     } else if let Some(text) = behind(text, b"host:".as_slice()) {
         Ok(or_bad(host_of(alloc, text)?))
     } else if let Some(text) = behind(text, b"trace:".as_slice()) {
-        Ok(Comment::Asks(Directive::Trace(copied(alloc, trimmed(text))?)))
+        Ok(Comment::Asks(Directive::Trace(copy_bytes(alloc, trim(text))?)))
     } else if let Some(text) = behind(text, b"check:".as_slice()) {
         Ok(or_bad(lines_of(alloc, LineCheck::Check, text)?))
     } else if let Some(text) = behind(text, b"nextln:".as_slice()) {

@@ -6,7 +6,7 @@ ghost use Rattle.test_directives.specs.Directives as spec;
 ghost use Rattle.test_directives.specs.Names as spec_names;
 
 use clif_lex::{LexErr, Tokens, tokens};
-use clif_read::{RawFuncName, RawFunction, func_name};
+use clif_read::{RawFuncName, RawFunction, read_func_name};
 use indexmap::IndexMap;
 use ir_core::List;
 use std::alloc::{AllocError, Global};
@@ -79,7 +79,7 @@ fn name_by(alloc: Global, text: &[u8], tokens: &Tokens) -> Result<Option<List<u8
     ensures { IfOk result (λ name. name ≡ spec.name_by text.now tokens.now) }
 {
     let mut reader = Reader::new(text, tokens, 0);
-    match func_name(alloc, &mut reader) {
+    match read_func_name(alloc, &mut reader) {
         Ok(name) => {
             if reader.is_at_end() {
                 Ok(Some(spelled_name(alloc, &name)?))

@@ -3,13 +3,13 @@ ghost use Rattle.std.specs.Prelude.{◌≡◌, ◌≤◌, drop, length, map, nat
 ghost use Rattle.std.specs.List.{prefix_len};
 ghost use Rattle.clif_lex.specs.Places.{line_at};
 ghost use Rattle.clif_lex.specs.Spelling.{StandFrom};
-ghost use Rattle.clif_words.specs.Lexemes.{is_comment};
 ghost use Rattle.test_directives.specs.Tests as tests;
 ghost use Rattle.test_directives.specs.Placing as spec;
 
-use clif_lex::{TokenKind, Tokens, spelling};
+use clif_lex::{Tokens, spelling};
 use std::alloc::{AllocError, Global};
 use std::marker::Model;
+use token_reader::is_comment;
 
 /// Counts the lines of a text from the front to the back.
 #[derive(Drop)]
@@ -62,13 +62,6 @@ fn line_feeds(bytes: &[u8]) -> usize
     ensures within { result ≤ length bytes.now }
 {
     bytes.iter().filter(|c| **c == b'\n').count()
-}
-
-/// Whether a token is a comment.
-fn is_comment(kind: TokenKind) -> bool
-    ensures { result ≡ is_comment kind }
-{
-    matches!(kind, TokenKind::Comment)
 }
 
 /// A comment with its place.

@@ -5,7 +5,7 @@ ghost use Rattle.grammar.specs.Rules.{Lexeme, Out};
 ghost use Rattle.token_reader.specs.Reading.{Gives, same};
 ghost use Rattle.token_reader.specs.Reading as spec;
 
-use crate::lists::item_in_room;
+use crate::lists::start_list_in_room;
 use crate::reader::Reader;
 use crate::stop::Stop;
 use clif_words::Class;
@@ -17,14 +17,14 @@ pub trait Items<T> {
     ghost item_at: { Self → List Lexeme → Out T };
 
     /// Reads an item.
-    fn item(&self, alloc: Global, reader: &mut Reader<'_>) -> Result<T, Stop>
+    fn read_item(&self, alloc: Global, reader: &mut Reader<'_>) -> Result<T, Stop>
         ensures is { Gives same reader.new result (item_at self.now reader.old) }
         ensures shorter { IfOk result (λ _. length reader.new < length reader.old) };
 }
 
 #[tactic(auto, unfolding(crate::specs::Reading::comma_at))]
 #[inline]
-fn behind_comma<T, I: Items<T>>(
+fn read_next_item<T, I: Items<T>>(
     alloc: Global,
     reader: &mut Reader<'_>,
     items: &I,
@@ -33,11 +33,11 @@ fn behind_comma<T, I: Items<T>>(
     ensures shorter { IfOk result (λ _. length reader.new < length reader.old) }
 {
     reader.take(Class::Comma)?;
-    items.item(alloc, reader)
+    items.read_item(alloc, reader)
 }
 
 /// Items behind commas, after those in front.
-pub fn behind_commas<T: Drop, I: Items<T>>(
+pub fn read_more_items<T: Drop, I: Items<T>>(
     alloc: Global,
     reader: &mut Reader<'_>,
     items: &I,
@@ -48,7 +48,7 @@ pub fn behind_commas<T: Drop, I: Items<T>>(
 {
     let mut list = front;
     'list: while reader.next_is(Class::Comma) {
-        let item = behind_comma(alloc, reader, items)?;
+        let item = read_next_item(alloc, reader, items)?;
         list.push(item)?;
     }
     Ok(list)
@@ -56,7 +56,7 @@ pub fn behind_commas<T: Drop, I: Items<T>>(
 
 /// Items joined by commas, one at least.
 #[tactic(auto, unfolding(crate::specs::Reading::commas_at))]
-pub fn joined_by_commas<T: Drop, I: Items<T>>(
+pub fn read_items<T: Drop, I: Items<T>>(
     alloc: Global,
     reader: &mut Reader<'_>,
     items: &I,
@@ -64,8 +64,8 @@ pub fn joined_by_commas<T: Drop, I: Items<T>>(
     ensures is { Gives (λ x. x.items) reader.new result (spec.commas_at (I.item_at items.now) reader.old) }
     ensures shorter { IfOk result (λ _. length reader.new < length reader.old) }
 {
-    let first = items.item(alloc, reader)?;
+    let first = items.read_item(alloc, reader)?;
     let room = if reader.next_is(Class::Comma) { 2 } else { 1 };
-    let front = item_in_room(alloc, first, room)?;
-    behind_commas(alloc, reader, items, front)
+    let front = start_list_in_room(alloc, first, room)?;
+    read_more_items(alloc, reader, items, front)
 }

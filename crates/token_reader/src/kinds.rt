@@ -10,7 +10,7 @@ use clif_words::{Terminal, Word};
 
 /// Whether a token is a comment.
 #[inline]
-pub(crate) fn is_comment(kind: TokenKind) -> bool
+pub fn is_comment(kind: TokenKind) -> bool
     ensures { result ≡ lexeme_specs.is_comment kind }
 {
     matches!(kind, TokenKind::Comment)
@@ -26,7 +26,7 @@ pub(crate) fn is_number(kind: TokenKind) -> bool
 
 /// What stands behind the first byte.
 #[inline]
-fn behind_first(spelling: &[u8]) -> &[u8]
+fn skip_first(spelling: &[u8]) -> &[u8]
     ensures { result.now ≡ drop 1 spelling.now }
 {
     match spelling.split_first() {
@@ -37,18 +37,18 @@ fn behind_first(spelling: &[u8]) -> &[u8]
 
 /// What a token with this spelling spells as a name, without its `%`, or nothing where it is none.
 #[inline]
-pub(crate) fn name_of(kind: TokenKind, spelling: &[u8]) -> &[u8]
+pub(crate) fn strip_mark(kind: TokenKind, spelling: &[u8]) -> &[u8]
     ensures { result.now ≡ lexeme_specs.name_of kind spelling.now }
 {
     match kind {
-        TokenKind::Name => behind_first(spelling),
+        TokenKind::Name => skip_first(spelling),
         _ => &[],
     }
 }
 
 /// Which of its class the next token is, a word that names no entity.
 #[inline(never)]
-fn other_number(next: &Next) -> u64
+fn parse_other_number(next: &Next) -> u64
     ensures { result ≡ (seen next.now.terminal).number }
 {
     next.terminal.number()
@@ -57,12 +57,12 @@ fn other_number(next: &Next) -> u64
 /// The number in the word of an entity; of another token, which of its class it is.
 /// The terminal is only looked at: for a call that takes it by value it would be copied first.
 #[inline]
-pub(crate) fn number_of(next: &Next) -> u64
+pub(crate) fn parse_number(next: &Next) -> u64
     ensures { result ≡ (seen next.now.terminal).number }
 {
     match next.terminal {
         Terminal::Word(Word::Entity(_, number)) => number,
-        Terminal::Word(_) => other_number(next),
+        Terminal::Word(_) => parse_other_number(next),
         _ => 0,
     }
 }

@@ -10,10 +10,11 @@ mod reader;
 mod stop;
 mod types;
 
-pub use commas::{Items, behind_commas, joined_by_commas};
-pub use lists::{item_in_room, one_item};
-pub use numbers::{number, offset};
+pub use commas::{Items, read_items, read_more_items};
+pub use kinds::is_comment;
+pub use lists::{start_list, start_list_in_room};
+pub use numbers::{read_number, read_offset};
 pub use raw::{RawName, RawNumber, RawOpcode, RawText};
 pub use reader::Reader;
 pub use stop::Stop;
-pub use types::{any_type, opt_suffix, opt_suffix_i64, suffix, suffix_i64};
+pub use types::{read_i64_suffix, read_opt_i64_suffix, read_opt_suffix, read_suffix, read_type};

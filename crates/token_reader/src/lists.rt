@@ -7,16 +7,16 @@ use crate::stop::Stop;
 use std::alloc::Global;
 
 /// The list of this item alone, in a block for one: most lists of a text get no second item.
-pub fn one_item<T: Drop>(alloc: Global, item: T) -> Result<Vec<T>, Stop>
+pub fn start_list<T: Drop>(alloc: Global, item: T) -> Result<Vec<T>, Stop>
     ensures some { IfOk result (λ list. list.items ≡ item ∷ []) }
     ensures none { IfErr result (λ e. e ≡ NoMemory) }
 {
-    item_in_room(alloc, item, 1)
+    start_list_in_room(alloc, item, 1)
 }
 
 /// The list of this item alone, in a block for so many.
 #[inline]
-pub fn item_in_room<T: Drop>(alloc: Global, item: T, room: usize) -> Result<Vec<T>, Stop>
+pub fn start_list_in_room<T: Drop>(alloc: Global, item: T, room: usize) -> Result<Vec<T>, Stop>
     ensures some { IfOk result (λ list. list.items ≡ item ∷ []) }
     ensures none { IfErr result (λ e. e ≡ NoMemory) }
 {

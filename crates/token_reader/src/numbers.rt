@@ -14,7 +14,7 @@ use std::alloc::Global;
 
 /// A number.
 #[tactic(auto, unfolding(crate::specs::Numbers::number_at))]
-pub fn number(reader: &mut Reader<'_>) -> Result<RawNumber, Stop>
+pub fn read_number(reader: &mut Reader<'_>) -> Result<RawNumber, Stop>
     ensures is { Gives same reader.new result (spec.number_at reader.old) }
     ensures no_memory { IfErr result (λ e. e ≢ NoMemory) }
     ensures shorter { IfOk result (λ _. length reader.new < length reader.old) }
@@ -28,7 +28,7 @@ pub fn number(reader: &mut Reader<'_>) -> Result<RawNumber, Stop>
 
 /// An offset, if there is one, behind a pointer: so an instruction is no larger for it.
 #[tactic(auto, unfolding(crate::specs::Numbers::offset_at))]
-pub fn offset(alloc: Global, reader: &mut Reader<'_>) -> Result<Option<Boxed<RawNumber>>, Stop>
+pub fn read_offset(alloc: Global, reader: &mut Reader<'_>) -> Result<Option<Boxed<RawNumber>>, Stop>
     ensures is { Gives same reader.new result (spec.offset_at reader.old) }
     ensures shorter { IfOk result (λ _. length reader.new ≤ length reader.old) }
 {

@@ -17,7 +17,7 @@ ghost use Rattle.token_reader.specs.Reading as spec;
 ghost use Rattle.token_reader.specs.Reading.{Gives, same};
 ghost use Rattle.token_reader.specs.Shown.{IsOf, Shows};
 
-use crate::kinds::{is_comment, is_number, name_of, number_of};
+use crate::kinds::{is_comment, is_number, parse_number, strip_mark};
 use crate::raw::{RawName, RawNumber, RawOpcode, RawText};
 use crate::stop::Stop;
 use clif_lex::{TokenKind, Tokens};
@@ -271,7 +271,7 @@ impl<'a> Reader<'a> {
         ensures { (x : Lexeme) (xs : List Lexeme) → self.now ≡ x ∷ xs → result ≡ spec.name x }
     {
         RawName {
-            number: number_of(&self.next),
+            number: parse_number(&self.next),
             spot: self.next.spot,
         }
     }
@@ -308,7 +308,7 @@ impl<'a> Reader<'a> {
         ensures none { IfErr result (λ e. e ≡ NoMemory) }
     {
         let token = self.tokens.get(self.next.at);
-        let bytes = name_of(token.kind, self.tokens.spelling(self.text, self.next.at));
+        let bytes = strip_mark(token.kind, self.tokens.spelling(self.text, self.next.at));
         Ok(RawText {
             bytes: List::from_vec(Vec::from_slice(alloc, bytes)?),
             spot: token.start,

@@ -13,7 +13,7 @@ use ir_core::Ty;
 
 /// A type.
 #[tactic(auto, unfolding(crate::specs::Types::type_at, crate::specs::Reading::name_at))]
-pub fn any_type(reader: &mut Reader<'_>) -> Result<Ty, Stop>
+pub fn read_type(reader: &mut Reader<'_>) -> Result<Ty, Stop>
     ensures is { Gives same reader.new result (spec.type_at reader.old) }
     ensures no_memory { IfErr result (λ e. e ≢ NoMemory) }
     ensures shorter { IfOk result (λ _. length reader.new < length reader.old) }
@@ -30,24 +30,24 @@ pub fn any_type(reader: &mut Reader<'_>) -> Result<Ty, Stop>
 
 /// `.T`
 #[tactic(auto, unfolding(crate::specs::Types::suffix_at))]
-pub fn suffix(reader: &mut Reader<'_>) -> Result<Ty, Stop>
+pub fn read_suffix(reader: &mut Reader<'_>) -> Result<Ty, Stop>
     ensures is { Gives same reader.new result (spec.suffix_at reader.old) }
     ensures no_memory { IfErr result (λ e. e ≢ NoMemory) }
     ensures shorter { IfOk result (λ _. length reader.new < length reader.old) }
 {
     reader.take(Class::Dot)?;
-    any_type(reader)
+    read_type(reader)
 }
 
 /// `[.T]`
 #[tactic(auto, unfolding(crate::specs::Types::opt_suffix_at))]
-pub fn opt_suffix(reader: &mut Reader<'_>) -> Result<Option<Ty>, Stop>
+pub fn read_opt_suffix(reader: &mut Reader<'_>) -> Result<Option<Ty>, Stop>
     ensures is { Gives same reader.new result (spec.opt_suffix_at reader.old) }
     ensures no_memory { IfErr result (λ e. e ≢ NoMemory) }
     ensures shorter { IfOk result (λ _. length reader.new ≤ length reader.old) }
 {
     if reader.next_is(Class::Dot) {
-        Ok(Some(suffix(reader)?))
+        Ok(Some(read_suffix(reader)?))
     } else {
         Ok(None)
     }
@@ -55,7 +55,7 @@ pub fn opt_suffix(reader: &mut Reader<'_>) -> Result<Option<Ty>, Stop>
 
 /// `i64`, and no other type.
 #[tactic(auto, unfolding(crate::specs::Types::i64_at))]
-pub fn i64_type(reader: &mut Reader<'_>) -> Result<RawName, Stop>
+pub fn read_i64(reader: &mut Reader<'_>) -> Result<RawName, Stop>
     ensures is { Gives same reader.new result (spec.i64_at reader.old) }
     ensures no_memory { IfErr result (λ e. e ≢ NoMemory) }
     ensures shorter { IfOk result (λ _. length reader.new < length reader.old) }
@@ -73,24 +73,24 @@ pub fn i64_type(reader: &mut Reader<'_>) -> Result<RawName, Stop>
 
 /// `.i64`
 #[tactic(auto, unfolding(crate::specs::Types::suffix_i64_at))]
-pub fn suffix_i64(reader: &mut Reader<'_>) -> Result<RawName, Stop>
+pub fn read_i64_suffix(reader: &mut Reader<'_>) -> Result<RawName, Stop>
     ensures is { Gives same reader.new result (spec.suffix_i64_at reader.old) }
     ensures no_memory { IfErr result (λ e. e ≢ NoMemory) }
     ensures shorter { IfOk result (λ _. length reader.new < length reader.old) }
 {
     reader.take(Class::Dot)?;
-    i64_type(reader)
+    read_i64(reader)
 }
 
 /// `[.i64]`
 #[tactic(auto, unfolding(crate::specs::Types::opt_suffix_i64_at))]
-pub fn opt_suffix_i64(reader: &mut Reader<'_>) -> Result<Option<RawName>, Stop>
+pub fn read_opt_i64_suffix(reader: &mut Reader<'_>) -> Result<Option<RawName>, Stop>
     ensures is { Gives same reader.new result (spec.opt_suffix_i64_at reader.old) }
     ensures no_memory { IfErr result (λ e. e ≢ NoMemory) }
     ensures shorter { IfOk result (λ _. length reader.new ≤ length reader.old) }
 {
     if reader.next_is(Class::Dot) {
-        Ok(Some(suffix_i64(reader)?))
+        Ok(Some(read_i64_suffix(reader)?))
     } else {
         Ok(None)
     }

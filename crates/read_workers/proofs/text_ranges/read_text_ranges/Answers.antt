@@ -9,6 +9,6 @@ returns g c =
     let text = c.args.text.now in
     let «end» = c.front_end-end.result in
     let rest = c.in_ok-rest.ensures «end» [] (no_functions text «end» c.front_end-end.ensures) in
-    IfSome_then c.extended.result c.extended.ensures
+    IfSome_then c.add_functions.result c.add_functions.ensures
     (λ found e. subst (IsModuleText text) (sym e)
     (whole_text text «end» c.in_ok-front.front c.in_ok-rest.rest.items c.front_end-end.ensures c.in_ok-front.ensures rest))

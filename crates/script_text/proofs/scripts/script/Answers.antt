@@ -17,11 +17,11 @@ returns-in-Ok-clause-read c =
     let tokens : c.new-reader.result ≡ lexed c.args.text.now =
     c.new-reader.ensures ∙ (ap (map lexeme_of) c.as_slice.ensures.value ∙ (c.in_ok-symbols.ensures.symbols ∙ ap lexed c.as_bytes.ensures.value)) in
     subst (λ replies. Reads grammar.script script_value c.args.text.now (map reply_of replies)) (sym c.from_vec.ensures)
-    (reads script_is script_is_good c.args.text.now (map reply_of c.in-Ok.replies.items) c.whole_script.new.reader (ap (whole script_at) (sym tokens) ∙ c.in-Ok.ensures))
+    (reads script_is script_is_good c.args.text.now (map reply_of c.in-Ok.replies.items) c.read_whole_script.new.reader (ap (whole script_at) (sym tokens) ∙ c.in-Ok.ensures))
 
 pub returns-clause-refused : goal.returns-clause-refused
 returns-clause-refused c =
     let tokens : c.new-reader.result ≡ lexed c.args.text.now =
     c.new-reader.ensures ∙ (ap (map lexeme_of) c.as_slice.ensures.value ∙ (c.in_ok-symbols.ensures.symbols ∙ ap lexed c.as_bytes.ensures.value)) in
     rw (c.error_at.ensures, c.spot_or.ensures)
-    (refuses script_is script_is_good c.args.text.now c.in-Err.stop c.whole_script.new.reader (subst (λ ts. Stops c.whole_script.new.reader c.in-Err.stop (whole script_at ts)) tokens c.in-Err.ensures))
+    (refuses script_is script_is_good c.args.text.now c.in-Err.stop c.read_whole_script.new.reader (subst (λ ts. Stops c.read_whole_script.new.reader c.in-Err.stop (whole script_at ts)) tokens c.in-Err.ensures))

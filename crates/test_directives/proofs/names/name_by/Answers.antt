@@ -25,13 +25,13 @@ pub returns-then-is_at_end : goal.returns-then-is_at_end
 returns-then-is_at_end c =
     let e = ap func_name_at (sym c.new-reader.ensures) ∙ c.in-Ok.ensures.is in
     let left = not_true _ (sym c.is_at_end.ensures ∙ c.if-is_at_end.true) in
-    ap (λ (n : List ℕ). Some n) c.in_ok-spelled_name-in-Ok.ensures ∙ sym (name_read c.args.text.now c.args.tokens.now c.in-Ok.name c.func_name.new.reader false e left)
+    ap (λ (n : List ℕ). Some n) c.in_ok-spelled_name-in-Ok.ensures ∙ sym (name_read c.args.text.now c.args.tokens.now c.in-Ok.name c.read_func_name.new.reader false e left)
 
 pub returns-in-Ok : goal.returns-in-Ok
 returns-in-Ok c =
     let e = ap func_name_at (sym c.new-reader.ensures) ∙ c.in-Ok.ensures.is in
     let left = not_false _ (sym c.is_at_end.ensures ∙ c.if-is_at_end.false) in
-    sym (name_read c.args.text.now c.args.tokens.now c.in-Ok.name c.func_name.new.reader true e left)
+    sym (name_read c.args.text.now c.args.tokens.now c.in-Ok.name c.read_func_name.new.reader true e left)
 
 by_stop : {E : Type 0} (text : List ℕ) (ts : List Token) (now : List Lexeme) (stop : Stop) (r : Result (Option (List ℕ)) E) → Stops now stop (func_name_at (lexemes text ts))
     → IfOk r (λ n. n ≡ None) → IfOk r (λ n. stop ≡ stops.NoMemory → ⊥) → IfOk r (λ n. n ≡ name_by text ts)
@@ -40,5 +40,5 @@ by_stop text ts now stop (Err d) e none some = tt
 
 pub returns : goal.returns
 returns c =
-    by_stop c.args.text.now c.args.tokens.now c.func_name.new.reader c.in-Err.stop c.no_name.result
-    (subst (λ (l : List Lexeme). Stops c.func_name.new.reader c.in-Err.stop (func_name_at l)) c.new-reader.ensures c.in-Err.ensures.is) c.no_name.ensures.none c.no_name.ensures.stop
+    by_stop c.args.text.now c.args.tokens.now c.read_func_name.new.reader c.in-Err.stop c.no_name.result
+    (subst (λ (l : List Lexeme). Stops c.read_func_name.new.reader c.in-Err.stop (func_name_at l)) c.new-reader.ensures c.in-Err.ensures.is) c.no_name.ensures.none c.no_name.ensures.stop

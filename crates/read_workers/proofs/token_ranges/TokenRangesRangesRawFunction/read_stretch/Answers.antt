@@ -7,5 +7,5 @@ use Rattle.read_workers.proofs.token_ranges.TokenRangesRangesRawFunction.read_st
 pub returns : goal.returns
 returns c =
     let ranges = c.args.self.now in
-    IfSome_then c.all_functions.result c.all_functions.ensures
+    IfSome_then c.read_all_functions.result c.read_all_functions.ensures
     (λ found f. token_range_follows ranges.text.now ranges.tokens.now c.args.from c.args.end found.items c.requires (subst (λ us. Functions us found.items) c.between-reader.ensures f))

@@ -10,7 +10,7 @@ ghost use Rattle.clif_read.specs.Attributes as spec;
 use crate::raw::RawAttribute;
 use clif_words::{Class, Extension, Terminal, Word};
 use std::alloc::Global;
-use token_reader::{Reader, Stop, one_item};
+use token_reader::{Reader, Stop, start_list};
 
 /// The attribute that an extension is.
 fn raw_extension(extension: Extension) -> RawAttribute
@@ -24,7 +24,7 @@ fn raw_extension(extension: Extension) -> RawAttribute
 
 /// `uext` or `sext`.
 #[tactic(auto, unfolding(crate::specs::Attributes::ext_at, token_reader::specs::Reading::name_at))]
-fn ext(reader: &mut Reader<'_>) -> Result<RawAttribute, Stop>
+fn read_ext(reader: &mut Reader<'_>) -> Result<RawAttribute, Stop>
     ensures is { Gives same reader.new result (spec.ext_at reader.old) }
     ensures shorter { IfOk result (λ _. length reader.new < length reader.old) }
 {
@@ -39,7 +39,7 @@ fn ext(reader: &mut Reader<'_>) -> Result<RawAttribute, Stop>
 
 /// `vmctx` or `sret`.
 #[tactic(auto, unfolding(crate::specs::Attributes::purpose_at))]
-fn purpose(reader: &mut Reader<'_>) -> Result<RawAttribute, Stop>
+fn read_purpose(reader: &mut Reader<'_>) -> Result<RawAttribute, Stop>
     ensures is { Gives same reader.new result (spec.purpose_at reader.old) }
     ensures shorter { IfOk result (λ _. length reader.new < length reader.old) }
 {
@@ -52,7 +52,7 @@ fn purpose(reader: &mut Reader<'_>) -> Result<RawAttribute, Stop>
     }
 }
 
-fn two_attributes(
+fn pair_attributes(
     alloc: Global,
     first: RawAttribute,
     second: RawAttribute,
@@ -68,7 +68,7 @@ fn two_attributes(
 
 /// This attribute, and perhaps `vmctx` or `sret` behind it.
 #[tactic(auto, unfolding(crate::specs::Attributes::opt_purpose_at))]
-fn opt_purpose(
+fn read_opt_purpose(
     alloc: Global,
     reader: &mut Reader<'_>,
     first: RawAttribute,
@@ -77,16 +77,16 @@ fn opt_purpose(
     ensures shorter { IfOk result (λ _. length reader.new ≤ length reader.old) }
 {
     if reader.next_is_either(Class::Vmctx, Class::Sret) {
-        let second = purpose(reader)?;
-        two_attributes(alloc, first, second)
+        let second = read_purpose(reader)?;
+        pair_attributes(alloc, first, second)
     } else {
-        one_item(alloc, first)
+        start_list(alloc, first)
     }
 }
 
 /// This attribute, and perhaps `uext` or `sext` behind it.
 #[tactic(auto, unfolding(crate::specs::Attributes::opt_ext_at))]
-fn opt_ext(
+fn read_opt_ext(
     alloc: Global,
     reader: &mut Reader<'_>,
     first: RawAttribute,
@@ -95,51 +95,54 @@ fn opt_ext(
     ensures shorter { IfOk result (λ _. length reader.new ≤ length reader.old) }
 {
     if reader.next_is(Class::Ext) {
-        let second = ext(reader)?;
-        two_attributes(alloc, first, second)
+        let second = read_ext(reader)?;
+        pair_attributes(alloc, first, second)
     } else {
-        one_item(alloc, first)
+        start_list(alloc, first)
     }
 }
 
 #[tactic(auto, unfolding(crate::specs::Attributes::ext_first_at))]
-fn ext_first(alloc: Global, reader: &mut Reader<'_>) -> Result<Vec<RawAttribute>, Stop>
+fn read_ext_first(alloc: Global, reader: &mut Reader<'_>) -> Result<Vec<RawAttribute>, Stop>
     ensures is { Gives (λ x. x.items) reader.new result (spec.ext_first_at reader.old) }
     ensures shorter { IfOk result (λ _. length reader.new < length reader.old) }
 {
-    let first = ext(reader)?;
-    opt_purpose(alloc, reader, first)
+    let first = read_ext(reader)?;
+    read_opt_purpose(alloc, reader, first)
 }
 
 #[tactic(auto, unfolding(crate::specs::Attributes::purpose_first_at))]
-fn purpose_first(alloc: Global, reader: &mut Reader<'_>) -> Result<Vec<RawAttribute>, Stop>
+fn read_purpose_first(alloc: Global, reader: &mut Reader<'_>) -> Result<Vec<RawAttribute>, Stop>
     ensures is { Gives (λ x. x.items) reader.new result (spec.purpose_first_at reader.old) }
     ensures shorter { IfOk result (λ _. length reader.new < length reader.old) }
 {
-    let first = purpose(reader)?;
-    opt_ext(alloc, reader, first)
+    let first = read_purpose(reader)?;
+    read_opt_ext(alloc, reader, first)
 }
 
 #[tactic(auto, unfolding(crate::specs::Attributes::some_attributes_at))]
-fn some_attributes(alloc: Global, reader: &mut Reader<'_>) -> Result<Vec<RawAttribute>, Stop>
+fn read_some_attributes(alloc: Global, reader: &mut Reader<'_>) -> Result<Vec<RawAttribute>, Stop>
     ensures is { Gives (λ x. x.items) reader.new result (spec.some_attributes_at reader.old) }
     ensures shorter { IfOk result (λ _. length reader.new < length reader.old) }
 {
     if reader.next_is(Class::Ext) {
-        ext_first(alloc, reader)
+        read_ext_first(alloc, reader)
     } else {
-        purpose_first(alloc, reader)
+        read_purpose_first(alloc, reader)
     }
 }
 
 /// Attributes in any order: of `uext` and `sext` at most one, and of `vmctx` and `sret`.
 #[tactic(auto, unfolding(crate::specs::Attributes::attributes_at))]
-pub(crate) fn attributes(alloc: Global, reader: &mut Reader<'_>) -> Result<Vec<RawAttribute>, Stop>
+pub(crate) fn read_attributes(
+    alloc: Global,
+    reader: &mut Reader<'_>,
+) -> Result<Vec<RawAttribute>, Stop>
     ensures is { Gives (λ x. x.items) reader.new result (spec.attributes_at reader.old) }
     ensures shorter { IfOk result (λ _. length reader.new ≤ length reader.old) }
 {
     if reader.next_is_one_of(Class::Ext, Class::Vmctx, Class::Sret) {
-        some_attributes(alloc, reader)
+        read_some_attributes(alloc, reader)
     } else {
         Ok(Vec::new(alloc))
     }

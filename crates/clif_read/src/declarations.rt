@@ -7,14 +7,14 @@ ghost use Rattle.token_reader.specs.Reading.{Gives, same};
 ghost use Rattle.clif_read.specs.Declarations as spec;
 
 use crate::raw::{RawCalleeSig, RawDecl, RawFuncName};
-use crate::signatures::signature;
+use crate::signatures::read_signature;
 use clif_words::Class;
 use std::alloc::Global;
-use token_reader::{RawNumber, Reader, Stop, number};
+use token_reader::{RawNumber, Reader, Stop, read_number};
 
 /// `%name`
 #[tactic(auto, unfolding(crate::specs::Declarations::text_name_at))]
-fn text_name(alloc: Global, reader: &mut Reader<'_>) -> Result<RawFuncName, Stop>
+fn read_text_name(alloc: Global, reader: &mut Reader<'_>) -> Result<RawFuncName, Stop>
     ensures is { Gives same reader.new result (spec.text_name_at reader.old) }
     ensures shorter { IfOk result (λ _. length reader.new < length reader.old) }
 {
@@ -27,48 +27,48 @@ fn text_name(alloc: Global, reader: &mut Reader<'_>) -> Result<RawFuncName, Stop
 
 /// `u0:1`
 #[tactic(auto, unfolding(crate::specs::Declarations::user_name_at))]
-fn user_name(reader: &mut Reader<'_>) -> Result<RawFuncName, Stop>
+fn read_user_name(reader: &mut Reader<'_>) -> Result<RawFuncName, Stop>
     ensures is { Gives same reader.new result (spec.user_name_at reader.old) }
     ensures shorter { IfOk result (λ _. length reader.new < length reader.old) }
 {
     let space = reader.take(Class::UserName)?;
     reader.take(Class::Colon)?;
-    let number = number(reader)?;
+    let number = read_number(reader)?;
     Ok(RawFuncName::User { space, number })
 }
 
 /// The name of a function or of a callee, as `u0:1` or `%name`. Stops as a reader of tokens does.
 #[tactic(auto, unfolding(crate::specs::Declarations::func_name_at))]
-pub fn func_name(alloc: Global, reader: &mut Reader<'_>) -> Result<RawFuncName, Stop>
+pub fn read_func_name(alloc: Global, reader: &mut Reader<'_>) -> Result<RawFuncName, Stop>
     ensures is { Gives same reader.new result (spec.func_name_at reader.old) }
     ensures shorter { IfOk result (λ _. length reader.new < length reader.old) }
 {
     if reader.next_is(Class::Name) {
-        text_name(alloc, reader)
+        read_text_name(alloc, reader)
     } else {
-        user_name(reader)
+        read_user_name(reader)
     }
 }
 
 /// `, align = 4`
 #[tactic(auto, unfolding(crate::specs::Declarations::align_at))]
-fn align(reader: &mut Reader<'_>) -> Result<RawNumber, Stop>
+fn read_align(reader: &mut Reader<'_>) -> Result<RawNumber, Stop>
     ensures is { Gives same reader.new result (spec.align_at reader.old) }
     ensures shorter { IfOk result (λ _. length reader.new < length reader.old) }
 {
     reader.take(Class::Comma)?;
     reader.take(Class::Align)?;
     reader.take(Class::Equals)?;
-    number(reader)
+    read_number(reader)
 }
 
 #[tactic(auto, unfolding(crate::specs::Declarations::opt_align_at))]
-fn opt_align(reader: &mut Reader<'_>) -> Result<Option<RawNumber>, Stop>
+fn read_opt_align(reader: &mut Reader<'_>) -> Result<Option<RawNumber>, Stop>
     ensures is { Gives same reader.new result (spec.opt_align_at reader.old) }
     ensures shorter { IfOk result (λ _. length reader.new ≤ length reader.old) }
 {
     if reader.next_is(Class::Comma) {
-        Ok(Some(align(reader)?))
+        Ok(Some(read_align(reader)?))
     } else {
         Ok(None)
     }
@@ -76,33 +76,33 @@ fn opt_align(reader: &mut Reader<'_>) -> Result<Option<RawNumber>, Stop>
 
 /// `ss0 = explicit_slot 8, align = 4`
 #[tactic(auto, unfolding(crate::specs::Declarations::slot_decl_at))]
-fn slot_decl(reader: &mut Reader<'_>) -> Result<RawDecl, Stop>
+fn read_slot_decl(reader: &mut Reader<'_>) -> Result<RawDecl, Stop>
     ensures is { Gives same reader.new result (spec.slot_decl_at reader.old) }
     ensures shorter { IfOk result (λ _. length reader.new < length reader.old) }
 {
     let slot = reader.take(Class::Slot)?;
     reader.take(Class::Equals)?;
     reader.take(Class::ExplicitSlot)?;
-    let size = number(reader)?;
-    let align = opt_align(reader)?;
+    let size = read_number(reader)?;
+    let align = read_opt_align(reader)?;
     Ok(RawDecl::Slot { slot, size, align })
 }
 
 /// `sig0 = (i64) -> i64 fast`
 #[tactic(auto, unfolding(crate::specs::Declarations::sig_decl_at))]
-fn sig_decl(alloc: Global, reader: &mut Reader<'_>) -> Result<RawDecl, Stop>
+fn read_sig_decl(alloc: Global, reader: &mut Reader<'_>) -> Result<RawDecl, Stop>
     ensures is { Gives same reader.new result (spec.sig_decl_at reader.old) }
     ensures shorter { IfOk result (λ _. length reader.new < length reader.old) }
 {
     let sig = reader.take(Class::Sig)?;
     reader.take(Class::Equals)?;
-    let signature = signature(alloc, reader)?;
+    let signature = read_signature(alloc, reader)?;
     Ok(RawDecl::Sig { sig, signature })
 }
 
 /// Whether there is `colocated`, which is read.
 #[tactic(auto, unfolding(crate::specs::Declarations::colocated_at))]
-fn colocated(reader: &mut Reader<'_>) -> Result<bool, Stop>
+fn read_colocated(reader: &mut Reader<'_>) -> Result<bool, Stop>
     ensures is { Gives same reader.new result (spec.colocated_at reader.old) }
     ensures shorter { IfOk result (λ _. length reader.new ≤ length reader.old) }
 {
@@ -116,28 +116,28 @@ fn colocated(reader: &mut Reader<'_>) -> Result<bool, Stop>
 
 /// The signature of a callee.
 #[tactic(auto, unfolding(crate::specs::Declarations::callee_sig_at))]
-fn callee_sig(alloc: Global, reader: &mut Reader<'_>) -> Result<RawCalleeSig, Stop>
+fn read_callee_sig(alloc: Global, reader: &mut Reader<'_>) -> Result<RawCalleeSig, Stop>
     ensures is { Gives same reader.new result (spec.callee_sig_at reader.old) }
     ensures shorter { IfOk result (λ _. length reader.new < length reader.old) }
 {
     if reader.next_is(Class::Sig) {
         Ok(RawCalleeSig::Declared(reader.take(Class::Sig)?))
     } else {
-        Ok(RawCalleeSig::Inline(signature(alloc, reader)?))
+        Ok(RawCalleeSig::Inline(read_signature(alloc, reader)?))
     }
 }
 
 /// `fn0 = colocated %g sig0`
 #[tactic(auto, unfolding(crate::specs::Declarations::callee_decl_at))]
-fn callee_decl(alloc: Global, reader: &mut Reader<'_>) -> Result<RawDecl, Stop>
+fn read_callee_decl(alloc: Global, reader: &mut Reader<'_>) -> Result<RawDecl, Stop>
     ensures is { Gives same reader.new result (spec.callee_decl_at reader.old) }
     ensures shorter { IfOk result (λ _. length reader.new < length reader.old) }
 {
     let callee = reader.take(Class::Callee)?;
     reader.take(Class::Equals)?;
-    let colocated = colocated(reader)?;
-    let name = func_name(alloc, reader)?;
-    let sig = callee_sig(alloc, reader)?;
+    let colocated = read_colocated(reader)?;
+    let name = read_func_name(alloc, reader)?;
+    let sig = read_callee_sig(alloc, reader)?;
     Ok(RawDecl::Callee {
         callee,
         colocated,
@@ -148,16 +148,16 @@ fn callee_decl(alloc: Global, reader: &mut Reader<'_>) -> Result<RawDecl, Stop>
 
 /// A declaration.
 #[tactic(auto, unfolding(crate::specs::Declarations::decl_at))]
-fn decl(alloc: Global, reader: &mut Reader<'_>) -> Result<RawDecl, Stop>
+fn read_decl(alloc: Global, reader: &mut Reader<'_>) -> Result<RawDecl, Stop>
     ensures is { Gives same reader.new result (spec.decl_at reader.old) }
     ensures shorter { IfOk result (λ _. length reader.new < length reader.old) }
 {
     if reader.next_is(Class::Slot) {
-        slot_decl(reader)
+        read_slot_decl(reader)
     } else if reader.next_is(Class::Sig) {
-        sig_decl(alloc, reader)
+        read_sig_decl(alloc, reader)
     } else if reader.next_is(Class::Callee) {
-        callee_decl(alloc, reader)
+        read_callee_decl(alloc, reader)
     } else {
         Err(if reader.next_is(Class::RefusedDecl) {
             Stop::Unsupported
@@ -176,13 +176,13 @@ fn begins_decl(reader: &Reader<'_>) -> bool
 }
 
 /// The declarations of a function.
-pub(crate) fn decls(alloc: Global, reader: &mut Reader<'_>) -> Result<Vec<RawDecl>, Stop>
+pub(crate) fn read_decls(alloc: Global, reader: &mut Reader<'_>) -> Result<Vec<RawDecl>, Stop>
     ensures is { Gives (λ x. x.items) reader.new result (spec.decls_at reader.old) }
     ensures shorter { IfOk result (λ _. length reader.new ≤ length reader.old) }
 {
     let mut list = Vec::new(alloc);
     'list: while begins_decl(reader) {
-        let item = decl(alloc, reader)?;
+        let item = read_decl(alloc, reader)?;
         list.push(item)?;
     }
     Ok(list)

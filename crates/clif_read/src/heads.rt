@@ -7,11 +7,11 @@ ghost use Rattle.clif_read.specs.Heads as spec;
 use crate::raw::RawBlockParam;
 use clif_words::Class;
 use std::alloc::Global;
-use token_reader::{Items, Reader, Stop, any_type, joined_by_commas};
+use token_reader::{Items, Reader, Stop, read_items, read_type};
 
 /// The spot of a header line.
 #[tactic(auto, unfolding(crate::specs::Heads::header_at))]
-fn header(reader: &mut Reader<'_>) -> Result<usize, Stop>
+fn read_header(reader: &mut Reader<'_>) -> Result<usize, Stop>
     ensures is { Gives same reader.new result (spec.header_at reader.old) }
     ensures shorter { IfOk result (λ _. length reader.new < length reader.old) }
 {
@@ -20,13 +20,13 @@ fn header(reader: &mut Reader<'_>) -> Result<usize, Stop>
 }
 
 /// The spots of the header lines of a module.
-pub(crate) fn headers(alloc: Global, reader: &mut Reader<'_>) -> Result<Vec<usize>, Stop>
+pub(crate) fn read_headers(alloc: Global, reader: &mut Reader<'_>) -> Result<Vec<usize>, Stop>
     ensures is { Gives (λ x. x.items) reader.new result (spec.headers_at reader.old) }
     ensures shorter { IfOk result (λ _. length reader.new ≤ length reader.old) }
 {
     let mut list = Vec::new(alloc);
     'list: while reader.next_is(Class::Header) {
-        let item = header(reader)?;
+        let item = read_header(reader)?;
         list.push(item)?;
     }
     Ok(list)
@@ -34,13 +34,13 @@ pub(crate) fn headers(alloc: Global, reader: &mut Reader<'_>) -> Result<Vec<usiz
 
 /// `v0: i64`
 #[tactic(auto, unfolding(crate::specs::Heads::block_param_at))]
-fn block_param(reader: &mut Reader<'_>) -> Result<RawBlockParam, Stop>
+fn read_block_param(reader: &mut Reader<'_>) -> Result<RawBlockParam, Stop>
     ensures is { Gives same reader.new result (spec.block_param_at reader.old) }
     ensures shorter { IfOk result (λ _. length reader.new < length reader.old) }
 {
     let value = reader.take(Class::Value)?;
     reader.take(Class::Colon)?;
-    let ty = any_type(reader)?;
+    let ty = read_type(reader)?;
     Ok(RawBlockParam { value, ty })
 }
 
@@ -50,14 +50,14 @@ impl Items<RawBlockParam> for BlockParamItems {
     ghost item_at = { λ _. spec.block_param_at };
 
     #[inline]
-    fn item(&self, _alloc: Global, reader: &mut Reader<'_>) -> Result<RawBlockParam, Stop> {
-        block_param(reader)
+    fn read_item(&self, _alloc: Global, reader: &mut Reader<'_>) -> Result<RawBlockParam, Stop> {
+        read_block_param(reader)
     }
 }
 
 /// The parameters of a block: `(v0: i64, v1: i32)`
 #[tactic(auto, unfolding(crate::specs::Heads::block_params_at))]
-pub(crate) fn block_params(
+pub(crate) fn read_block_params(
     alloc: Global,
     reader: &mut Reader<'_>,
 ) -> Result<Vec<RawBlockParam>, Stop>
@@ -66,7 +66,7 @@ pub(crate) fn block_params(
 {
     reader.take(Class::LeftParen)?;
     let list = if reader.next_is(Class::Value) {
-        joined_by_commas(alloc, reader, &BlockParamItems)?
+        read_items(alloc, reader, &BlockParamItems)?
     } else {
         Vec::new(alloc)
     };

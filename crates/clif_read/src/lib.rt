@@ -12,8 +12,8 @@ mod signatures;
 mod tags;
 mod texts;
 
-pub use declarations::func_name;
-pub use modules::{all_functions, read_function, whole_module};
+pub use declarations::read_func_name;
+pub use modules::{read_all_functions, read_function, read_whole_module};
 pub use raw::{
     RawAttribute, RawBlock, RawBlockParam, RawCalleeSig, RawDecl, RawFuncName, RawFunction,
     RawLine, RawModule, RawParam, RawSignature, RawTag,

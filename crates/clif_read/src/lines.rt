@@ -9,15 +9,21 @@ ghost use Rattle.clif_read.specs.LineValues as meaning;
 ghost use Rattle.clif_read.specs.Lines as spec;
 
 use crate::raw::{RawLine, RawTag};
-use crate::tags::debug_tags;
-use clif_insts::{Opening, RawInst, RawNames, RawOperands, any_inst, more_names, more_values};
+use crate::tags::read_debug_tags;
+use clif_insts::{
+    Opening, RawInst, RawNames, RawOperands, read_inst, read_more_names, read_more_values,
+};
 use clif_words::Class;
 use ir_core::List;
 use std::alloc::Global;
-use token_reader::{RawName, Reader, Stop, one_item};
+use token_reader::{RawName, Reader, Stop, start_list};
 
-/// For how many lines the list of a block has room at first: most blocks have no more. What is left over is given back.
-const FIRST_ROOM: usize = 32;
+/// For how many lines the list of a block has room at first.
+const FIRST_ROOM: usize = 3;
+
+/// A list of two lines and no more than these keeps the room that is left over, at most as much again: to give it back
+/// costs more.
+const FEW_LINES: usize = 8;
 
 /// An instruction behind the `=` of its results.
 #[tactic(auto, unfolding(crate::specs::Lines::made_at))]
@@ -26,7 +32,7 @@ fn read_result_inst(alloc: Global, reader: &mut Reader<'_>) -> Result<RawInst, S
     ensures shorter { IfOk result (λ _. length reader.new < length reader.old) }
 {
     reader.take(Class::Equals)?;
-    any_inst(alloc, reader, Opening::AfterResults)
+    read_inst(alloc, reader, Opening::AfterResults)
 }
 
 /// Whether values may stand behind it: it is a `return`, as yet without values.
@@ -90,7 +96,7 @@ fn add_results_line(
         (spec.whole (spec.results_at location first reader.old)) }
     ensures shorter { IfOk result (λ _. length reader.new < length reader.old) }
 {
-    let results = more_names(alloc, reader, first)?;
+    let results = read_more_names(alloc, reader, first)?;
     let inst = read_result_inst(alloc, reader)?;
     let returns = is_return(&inst);
     lines.reserve(1)?;
@@ -137,7 +143,7 @@ fn add_plain_line(
         (spec.whole (spec.plain_at opening location tags reader.old)) }
     ensures shorter { IfOk result (λ _. length reader.new < length reader.old) }
 {
-    let inst = any_inst(alloc, reader, opening)?;
+    let inst = read_inst(alloc, reader, opening)?;
     let returns = is_return(&inst);
     lines.reserve(1)?;
     lines.push_reserved(RawLine::Inst {
@@ -163,7 +169,7 @@ fn add_tagged_results(
     ensures shorter { IfOk result (λ _. length reader.new < length reader.old) }
 {
     let first = reader.take(Class::Value)?;
-    let results = more_names(alloc, reader, first)?;
+    let results = read_more_names(alloc, reader, first)?;
     let inst = read_result_inst(alloc, reader)?;
     let returns = is_return(&inst);
     lines.reserve(1)?;
@@ -188,7 +194,7 @@ fn add_tagged_line(
         (spec.whole (spec.tagged_at location reader.old)) }
     ensures shorter { IfOk result (λ _. length reader.new < length reader.old) }
 {
-    let tags = List::from_vec(debug_tags(alloc, reader)?);
+    let tags = List::from_vec(read_debug_tags(alloc, reader)?);
     if reader.next_is(Class::Value) {
         add_tagged_results(alloc, reader, lines, location, tags)
     } else {
@@ -280,8 +286,8 @@ fn add_values_or_results(
         (spec.values_or_results_at first reader.old) }
     ensures shorter { IfOk result (λ _. length reader.new ≤ length reader.old) }
 {
-    let front = one_item(alloc, first)?;
-    let values = more_values(alloc, reader, front)?;
+    let front = start_list(alloc, first)?;
+    let values = read_more_values(alloc, reader, front)?;
     add_values_or_inst(alloc, reader, lines, List::from_vec(values))
 }
 
@@ -342,8 +348,17 @@ fn begins_line(reader: &Reader<'_>) -> bool
     }
 }
 
+/// Gives back the room that a list of one line or of many has left over.
+fn trim(lines: &mut Vec<RawLine>)
+    ensures { lines.new.items ≡ lines.old.items }
+{
+    if lines.len() < 2 || lines.len() > FEW_LINES {
+        lines.shrink_to_fit();
+    }
+}
+
 /// The lines of a block.
-pub(crate) fn block_lines(alloc: Global, reader: &mut Reader<'_>) -> Result<Vec<RawLine>, Stop>
+pub(crate) fn read_lines(alloc: Global, reader: &mut Reader<'_>) -> Result<Vec<RawLine>, Stop>
     ensures is { Gives (λ x. x.items) reader.new result (spec.lines_at reader.old) }
     ensures shorter { IfOk result (λ _. length reader.new ≤ length reader.old) }
 {
@@ -352,6 +367,6 @@ pub(crate) fn block_lines(alloc: Global, reader: &mut Reader<'_>) -> Result<Vec<
     'lines: while begins_line(reader) {
         after_return = add_line(alloc, reader, &mut list, after_return)?;
     }
-    list.shrink_to_fit();
+    trim(&mut list);
     Ok(list)
 }

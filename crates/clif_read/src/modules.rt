@@ -5,23 +5,23 @@ ghost use Rattle.token_reader.specs.Reading.{Gives, same};
 ghost use Rattle.clif_read.specs.Modules as spec;
 ghost use Rattle.clif_read.specs.Texts.{Functions};
 
-use crate::declarations::{decls, func_name};
-use crate::heads::{block_params, headers};
-use crate::lines::block_lines;
+use crate::declarations::{read_decls, read_func_name};
+use crate::heads::{read_block_params, read_headers};
+use crate::lines::read_lines;
 use crate::raw::{RawBlock, RawBlockParam, RawFunction, RawModule};
-use crate::signatures::signature;
+use crate::signatures::read_signature;
 use clif_words::Class;
 use ir_core::List;
 use std::alloc::Global;
-use token_reader::{Reader, Stop, item_in_room};
+use token_reader::{Reader, Stop, start_list_in_room};
 
 #[tactic(auto, unfolding(crate::specs::Modules::opt_block_params_at))]
-fn opt_block_params(alloc: Global, reader: &mut Reader<'_>) -> Result<Vec<RawBlockParam>, Stop>
+fn read_opt_block_params(alloc: Global, reader: &mut Reader<'_>) -> Result<Vec<RawBlockParam>, Stop>
     ensures is { Gives (λ x. x.items) reader.new result (spec.opt_block_params_at reader.old) }
     ensures shorter { IfOk result (λ _. length reader.new ≤ length reader.old) }
 {
     if reader.next_is(Class::LeftParen) {
-        block_params(alloc, reader)
+        read_block_params(alloc, reader)
     } else {
         Ok(Vec::new(alloc))
     }
@@ -29,7 +29,7 @@ fn opt_block_params(alloc: Global, reader: &mut Reader<'_>) -> Result<Vec<RawBlo
 
 /// Whether `cold` stands there.
 #[tactic(auto, unfolding(crate::specs::Modules::opt_cold_at))]
-fn opt_cold(reader: &mut Reader<'_>) -> Result<bool, Stop>
+fn read_opt_cold(reader: &mut Reader<'_>) -> Result<bool, Stop>
     ensures is { Gives same reader.new result (spec.opt_cold_at reader.old) }
     ensures shorter { IfOk result (λ _. length reader.new ≤ length reader.old) }
 {
@@ -43,15 +43,15 @@ fn opt_cold(reader: &mut Reader<'_>) -> Result<bool, Stop>
 
 /// A block.
 #[tactic(auto, unfolding(crate::specs::Modules::block_at))]
-fn block(alloc: Global, reader: &mut Reader<'_>) -> Result<RawBlock, Stop>
+fn read_block(alloc: Global, reader: &mut Reader<'_>) -> Result<RawBlock, Stop>
     ensures is { Gives same reader.new result (spec.block_at reader.old) }
     ensures shorter { IfOk result (λ _. length reader.new < length reader.old) }
 {
     let block = reader.take(Class::Block)?;
-    let params = opt_block_params(alloc, reader)?;
-    let cold = opt_cold(reader)?;
+    let params = read_opt_block_params(alloc, reader)?;
+    let cold = read_opt_cold(reader)?;
     reader.take(Class::Colon)?;
-    let lines = block_lines(alloc, reader)?;
+    let lines = read_lines(alloc, reader)?;
     Ok(RawBlock {
         block,
         params: List::from_vec(params),
@@ -61,7 +61,7 @@ fn block(alloc: Global, reader: &mut Reader<'_>) -> Result<RawBlock, Stop>
 }
 
 /// Blocks, after those in front.
-fn more_blocks(
+fn read_more_blocks(
     alloc: Global,
     reader: &mut Reader<'_>,
     front: Vec<RawBlock>,
@@ -71,7 +71,7 @@ fn more_blocks(
 {
     let mut list = front;
     'list: while reader.next_is(Class::Block) {
-        let item = block(alloc, reader)?;
+        let item = read_block(alloc, reader)?;
         list.push(item)?;
     }
     Ok(list)
@@ -90,13 +90,13 @@ pub fn read_function(alloc: Global, reader: &mut Reader<'_>) -> Result<RawFuncti
     ensures shorter { IfOk result (λ _. length reader.new < length reader.old) }
 {
     let word = reader.take(Class::Function)?;
-    let name = func_name(alloc, reader)?;
-    let signature = signature(alloc, reader)?;
+    let name = read_func_name(alloc, reader)?;
+    let signature = read_signature(alloc, reader)?;
     reader.take(Class::LeftBrace)?;
-    let decls = decls(alloc, reader)?;
-    let first = block(alloc, reader)?;
-    let front = item_in_room(alloc, first, room_for_blocks(reader))?;
-    let blocks = more_blocks(alloc, reader, front)?;
+    let decls = read_decls(alloc, reader)?;
+    let first = read_block(alloc, reader)?;
+    let front = start_list_in_room(alloc, first, room_for_blocks(reader))?;
+    let blocks = read_more_blocks(alloc, reader, front)?;
     let brace = reader.take(Class::RightBrace)?;
     Ok(RawFunction {
         spot: word.spot,
@@ -109,7 +109,10 @@ pub fn read_function(alloc: Global, reader: &mut Reader<'_>) -> Result<RawFuncti
 }
 
 /// The functions of a module.
-pub(crate) fn functions(alloc: Global, reader: &mut Reader<'_>) -> Result<Vec<RawFunction>, Stop>
+pub(crate) fn read_functions(
+    alloc: Global,
+    reader: &mut Reader<'_>,
+) -> Result<Vec<RawFunction>, Stop>
     ensures is { Gives (λ x. x.items) reader.new result (spec.functions_at reader.old) }
     ensures shorter { IfOk result (λ _. length reader.new ≤ length reader.old) }
 {
@@ -122,10 +125,10 @@ pub(crate) fn functions(alloc: Global, reader: &mut Reader<'_>) -> Result<Vec<Ra
 }
 
 /// The functions of all the tokens that are left. None where anything else stands there, or memory runs out.
-pub fn all_functions(alloc: Global, reader: &mut Reader<'_>) -> Option<Vec<RawFunction>>
+pub fn read_all_functions(alloc: Global, reader: &mut Reader<'_>) -> Option<Vec<RawFunction>>
     ensures { IfSome result (λ found. Functions reader.old found.items) }
 {
-    let Ok(found) = functions(alloc, reader) else {
+    let Ok(found) = read_functions(alloc, reader) else {
         return None;
     };
     if !reader.is_at_end() {
@@ -136,11 +139,11 @@ pub fn all_functions(alloc: Global, reader: &mut Reader<'_>) -> Option<Vec<RawFu
 
 /// Header lines, and functions.
 #[tactic(auto, unfolding(crate::specs::Modules::module_at))]
-fn raw_module(alloc: Global, reader: &mut Reader<'_>) -> Result<RawModule, Stop>
+fn read_module(alloc: Global, reader: &mut Reader<'_>) -> Result<RawModule, Stop>
     ensures is { Gives same reader.new result (spec.module_at reader.old) }
 {
-    let headers = headers(alloc, reader)?;
-    let functions = functions(alloc, reader)?;
+    let headers = read_headers(alloc, reader)?;
+    let functions = read_functions(alloc, reader)?;
     Ok(RawModule {
         headers: List::from_vec(headers),
         functions: List::from_vec(functions),
@@ -149,10 +152,10 @@ fn raw_module(alloc: Global, reader: &mut Reader<'_>) -> Result<RawModule, Stop>
 
 /// A module, and nothing behind it.
 #[tactic(auto, unfolding(crate::specs::Modules::whole_module_at))]
-pub fn whole_module(alloc: Global, reader: &mut Reader<'_>) -> Result<RawModule, Stop>
+pub fn read_whole_module(alloc: Global, reader: &mut Reader<'_>) -> Result<RawModule, Stop>
     ensures is { Gives same reader.new result (spec.whole_module_at reader.old) }
 {
-    let found = raw_module(alloc, reader)?;
+    let found = read_module(alloc, reader)?;
     if reader.is_at_end() {
         Ok(found)
     } else {

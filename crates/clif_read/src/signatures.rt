@@ -4,21 +4,21 @@ ghost use Rattle.std.specs.Prelude.{◌≡◌, ◌<◌, ◌≤◌, length, IfOk}
 ghost use Rattle.token_reader.specs.Reading.{Gives, same};
 ghost use Rattle.clif_read.specs.Signatures as spec;
 
-use crate::attributes::attributes;
+use crate::attributes::read_attributes;
 use crate::raw::{RawParam, RawSignature};
 use clif_words::{Class, Terminal, Word};
 use ir_core::{Conv, List};
 use std::alloc::Global;
-use token_reader::{Items, Reader, Stop, any_type, joined_by_commas};
+use token_reader::{Items, Reader, Stop, read_items, read_type};
 
 /// A parameter or a result.
 #[tactic(auto, unfolding(crate::specs::Signatures::param_at))]
-fn param(alloc: Global, reader: &mut Reader<'_>) -> Result<RawParam, Stop>
+fn read_param(alloc: Global, reader: &mut Reader<'_>) -> Result<RawParam, Stop>
     ensures is { Gives same reader.new result (spec.param_at reader.old) }
     ensures shorter { IfOk result (λ _. length reader.new < length reader.old) }
 {
-    let ty = any_type(reader)?;
-    let attributes = attributes(alloc, reader)?;
+    let ty = read_type(reader)?;
+    let attributes = read_attributes(alloc, reader)?;
     Ok(RawParam {
         ty,
         attributes: List::from_vec(attributes),
@@ -31,25 +31,25 @@ impl Items<RawParam> for ParamItems {
     ghost item_at = { λ _. spec.param_at };
 
     #[inline]
-    fn item(&self, alloc: Global, reader: &mut Reader<'_>) -> Result<RawParam, Stop> {
-        param(alloc, reader)
+    fn read_item(&self, alloc: Global, reader: &mut Reader<'_>) -> Result<RawParam, Stop> {
+        read_param(alloc, reader)
     }
 }
 
-fn params(alloc: Global, reader: &mut Reader<'_>) -> Result<Vec<RawParam>, Stop>
+fn read_params(alloc: Global, reader: &mut Reader<'_>) -> Result<Vec<RawParam>, Stop>
     ensures is { Gives (λ x. x.items) reader.new result (spec.params_at reader.old) }
     ensures shorter { IfOk result (λ _. length reader.new < length reader.old) }
 {
-    joined_by_commas(alloc, reader, &ParamItems)
+    read_items(alloc, reader, &ParamItems)
 }
 
 #[tactic(auto, unfolding(crate::specs::Signatures::opt_params_at))]
-fn opt_params(alloc: Global, reader: &mut Reader<'_>) -> Result<Vec<RawParam>, Stop>
+fn read_opt_params(alloc: Global, reader: &mut Reader<'_>) -> Result<Vec<RawParam>, Stop>
     ensures is { Gives (λ x. x.items) reader.new result (spec.opt_params_at reader.old) }
     ensures shorter { IfOk result (λ _. length reader.new ≤ length reader.old) }
 {
     if reader.next_is_one_of(Class::Ty, Class::TyI64, Class::RefusedType) {
-        params(alloc, reader)
+        read_params(alloc, reader)
     } else {
         Ok(Vec::new(alloc))
     }
@@ -57,21 +57,21 @@ fn opt_params(alloc: Global, reader: &mut Reader<'_>) -> Result<Vec<RawParam>, S
 
 /// An arrow and results.
 #[tactic(auto, unfolding(crate::specs::Signatures::results_at))]
-fn results(alloc: Global, reader: &mut Reader<'_>) -> Result<Vec<RawParam>, Stop>
+fn read_results(alloc: Global, reader: &mut Reader<'_>) -> Result<Vec<RawParam>, Stop>
     ensures is { Gives (λ x. x.items) reader.new result (spec.results_at reader.old) }
     ensures shorter { IfOk result (λ _. length reader.new < length reader.old) }
 {
     reader.take(Class::Arrow)?;
-    params(alloc, reader)
+    read_params(alloc, reader)
 }
 
 #[tactic(auto, unfolding(crate::specs::Signatures::opt_results_at))]
-fn opt_results(alloc: Global, reader: &mut Reader<'_>) -> Result<Vec<RawParam>, Stop>
+fn read_opt_results(alloc: Global, reader: &mut Reader<'_>) -> Result<Vec<RawParam>, Stop>
     ensures is { Gives (λ x. x.items) reader.new result (spec.opt_results_at reader.old) }
     ensures shorter { IfOk result (λ _. length reader.new ≤ length reader.old) }
 {
     if reader.next_is(Class::Arrow) {
-        results(alloc, reader)
+        read_results(alloc, reader)
     } else {
         Ok(Vec::new(alloc))
     }
@@ -80,7 +80,7 @@ fn opt_results(alloc: Global, reader: &mut Reader<'_>) -> Result<Vec<RawParam>, 
 /// A calling convention.
 #[tactic(auto, unfolding(crate::specs::Signatures::convention_at, token_reader::specs::Reading::name_at))]
 #[inline(never)]
-fn convention(reader: &mut Reader<'_>) -> Result<Conv, Stop>
+fn read_convention(reader: &mut Reader<'_>) -> Result<Conv, Stop>
     ensures is { Gives same reader.new result (spec.convention_at reader.old) }
     ensures shorter { IfOk result (λ _. length reader.new < length reader.old) }
 {
@@ -94,12 +94,12 @@ fn convention(reader: &mut Reader<'_>) -> Result<Conv, Stop>
 }
 
 #[tactic(auto, unfolding(crate::specs::Signatures::opt_convention_at))]
-fn opt_convention(reader: &mut Reader<'_>) -> Result<Option<Conv>, Stop>
+fn read_opt_convention(reader: &mut Reader<'_>) -> Result<Option<Conv>, Stop>
     ensures is { Gives same reader.new result (spec.opt_convention_at reader.old) }
     ensures shorter { IfOk result (λ _. length reader.new ≤ length reader.old) }
 {
     if reader.next_is_either(Class::Conv, Class::Cold) {
-        Ok(Some(convention(reader)?))
+        Ok(Some(read_convention(reader)?))
     } else {
         Ok(None)
     }
@@ -107,15 +107,15 @@ fn opt_convention(reader: &mut Reader<'_>) -> Result<Option<Conv>, Stop>
 
 /// A signature.
 #[tactic(auto, unfolding(crate::specs::Signatures::signature_at))]
-pub(crate) fn signature(alloc: Global, reader: &mut Reader<'_>) -> Result<RawSignature, Stop>
+pub(crate) fn read_signature(alloc: Global, reader: &mut Reader<'_>) -> Result<RawSignature, Stop>
     ensures is { Gives same reader.new result (spec.signature_at reader.old) }
     ensures shorter { IfOk result (λ _. length reader.new < length reader.old) }
 {
     reader.take(Class::LeftParen)?;
-    let params = opt_params(alloc, reader)?;
+    let params = read_opt_params(alloc, reader)?;
     reader.take(Class::RightParen)?;
-    let results = opt_results(alloc, reader)?;
-    let conv = opt_convention(reader)?;
+    let results = read_opt_results(alloc, reader)?;
+    let conv = read_opt_convention(reader)?;
     Ok(RawSignature {
         params: List::from_vec(params),
         results: List::from_vec(results),

@@ -8,7 +8,7 @@ ghost use Rattle.clif_read.specs.Formed.{IsFormed};
 ghost use Rattle.clif_read.specs.Texts.{IsFaultOf, IsModule, IsModuleText, Stopped};
 ghost use Rattle.clif_read.specs.Texts as spec;
 
-use crate::modules::whole_module;
+use crate::modules::read_whole_module;
 use crate::raw::RawModule;
 use clif_lex::{TextErr, TextKind, Tokens, tokens};
 use std::alloc::Global;
@@ -41,7 +41,7 @@ pub fn read_raw_alone(alloc: Global, text: &[u8], tokens: &Tokens) -> Result<Raw
     ensures within { IfErr result (λ e. StandsWithin (length text.now) e) }
 {
     let mut reader = Reader::new(text, tokens, 0);
-    let read = whole_module(alloc, &mut reader);
+    let read = read_whole_module(alloc, &mut reader);
     let spot = reader.spot_or(text.len());
     match read {
         Ok(found) => Ok(found),

@@ -12,7 +12,7 @@ new-reader-requires-clause-inside c = tokens_are_in c.args.text.now c.args.token
 
 pub returns-in-Ok-clause-found : goal.returns-in-Ok-clause-found
 returns-in-Ok-clause-found c =
-    found_at (lexemes c.args.text.now c.args.tokens.now) c.new-reader.result c.whole_module-read.new.reader (length c.args.text.now) c.in-Ok.found c.new-reader.ensures c.in-Ok.ensures.is
+    found_at (lexemes c.args.text.now c.args.tokens.now) c.new-reader.result c.read_whole_module-read.new.reader (length c.args.text.now) c.in-Ok.found c.new-reader.ensures c.in-Ok.ensures.is
 
 pub returns-in-Ok-clause-formed : goal.returns-in-Ok-clause-formed
 returns-in-Ok-clause-formed c =
@@ -20,7 +20,7 @@ returns-in-Ok-clause-formed c =
 
 pub returns-in-Err-clause-stop : goal.returns-in-Err-clause-stop
 returns-in-Err-clause-stop c =
-    let s = stopped_at (lexemes c.args.text.now c.args.tokens.now) c.new-reader.result c.whole_module-read.new.reader (length c.args.text.now) (length c.args.text.now) c.spot_or-spot.result c.in-Err.stop
+    let s = stopped_at (lexemes c.args.text.now c.args.tokens.now) c.new-reader.result c.read_whole_module-read.new.reader (length c.args.text.now) (length c.args.text.now) c.spot_or-spot.result c.in-Err.stop
     c.new-reader.ensures refl c.spot_or-spot.ensures c.in-Err.ensures.is in
     rw c.error_at.ensures s
 

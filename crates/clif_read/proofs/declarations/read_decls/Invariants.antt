@@ -4,7 +4,7 @@ use Rattle.clif_read.specs.declared.raw.RawDecl.{RawDecl}
 use Rattle.token_reader.specs.Reading.{each, with_front}
 use Rattle.token_reader.proofs.Loops.{Keeps}
 use Rattle.clif_read.specs.Declarations.{begins_decl, decl_at}
-use Rattle.clif_read.proofs.declarations.decls.Given as goal
+use Rattle.clif_read.proofs.declarations.read_decls.Given as goal
 
 abbrev pub invariant-list : goal.invariant-list
 invariant-list l = Keeps decl_at (codes_of begins_decl) l.list.items l.reader (with_front (let none : List RawDecl = [] in none) (each decl_at (codes_of begins_decl) (length l.fn.reader) l.fn.reader))

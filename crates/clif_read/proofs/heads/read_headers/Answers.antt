@@ -5,17 +5,17 @@ use Rattle.clif_words.specs.Classes.{code}
 use Rattle.token_reader.specs.Reading.{each, with_front}
 use Rattle.token_reader.proofs.Loops.{goes_on, fails, is_done}
 use Rattle.clif_read.specs.Heads.{header_at, headers_at}
-use Rattle.clif_read.proofs.heads.headers.Goals as goal
+use Rattle.clif_read.proofs.heads.read_headers.Goals as goal
 
 pub list-preserved : goal.list-preserved
 list-preserved c =
-    (rw c.in_ok-push.ensures.items (goes_on header_at (code classes.Header ∷ []) c.list.list.items c.list.reader c.header.new.reader c.in_ok-item.item (with_front (let none : List ℕ = [] in none) (each header_at (code classes.Header ∷ []) (length c.args.reader.now) c.args.reader.now)) (sym c.next_is.ensures ∙ c.list-test.true) c.in_ok-item.ensures.is c.in_ok-item.ensures.shorter c.list.invariant.0), omega (arith, c.in_ok-item.ensures.shorter, c.list.invariant.1))
+    (rw c.in_ok-push.ensures.items (goes_on header_at (code classes.Header ∷ []) c.list.list.items c.list.reader c.read_header.new.reader c.in_ok-item.item (with_front (let none : List ℕ = [] in none) (each header_at (code classes.Header ∷ []) (length c.args.reader.now) c.args.reader.now)) (sym c.next_is.ensures ∙ c.list-test.true) c.in_ok-item.ensures.is c.in_ok-item.ensures.shorter c.list.invariant.0), omega (arith, c.in_ok-item.ensures.shorter, c.list.invariant.1))
 
 pub returns-in_err-item-clause-is : goal.returns-in_err-item-clause-is
 unfolding headers_at
 returns-in_err-item-clause-is c =
     let p = err_from_is_err_and c.from_residual.result c.from_residual.ensures.1 in
-    rw (p.1, p.2) (fails header_at (code classes.Header ∷ []) c.list.list.items c.list.reader c.header.new.reader c.in_err-item.field-0.0 (with_front (let none : List ℕ = [] in none) (each header_at (code classes.Header ∷ []) (length c.args.reader.now) c.args.reader.now)) (sym c.next_is.ensures ∙ c.list-test.true) c.in_err-item.ensures.is c.list.invariant.0)
+    rw (p.1, p.2) (fails header_at (code classes.Header ∷ []) c.list.list.items c.list.reader c.read_header.new.reader c.in_err-item.field-0.0 (with_front (let none : List ℕ = [] in none) (each header_at (code classes.Header ∷ []) (length c.args.reader.now) c.args.reader.now)) (sym c.next_is.ensures ∙ c.list-test.true) c.in_err-item.ensures.is c.list.invariant.0)
 
 pub returns-clause-is : goal.returns-clause-is
 unfolding headers_at

@@ -2,7 +2,7 @@ use Rattle.std.proofs.Common.{[], false, length, sym, ◌∙◌, arith}
 use Rattle.std.proofs.lemmas.Result.{err_from_is_err_and}
 use Rattle.clif_read.specs.Lines.{more_lines_at, lines_at}
 use Rattle.clif_read.proofs.LineLoop.{goes_on, fails, is_done}
-use Rattle.clif_read.proofs.lines.block_lines.Goals as goal
+use Rattle.clif_read.proofs.lines.read_lines.Goals as goal
 
 pub lines-preserved : goal.lines-preserved
 lines-preserved c =
@@ -17,5 +17,5 @@ returns-in_err-after_return-clause-is c =
 pub returns-clause-is : goal.returns-clause-is
 unfolding lines_at
 returns-clause-is c =
-    rw c.shrink_to_fit.ensures.items
+    rw c.trim.ensures
     (is_done c.lines.list.items c.lines.after_return c.lines.reader (more_lines_at (length c.args.reader.now) [] false c.args.reader.now) (sym c.begins_line.ensures ∙ c.lines-test.false) c.lines.invariant.0)

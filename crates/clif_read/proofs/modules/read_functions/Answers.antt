@@ -6,7 +6,7 @@ use Rattle.clif_words.specs.Classes.{code}
 use Rattle.token_reader.specs.Reading.{each, with_front}
 use Rattle.clif_read.specs.Modules.{function_at, functions_at}
 use Rattle.token_reader.proofs.Loops.{goes_on, fails, is_done}
-use Rattle.clif_read.proofs.modules.functions.Goals as goal
+use Rattle.clif_read.proofs.modules.read_functions.Goals as goal
 
 pub list-preserved : goal.list-preserved
 list-preserved c =

@@ -4,7 +4,7 @@ use Rattle.clif_words.specs.Classes.{code}
 use Rattle.token_reader.specs.Reading.{each, with_front}
 use Rattle.token_reader.proofs.Loops.{Keeps}
 use Rattle.clif_read.specs.Heads.{header_at}
-use Rattle.clif_read.proofs.heads.headers.Given as goal
+use Rattle.clif_read.proofs.heads.read_headers.Given as goal
 
 abbrev pub invariant-list : goal.invariant-list
 invariant-list l = Keeps header_at (code classes.Header ∷ []) l.list.items l.reader (with_front (let none : List ℕ = [] in none) (each header_at (code classes.Header ∷ []) (length l.fn.reader) l.fn.reader))

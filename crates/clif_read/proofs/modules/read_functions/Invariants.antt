@@ -5,7 +5,7 @@ use Rattle.clif_words.specs.Classes.{code}
 use Rattle.token_reader.specs.Reading.{each, with_front}
 use Rattle.clif_read.specs.Modules.{function_at}
 use Rattle.token_reader.proofs.Loops.{Keeps}
-use Rattle.clif_read.proofs.modules.functions.Given as goal
+use Rattle.clif_read.proofs.modules.read_functions.Given as goal
 
 abbrev pub invariant-list : goal.invariant-list
 invariant-list l = Keeps function_at (code classes.Function ∷ []) l.list.items l.reader (with_front (let none : List RawFunction = [] in none) (each function_at (code classes.Function ∷ []) (length l.fn.reader) l.fn.reader))

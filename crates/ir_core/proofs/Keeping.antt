@@ -133,6 +133,36 @@ sound_append f ts us slots sigs callees is s few_slots few_sigs few_callees few_
       small = record { slots = omega (arith, length-append f.slots slots, few_slots); sigs = omega (arith, length-append f.sigs sigs, few_sigs); callees = omega (arith, length-append f.callees callees, few_callees); values = omega (arith, long, few_values); blocks = s.small.blocks; instructions = s.small.instructions };
     }
 
+-- declarations in place of none
+
+pub sound_declared : (f : Function) (slots : List SlotDecl) (sigs : List Sig) (callees : List Callee) → f.slots ≡ [] → f.sigs ≡ [] → f.callees ≡ [] → IsSound f → length slots < 2 ^ 32 - 1 → length sigs < 2 ^ 32 - 1 → length callees < 2 ^ 32 - 1 → Each (λ callee. callee.sig < length sigs) callees → IsSound (record f { slots = slots; sigs = sigs; callees = callees })
+sound_declared f slots sigs callees no_slots no_sigs no_callees s few_slots few_sigs few_callees in_range =
+    let m : Counts = counts_of (record f { slots = slots; sigs = sigs; callees = callees }) in
+    let more : AtMost (counts_of f) m = record { values = omega arith; blocks = omega arith; slots = omega (arith, ap length no_slots); sigs = omega (arith, ap length no_sigs); callees = omega (arith, ap length no_callees) } in
+    record {
+      callees = in_range;
+      blocks = blocks_more _ _ more f.blocks s.blocks;
+      numbered = s.numbered;
+      defined_once = s.defined_once;
+      block_range = s.block_range;
+      blocks_differ = s.blocks_differ;
+      small = record { slots = few_slots; sigs = few_sigs; callees = few_callees; values = s.small.values; blocks = s.small.blocks; instructions = s.small.instructions };
+    }
+
+pub sound_valued : (f : Function) (us : List Ty) → f.types ≡ [] → IsSound f → length us < 2 ^ 32 - 1 → IsSound (record f { types = enumerate_from 0 us })
+sound_valued f us none s few =
+    let long : length (enumerate_from 0 us) ≡ length us = length_numbered 0 us in
+    let more : AtMost (counts_of f) (counts_of (record f { types = enumerate_from 0 us })) = record { values = omega (arith, ap length none); blocks = omega arith; slots = omega arith; sigs = omega arith; callees = omega arith } in
+    record {
+      callees = callees_more _ _ more f.callees s.callees;
+      blocks = blocks_more _ _ more f.blocks s.blocks;
+      numbered = ap (enumerate_from 0) (sym (types_numbered 0 us));
+      defined_once = s.defined_once;
+      block_range = s.block_range;
+      blocks_differ = s.blocks_differ;
+      small = record { slots = s.small.slots; sigs = s.small.sigs; callees = s.small.callees; values = omega (arith, long, few); blocks = s.small.blocks; instructions = s.small.instructions };
+    }
+
 -- a block changed
 
 abbrev pub with_blocks : Function → List Block → Function

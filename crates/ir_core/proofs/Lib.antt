@@ -4,6 +4,7 @@ pub mod Copying
 pub mod Counting
 pub mod Cutting
 pub mod Equal
+pub mod Firsts
 pub mod Indexing
 pub mod Inserting
 pub mod Keeping

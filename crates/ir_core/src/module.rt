@@ -9,16 +9,18 @@ ghost use Rattle.ir_core.specs.WellFormed.{WellFormed, IsModule};
 use crate::func::Func;
 use crate::names::FuncName;
 use std::alloc::{AllocError, Global};
-use std::collections::BTreeMap;
+use std::collections::{BTreeMap, HashMap};
 use std::marker::Model;
 
 /// A module: whole functions of different names, in order. Contracts see it as a list of functions.
 #[derive(Drop)]
 pub struct Module {
     funcs: Vec<Func>,
-    /// The place of each function whose name is a text, by that text.
+    /// The place of the first function whose name has a hash, by that hash.
+    places: HashMap<u64, usize>,
+    /// The place of each function whose name is a text, where an earlier name has the same hash.
     texts: BTreeMap<Vec<u8>, usize>,
-    /// The place of each function whose name is two numbers.
+    /// The place of each function whose name is two numbers, where an earlier name has the same hash.
     users: BTreeMap<(u32, u32), usize>,
 }
 
@@ -42,6 +44,7 @@ impl Module {
     {
         Module {
             funcs: Vec::new(alloc),
+            places: HashMap::new(alloc),
             texts: BTreeMap::new(alloc),
             users: BTreeMap::new(alloc),
         }
@@ -51,7 +54,8 @@ impl Module {
     pub fn reserve(&mut self, additional: usize) -> Result<(), AllocError>
         ensures { self.new ≡ self.old }
     {
-        self.funcs.reserve(additional)
+        self.funcs.reserve(additional)?;
+        self.places.reserve(additional)
     }
 
     /// Appends a whole function, whose name no function of the module has. Only `AllocError` refuses; then the function
@@ -63,15 +67,20 @@ impl Module {
         ensures err { OnErr result (self.new ≡ self.old) }
     {
         let place = self.funcs.len();
+        let hash = func.name().hash();
         self.funcs.reserve(1)?;
-        match func.name() {
-            FuncName::Text(text) => {
-                let text = Vec::from_slice(*self.funcs.allocator(), text.as_slice())?;
-                self.texts.insert(text, place)?;
+        if self.places.contains_key(&hash) {
+            match func.name() {
+                FuncName::Text(text) => {
+                    let text = Vec::from_slice(*self.funcs.allocator(), text.as_slice())?;
+                    self.texts.insert(text, place)?;
+                }
+                FuncName::User(first, second) => {
+                    self.users.insert((*first, *second), place)?;
+                }
             }
-            FuncName::User(first, second) => {
-                self.users.insert((*first, *second), place)?;
-            }
+        } else {
+            self.places.insert(hash, place)?;
         }
         self.funcs.push_reserved(func);
         Ok(())
@@ -108,6 +117,10 @@ impl Module {
         ensures cases { MatchOption result (find_function name.now self.now ≡ None)
             (λ i. (i < length self.now) × (find_function name.now self.now ≡ slice_get self.now i)) }
     {
+        let place = self.places.get(&name.hash()).copied()?;
+        if self.funcs[place].name().is(name) {
+            return Some(place);
+        }
         match name {
             FuncName::Text(text) => self.texts.get(text.as_slice()).copied(),
             FuncName::User(first, second) => self.users.get(&(*first, *second)).copied(),

@@ -99,6 +99,36 @@ impl Func {
         append_reserved(&mut self.types, values);
     }
 
+    /// Gives a function that declares no slot, signature or callee these. The lists go in as they are.
+    pub fn take_declarations(
+        &mut self,
+        slots: List<SlotDecl>,
+        sigs: List<Sig>,
+        callees: List<Callee>,
+    )
+        requires no_slots { self.old.function.slots ≡ [] }
+        requires no_sigs { self.old.function.sigs ≡ [] }
+        requires no_callees { self.old.function.callees ≡ [] }
+        requires few_slots { length slots < 2 ^ 32 - 1 }
+        requires few_sigs { length sigs < 2 ^ 32 - 1 }
+        requires few_callees { length callees < 2 ^ 32 - 1 }
+        requires in_range { Each (λ callee. callee.sig < length sigs) callees }
+        ensures { self.new.function ≡ record self.old.function { slots = slots; sigs = sigs; callees = callees } }
+    {
+        self.slots = slots.into_vec();
+        self.sigs = sigs.into_vec();
+        self.callees = callees.into_vec();
+    }
+
+    /// Gives a function that declares no value values of these types. The list goes in as it is.
+    pub fn take_values(&mut self, values: List<Ty>)
+        requires none { self.old.function.types ≡ [] }
+        requires few { length values < 2 ^ 32 - 1 }
+        ensures { self.new.function ≡ record self.old.function { types = enumerate_from 0 values } }
+    {
+        self.types = values.into_vec();
+    }
+
     /// Puts an empty block directly after `after` and answers its number.
     pub fn insert_block(&mut self, after: Block, params: List<Value>) -> Block
         requires there { In after (block_numbers self.old.function.blocks) }

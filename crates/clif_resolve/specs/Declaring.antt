@@ -1,5 +1,5 @@
 -- A function with its declarations alone.
-use Rattle.std.specs.Prelude.{◌≡◌, ℕ, ◌-◌, ◌<◌, ◌^◌, List, [], flat_map, length}
+use Rattle.std.specs.Prelude.{ℕ, ◌-◌, ◌<◌, ◌^◌, List, [], flat_map, length}
 use Rattle.ir_core.specs.declared.declarations.Callee.{Callee}
 use Rattle.ir_core.specs.declared.declarations.SlotDecl.{SlotDecl}
 use Rattle.ir_core.specs.declared.signatures.Sig.{Sig}
@@ -14,13 +14,6 @@ sigs_of raw = flat_map own_sigs raw.decls
 
 abbrev pub declared : RawFunction → (ℕ → ℕ) → Function
 declared raw value = record (function_with raw value []) { blocks = [] }
-
--- nothing is declared
-pub record IsBare (f : Function) : Type 0 where
-  pub slots : f.slots ≡ []
-  pub sigs : f.sigs ≡ []
-  pub callees : f.callees ≡ []
-  pub types : f.types ≡ []
 
 -- few enough declarations, of which each callee has its signature among these
 pub record AreFew (ss : List SlotDecl) (gs : List Sig) (cs : List Callee) : Type 0 where

@@ -12,6 +12,37 @@ use clif_read::{RawCalleeSig, RawDecl, RawSignature};
 use ir_core::{Callee, List, Sig, SigRef, SlotDecl};
 use std::alloc::{AllocError, Global};
 
+/// How many declarations of slots there are, for room.
+fn count_slots(decls: &[RawDecl]) -> usize {
+    let mut count = 0usize;
+    for decl in decls {
+        if let RawDecl::Slot { .. } = decl {
+            count = count.saturating_add(1);
+        }
+    }
+    count
+}
+
+/// How many declarations of callees there are, for room.
+fn count_callees(decls: &[RawDecl]) -> usize {
+    let mut count = 0usize;
+    for decl in decls {
+        if let RawDecl::Callee { .. } = decl {
+            count = count.saturating_add(1);
+        }
+    }
+    count
+}
+
+/// How many signatures declarations have, for room.
+fn count_sigs(decls: &[RawDecl]) -> usize {
+    let mut count = 0usize;
+    for decl in decls {
+        count = count.saturating_add(sig_count(decl));
+    }
+    count
+}
+
 fn push_slot(list: &mut Vec<SlotDecl>, decl: &RawDecl) -> Result<(), AllocError>
     requires { AllKeep (decl_limits decl.now) }
     ensures { OnOk result (list.new.items ≡ list.old.items ++ spec.decl_slots decl.now) }
@@ -30,7 +61,7 @@ pub(crate) fn slots(alloc: Global, decls: &[RawDecl]) -> Result<List<SlotDecl>, 
     requires { AllKeep (flat_map decl_limits decls.now) }
     ensures { IfOk result (λ list. list ≡ flat_map spec.decl_slots decls.now) }
 {
-    let mut list = Vec::new(alloc);
+    let mut list = Vec::with_capacity(alloc, count_slots(decls))?;
     for decl in decls {
         push_slot(&mut list, decl)?;
     }
@@ -54,7 +85,7 @@ impl Sigs {
             ∷ []) }
     {
         let mut sigs = Sigs {
-            list: Vec::new(alloc),
+            list: Vec::with_capacity(alloc, count_sigs(decls))?,
             numbers: Vec::new(alloc),
         };
         for decl in decls {
@@ -150,7 +181,7 @@ pub(crate) fn callees(
     requires few { length (flat_map spec.decl_sigs decls.now) < 2 ^ 32 }
     ensures { IfOk result (λ list. list ≡ spec.callees_from (renaming words.now).sig 0 decls.now) }
 {
-    let mut list = Vec::new(alloc);
+    let mut list = Vec::with_capacity(alloc, count_callees(decls))?;
     let mut count = 0;
     for decl in decls {
         push_callee(&mut list, words, count, decl)?;

@@ -16,7 +16,7 @@ use crate::types::value_types;
 use clif_lines::{WordNumbers, func_name, signature};
 use clif_names::FunctionNames;
 use clif_read::{RawBlock, RawFunction, RawLine};
-use ir_core::{Callee, Func, List, Room, Sig, SlotDecl, Ty};
+use ir_core::{Func, List, Room, Sig, Ty};
 use std::alloc::{AllocError, Global};
 
 /// The function that is meant, `None` exactly where it has a fault of names or numbers. Takes time linear in its text.
@@ -99,33 +99,8 @@ fn declared(
     let name = func_name(&raw.name)?;
     let sig = signature(alloc, &raw.signature)?;
     let mut func = Func::new(alloc, name, sig)?;
-    declare(alloc, &mut func, slots, sigs, callees)?;
+    func.take_declarations(slots, sigs, callees);
     Ok(func)
-}
-
-/// Gives a function that has no declarations these.
-fn declare(
-    alloc: Global,
-    func: &mut Func,
-    slots: List<SlotDecl>,
-    sigs: List<Sig>,
-    callees: List<Callee>,
-) -> Result<(), AllocError>
-    requires none { declaring.IsBare func.old.function }
-    requires few { declaring.AreFew slots sigs callees }
-    ensures { OnOk result
-        (func.new.function ≡ record func.old.function { slots = slots; sigs = sigs; callees = callees }) }
-{
-    func.reserve(Room {
-        slots: slots.as_slice().len(),
-        sigs: sigs.as_slice().len(),
-        callees: callees.as_slice().len(),
-        values: 0,
-        blocks: 0,
-        insts: 0,
-    })?;
-    func.append(slots, sigs, callees, List::from_vec(Vec::new(alloc)));
-    Ok(())
 }
 
 /// Gives a function that has its declarations its values and its blocks.
@@ -144,28 +119,12 @@ fn complete(alloc: Global, func: &mut Func, filling: &Filling<'_>) -> Result<(),
 /// Declares values of these types.
 fn declare_values(alloc: Global, func: &mut Func, types: &[Ty]) -> Result<(), AllocError>
     requires none { func.old.function.types ≡ [] }
-    requires few_slots { length func.old.function.slots < 2 ^ 32 - 1 }
-    requires few_sigs { length func.old.function.sigs < 2 ^ 32 - 1 }
-    requires few_callees { length func.old.function.callees < 2 ^ 32 - 1 }
-    requires few_values { length types.now < 2 ^ 32 - 1 }
+    requires few { length types.now < 2 ^ 32 - 1 }
     ensures { OnOk result
         (func.new.function ≡ record func.old.function { types = enumerate_from 0 types.now }) }
 {
     let list = Vec::from_slice(alloc, types)?;
-    func.reserve(Room {
-        slots: 0,
-        sigs: 0,
-        callees: 0,
-        values: types.len(),
-        blocks: 0,
-        insts: 0,
-    })?;
-    func.append(
-        List::from_vec(Vec::new(alloc)),
-        List::from_vec(Vec::new(alloc)),
-        List::from_vec(Vec::new(alloc)),
-        List::from_vec(list),
-    );
+    func.take_values(List::from_vec(list));
     Ok(())
 }
 

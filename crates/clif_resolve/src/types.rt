@@ -131,7 +131,7 @@ pub(crate) fn value_types(
         (λ types. types.items
         ≡ spec.types_along func.now.function (renaming words.now) (flat_map block_steps blocks.now)) }
 {
-    let mut types = Vec::new(alloc);
+    let mut types = Vec::with_capacity(alloc, words.names.values_before.len())?;
     for block in blocks {
         push_block(&mut types, func, words, block)?;
     }

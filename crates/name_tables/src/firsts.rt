@@ -5,6 +5,9 @@ use std::alloc::{AllocError, Global};
 use std::marker::Model;
 use token_reader::RawName;
 
+/// For how many definitions a list has room with its first one: most functions of a few lines have no more.
+const FIRST_ROOM: usize = 8;
+
 /// A definition of a value, and the word that it stands for where it is an alias line.
 #[derive(Clone, Copy, Debug)]
 pub struct Def {
@@ -41,6 +44,9 @@ impl Firsts {
     pub(crate) fn push(&mut self, def: Def) -> Result<(), AllocError>
         ensures { OnOk result (self.new ≡ self.old ++ def ∷ []) }
     {
+        if self.items.is_empty() {
+            self.items.reserve(FIRST_ROOM)?;
+        }
         self.items.push(def)?;
         Ok(())
     }

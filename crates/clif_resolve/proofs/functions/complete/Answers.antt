@@ -8,17 +8,8 @@ use Rattle.clif_resolve.proofs.functions.complete.Goals as goal
 pub declare_values-requires-clause-none : goal.declare_values-requires-clause-none
 declare_values-requires-clause-none c = ap (λ (f : Function). f.types) c.requires.declared
 
-pub declare_values-requires-clause-few_slots : goal.declare_values-requires-clause-few_slots
-declare_values-requires-clause-few_slots c = subst (λ (f : Function). length f.slots < 2 ^ 32 - 1) (sym c.requires.declared) c.requires.ready.sound.small.slots
-
-pub declare_values-requires-clause-few_sigs : goal.declare_values-requires-clause-few_sigs
-declare_values-requires-clause-few_sigs c = subst (λ (f : Function). length f.sigs < 2 ^ 32 - 1) (sym c.requires.declared) c.requires.ready.sound.small.sigs
-
-pub declare_values-requires-clause-few_callees : goal.declare_values-requires-clause-few_callees
-declare_values-requires-clause-few_callees c = subst (λ (f : Function). length f.callees < 2 ^ 32 - 1) (sym c.requires.declared) c.requires.ready.sound.small.callees
-
-pub declare_values-requires-clause-few_values : goal.declare_values-requires-clause-few_values
-declare_values-requires-clause-few_values c = few_values c.args.filling.now.raw.now (renaming c.args.filling.now.words.now) c.args.filling.now.types.now c.requires.ready
+pub declare_values-requires-clause-few : goal.declare_values-requires-clause-few
+declare_values-requires-clause-few c = few_values c.args.filling.now.raw.now (renaming c.args.filling.now.words.now) c.args.filling.now.types.now c.requires.ready
 
 pub add_blocks-requires-clause-none : goal.add_blocks-requires-clause-none
 add_blocks-requires-clause-none c = ap (λ (f : Function). f.blocks) c.in_ok-declare_values.ensures ∙ ap (λ (f : Function). f.blocks) c.requires.declared

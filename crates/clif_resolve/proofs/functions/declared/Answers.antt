@@ -22,15 +22,33 @@ callees-requires-clause-few c = subst (λ (ds : List RawDecl). length (flat_map 
 pub func_name-requires : goal.func_name-requires
 func_name-requires c = name_kept c.args.raw.now c.requires.free
 
-pub declare-requires-clause-few : goal.declare-requires-clause-few
-declare-requires-clause-few c =
-    few_by c.args.raw.now (renaming c.args.words.now) c.requires.words _ _ _
+pub take_declarations-requires-clause-few_slots : goal.take_declarations-requires-clause-few_slots
+take_declarations-requires-clause-few_slots c =
+    (few_by c.args.raw.now (renaming c.args.words.now) c.requires.words _ _ _
     (c.in_ok-slots.ensures ∙ ap (λ (ds : List RawDecl). flat_map decl_slots ds) c.as_slice-decls.ensures) c.requires.sigs
-    (c.in_ok-callees.ensures ∙ ap (λ (ds : List RawDecl). callees_from (renaming c.args.words.now).sig 0 ds) c.as_slice-decls.ensures) c.requires.free
+    (c.in_ok-callees.ensures ∙ ap (λ (ds : List RawDecl). callees_from (renaming c.args.words.now).sig 0 ds) c.as_slice-decls.ensures) c.requires.free).slots
+
+pub take_declarations-requires-clause-few_sigs : goal.take_declarations-requires-clause-few_sigs
+take_declarations-requires-clause-few_sigs c =
+    (few_by c.args.raw.now (renaming c.args.words.now) c.requires.words _ _ _
+    (c.in_ok-slots.ensures ∙ ap (λ (ds : List RawDecl). flat_map decl_slots ds) c.as_slice-decls.ensures) c.requires.sigs
+    (c.in_ok-callees.ensures ∙ ap (λ (ds : List RawDecl). callees_from (renaming c.args.words.now).sig 0 ds) c.as_slice-decls.ensures) c.requires.free).sigs
+
+pub take_declarations-requires-clause-few_callees : goal.take_declarations-requires-clause-few_callees
+take_declarations-requires-clause-few_callees c =
+    (few_by c.args.raw.now (renaming c.args.words.now) c.requires.words _ _ _
+    (c.in_ok-slots.ensures ∙ ap (λ (ds : List RawDecl). flat_map decl_slots ds) c.as_slice-decls.ensures) c.requires.sigs
+    (c.in_ok-callees.ensures ∙ ap (λ (ds : List RawDecl). callees_from (renaming c.args.words.now).sig 0 ds) c.as_slice-decls.ensures) c.requires.free).callees
+
+pub take_declarations-requires-clause-in_range : goal.take_declarations-requires-clause-in_range
+take_declarations-requires-clause-in_range c =
+    (few_by c.args.raw.now (renaming c.args.words.now) c.requires.words _ _ _
+    (c.in_ok-slots.ensures ∙ ap (λ (ds : List RawDecl). flat_map decl_slots ds) c.as_slice-decls.ensures) c.requires.sigs
+    (c.in_ok-callees.ensures ∙ ap (λ (ds : List RawDecl). callees_from (renaming c.args.words.now).sig 0 ds) c.as_slice-decls.ensures) c.requires.free).in_range
 
 pub returns : goal.returns
 returns c =
     declared_by c.args.raw.now (renaming c.args.words.now) c.requires.words _ _ _
     (c.in_ok-slots.ensures ∙ ap (λ (ds : List RawDecl). flat_map decl_slots ds) c.as_slice-decls.ensures) c.requires.sigs
     (c.in_ok-callees.ensures ∙ ap (λ (ds : List RawDecl). callees_from (renaming c.args.words.now).sig 0 ds) c.as_slice-decls.ensures)
-    _ _ _ _ c.in_ok-name.ensures c.in_ok-sig.ensures c.in_ok-func.ensures c.in_ok-declare.ensures
+    _ _ _ _ c.in_ok-name.ensures c.in_ok-sig.ensures c.in_ok-func.ensures c.take_declarations.ensures

@@ -8,3 +8,4 @@ pub mod Ranged
 pub mod Rowed
 pub mod Using
 pub mod Searching
+pub mod Passing

@@ -6,3 +6,4 @@ pub mod Refusal
 pub mod Accepting
 pub mod RowTypes
 pub mod Kinds
+pub mod Nearby

@@ -77,9 +77,10 @@ fn find_err(alloc: Global, module: &Module) -> Option<CheckErr>
 
 /// Checks a module. Accepted or not, it is handed back. The signatures are numbered once, in memory linear in them, and
 /// compared by their numbers. So all rules but availability take time linear in the module, times the logarithm of the
-/// number of signatures for each signature, and of the number of functions for each callee declaration. Availability
-/// takes a logarithm of the number of blocks for each use, and for each function a few sweeps over its edges (more only
-/// for paths that are made to need them) and memory proportional to the function.
+/// number of signatures for each signature. Availability takes time linear in a function, and no memory, where the
+/// numbers of its values show it. Elsewhere it takes a logarithm of the number of blocks for each use, and for each
+/// function a few sweeps over its edges (more only for paths that are made to need them) and memory proportional to the
+/// function.
 pub fn check(alloc: Global, module: Module) -> Result<Checked, Rejected>
     ensures accepted { IfOk result (λ checked. (checked ≡ «module») × Accepted «module») }
     ensures same { IfErr result (λ rejected. rejected.«module» ≡ «module») }

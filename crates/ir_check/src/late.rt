@@ -8,6 +8,7 @@ ghost use Rattle.ir_check.specs.Found.{FindsIn, FindsAny, line_checks, checks_of
 
 use crate::faults::Fault;
 use crate::kinds::CheckKind;
+use crate::nearby::shows_available;
 use crate::uses::uses_available;
 use avail_flow::{Avail, flow};
 use ir_core::{Block, Func, Item, Module, Point};
@@ -47,8 +48,8 @@ fn find_use_in_blocks(avail: &Avail<'_>, func: &Func, number: usize) -> Option<F
     None
 }
 
-/// The first instruction of a function that uses a value that is not available. `number` is the function's place. Only
-/// `AllocError` refuses.
+/// The first instruction of a function that uses a value that is not available. `number` is the function's place. The
+/// paths are read only where the numbers of the values do not show the answer. Only `AllocError` refuses.
 pub fn find_use_in_func(
     alloc: Global,
     func: &Func,
@@ -57,6 +58,9 @@ pub fn find_use_in_func(
     requires { IsWhole func.now.function }
     ensures { IfOk result (FindsIn func.now.function (checks_of_function last_rules number func.now.function)) }
 {
+    if shows_available(func) {
+        return Ok(None);
+    }
     let avail = flow(alloc, func)?;
     Ok(find_use_in_blocks(&avail, func, number))
 }

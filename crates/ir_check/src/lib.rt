@@ -12,6 +12,7 @@ mod kinds;
 mod late;
 pub mod laws;
 mod lines;
+mod nearby;
 mod row_types;
 mod rules;
 mod types;

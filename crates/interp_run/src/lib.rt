@@ -8,7 +8,6 @@ mod addresses;
 mod calls;
 mod linked;
 mod run;
-mod signatures;
 mod steps;
 
 pub use interp::{End, Event, Outcome, Shown};

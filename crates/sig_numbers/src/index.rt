@@ -1,25 +1,36 @@
 //! An index of signatures.
-ghost use Rattle.std.specs.Prelude.{◌≡◌, Some, IfOk, OnOk};
+ghost use Rattle.std.specs.Prelude.{◌≡◌, Some, IfOk, OnOk, IfSome};
 ghost use Rattle.sig_numbers.specs.Index.{IsIndex, Keeps, number_at, number_of};
 
+use crate::same::is_same_sig;
 use body_import::sig_key;
 use ir_core::Sig;
 use std::alloc::{AllocError, Global};
 use std::collections::BTreeMap;
 
-/// The number of each signature that was put in, by its key.
-#[derive(Drop)]
-pub(crate) struct SigIndex {
-    pub(crate) map: BTreeMap<Vec<u32>, usize>,
+/// A signature and its number.
+#[derive(Clone, Copy)]
+pub(crate) struct Numbered<'a> {
+    pub(crate) sig: &'a Sig,
+    pub(crate) number: usize,
 }
 
-impl SigIndex {
+/// The number of each signature that was put in, by its key.
+#[derive(Drop)]
+pub(crate) struct SigIndex<'a> {
+    pub(crate) map: BTreeMap<Vec<u32>, usize>,
+    /// The one that was numbered last, since the next is mostly the same.
+    pub(crate) last: Option<Numbered<'a>>,
+}
+
+impl<'a> SigIndex<'a> {
     /// The index of no signature.
-    pub(crate) fn new(alloc: Global) -> SigIndex
+    pub(crate) fn new(alloc: Global) -> SigIndex<'a>
         ensures { IsIndex result }
     {
         SigIndex {
             map: BTreeMap::new(alloc),
+            last: None,
         }
     }
 
@@ -38,15 +49,32 @@ impl SigIndex {
         Ok(number)
     }
 
+    /// The number of a signature that is the same as the last one.
+    fn number_again(&self, sig: &Sig) -> Option<usize>
+        requires { IsIndex self.now }
+        ensures { IfSome result (λ n. number_of self.now sig.now ≡ Some n) }
+    {
+        match self.last {
+            Some(last) if is_same_sig(last.sig, sig) => Some(last.number),
+            _ => None,
+        }
+    }
+
     /// The number of a signature: equal ones have one number, others have different numbers. It takes time linear in
-    /// the signature, times the logarithm of the number of signatures. Only `AllocError` refuses.
-    pub(crate) fn number(&mut self, alloc: Global, sig: &Sig) -> Result<usize, AllocError>
+    /// the signature, times the logarithm of the number of signatures where it differs from the last one. Only
+    /// `AllocError` refuses.
+    pub(crate) fn number(&mut self, alloc: Global, sig: &'a Sig) -> Result<usize, AllocError>
         requires { IsIndex self.old }
         ensures index { OnOk result (IsIndex self.new) }
         ensures keeps { OnOk result (Keeps self.old self.new) }
         ensures number { IfOk result (λ n. number_of self.new sig.now ≡ Some n) }
     {
+        if let Some(number) = self.number_again(sig) {
+            return Ok(number);
+        }
         let key = sig_key(alloc, sig)?;
-        self.number_key(key)
+        let number = self.number_key(key)?;
+        self.last = Some(Numbered { sig, number });
+        Ok(number)
     }
 }

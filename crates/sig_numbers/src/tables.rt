@@ -26,11 +26,11 @@ pub(crate) struct SigTable {
 }
 
 /// The entries of signatures that a function declares whose own is `own`. Only `AllocError` refuses.
-fn find_entries(
+fn find_entries<'a>(
     alloc: Global,
-    index: &mut SigIndex,
+    index: &mut SigIndex<'a>,
     own: &Sig,
-    sigs: &[Sig],
+    sigs: &'a [Sig],
 ) -> Result<Vec<SigEntry>, AllocError>
     requires { IsIndex index.old }
     ensures index { OnOk result (IsIndex index.new) }
@@ -53,7 +53,11 @@ fn find_entries(
 }
 
 /// The table of a function. Only `AllocError` refuses.
-fn find_table(alloc: Global, index: &mut SigIndex, func: &Func) -> Result<SigTable, AllocError>
+fn find_table<'a>(
+    alloc: Global,
+    index: &mut SigIndex<'a>,
+    func: &'a Func,
+) -> Result<SigTable, AllocError>
     requires { IsIndex index.old }
     ensures index { OnOk result (IsIndex index.new) }
     ensures keeps { OnOk result (Keeps index.old index.new) }

@@ -1,17 +1,9 @@
 //! Whether signatures are the same.
 ghost use Rattle.std.specs.Prelude.{◌≡◌};
-ghost use Rattle.ir_core.specs.Signatures.{same_type, same_conv, same_ext, same_purpose, same_param, same_params};
-ghost use Rattle.ir_core.specs.Signatures.{same_sig};
+ghost use Rattle.ir_core.specs.Signatures.{same_conv, same_ext, same_purpose, same_param, same_params, same_sig};
 
-use interp::width_of;
-use ir_core::{Conv, Ext, Param, Purpose, Sig, Ty};
-
-/// Whether two types are one.
-fn is_same_type(a: Ty, b: Ty) -> bool
-    ensures { result ≡ same_type a b }
-{
-    width_of(a).bits() == width_of(b).bits()
-}
+use crate::types::is_same_type;
+use ir_core::{Conv, Ext, Param, Purpose, Sig};
 
 /// Whether two ways of extending are one.
 fn is_same_ext(a: Ext, b: Ext) -> bool
@@ -73,12 +65,12 @@ fn are_same_params(a: &[Param], b: &[Param]) -> bool
     true
 }
 
-/// Whether two signatures are the same.
+/// Whether two signatures are the same. It takes no more steps than the first has parameters and results.
 #[tactic(auto, unfolding(ir_core::specs::Signatures::same_sig))]
 pub fn is_same_sig(a: &Sig, b: &Sig) -> bool
     ensures { result ≡ same_sig a.now b.now }
 {
-    are_same_params(a.params.as_slice(), b.params.as_slice())
+    is_same_conv(a.conv, b.conv)
+        && are_same_params(a.params.as_slice(), b.params.as_slice())
         && are_same_params(a.results.as_slice(), b.results.as_slice())
-        && is_same_conv(a.conv, b.conv)
 }

@@ -1,5 +1,0 @@
-use Rattle.interp_run.proofs.Addressing.{params_apart}
-use Rattle.interp_run.proofs.signatures.are_same_params.Goals as goal
-
-pub returns-then-a-b : goal.returns-then-a-b
-returns-then-a-b c = params_apart c.args.a.now c.args.b.now c.if-a-b.true

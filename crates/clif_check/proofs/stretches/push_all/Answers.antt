@@ -1,13 +1,13 @@
-use Rattle.std.proofs.Common.{◌≡◌, [], ◌∷◌, ◌++◌, List, map, sym, ap, subst, ◌∙◌, append_assoc, None, rules}
+use Rattle.std.proofs.Common.{◌≡◌, [], ◌∷◌, ◌++◌, List, map, length, refl, sym, ap, subst, ◌∙◌, append_assoc, append-nil, None, rules}
 use Rattle.std.specs.Prelude.{reverse}
-use Rattle.std.proofs.lemmas.List.{reverse-append}
+use Rattle.std.proofs.lemmas.List.{reverse-append, reverse-reverse}
 use Rattle.ir_core.specs.Edits.{Body}
 use Rattle.ir_core.specs.Lists.{Each}
 use Rattle.ir_core.specs.Lookup.{find_function}
 use Rattle.ir_core.specs.Module.{Module}
 use Rattle.ir_core.specs.Sound.{IsWhole}
 use Rattle.ir_core.specs.WellFormed.{DifferentNames}
-use Rattle.ir_core.proofs.Members.{each_left, each_right}
+use Rattle.ir_core.proofs.Members.{each_join, each_left, each_right}
 use Rattle.ir_core.proofs.Wholeness.{names_more}
 use Rattle.clif_check.proofs.stretches.push_all.Goals as goal
 
@@ -25,6 +25,32 @@ last_is_next : (m : Module) (old new : List Body) (b : Body) → old ≡ new ++ 
 last_is_next m old new b e =
     append_assoc m (b.function ∷ []) (map (λ (x : Body). x.function) (reverse new))
     ∙ ap (λ (bs : List Body). m ++ map (λ (x : Body). x.function) bs) (sym (reverse-append new (b ∷ [])) ∙ ap reverse (sym e))
+
+whole_reversed : (bs : List Body) → Whole bs → Whole (reverse bs)
+whole_reversed [] h = h
+whole_reversed (b ∷ bs) h =
+    subst Whole (sym (reverse-append (b ∷ []) bs))
+    (each_join (λ (x : Body). IsWhole x.function) (reverse bs) (b ∷ []) (whole_reversed bs h.1) (h.0, tt))
+
+none_left : (bs : List Body) → length bs ≡ 0 → bs ≡ []
+none_left [] h = refl
+none_left (b ∷ bs) h = cc
+
+pub functions-init : goal.functions-init
+functions-init c = record {
+  apart = c.requires.apart;
+  whole = subst Whole (sym c.reverse.ensures.items) (whole_reversed c.args.functions.items c.requires.whole);
+  all = refl;
+}
+
+pub returns-clause-functions : goal.returns-clause-functions
+returns-clause-functions c =
+    let i = c.functions.invariant in
+    let gone : c.functions.left.items ≡ [] = none_left c.functions.left.items (sym c.functions.left.ok.0 ∙ c.in_default.ensures.cases.0) in
+    sym (append-nil c.functions.module)
+    ∙ ap (λ (bs : List Body). c.functions.module ++ map (λ (x : Body). x.function) (reverse bs)) (sym gone)
+    ∙ i.all
+    ∙ ap (λ (bs : List Body). c.args.before ++ map (λ (x : Body). x.function) bs) (ap reverse c.reverse.ensures.items ∙ reverse-reverse c.args.functions.items)
 
 pub push-requires-clause-whole : goal.push-requires-clause-whole
 push-requires-clause-whole c = last_whole c.functions.left.items c.pop.new.self.items c.in-Some.func c.in-Some.ensures.items c.functions.invariant.whole

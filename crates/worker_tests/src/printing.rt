@@ -1,5 +1,5 @@
 //! What no clause says: that memory suffices for a small module, whose text several workers print as one does.
-ghost use Rattle.std.specs.Prelude.{IfOk};
+ghost use Rattle.std.specs.Prelude.{◌<◌, IfOk};
 ghost use Rattle.ir_core.specs.Sound.{IsWhole};
 
 use clif_numbers::numbering;
@@ -9,6 +9,7 @@ use debug_tags::Tags;
 use ir_core::{Conv, Func, FuncName, Inst, InstData, List, Module, Sig, Values};
 use print_workers::{PrintErr, print_with};
 use std::alloc::{AllocError, Global};
+use std::thread::Threads;
 
 const TEXT: &[u8] = b"function u0:0() fast {\nblock0:\n    return\n}\n\n\
       function u0:1() fast {\nblock0:\n    return\n}\n\nfunction u0:2() fast {\nblock0:\n    return\n}\n";
@@ -46,6 +47,25 @@ fn three(alloc: Global) -> Result<Module, AllocError> {
     Ok(module)
 }
 
+/// Whether so many workers write the text, and into a sink with less room its beginning.
+fn is_printed_by<R: Threads + Sync>(
+    rt: &R,
+    alloc: Global,
+    module: &Module,
+    workers: usize,
+) -> Result<bool, AllocError>
+    requires { 0 < workers }
+{
+    let mut out = MemSink::new(alloc, Vec::new(alloc), 1000)?;
+    let printed = print_with(rt, alloc, module, workers, &mut out);
+    if printed != Ok(()) || out.bytes() != TEXT {
+        return Ok(false);
+    }
+    let mut small = MemSink::new(alloc, Vec::new(alloc), 60)?;
+    let failed = print_with(rt, alloc, module, workers, &mut small);
+    Ok(failed == Err(PrintErr::Failed) && small.bytes() == &TEXT[..60])
+}
+
 #[test]
 fn workers_print_what_one_prints(rt: HostRuntime) -> Result<(), AllocError> {
     let alloc = rt.alloc();
@@ -55,13 +75,10 @@ fn workers_print_what_one_prints(rt: HostRuntime) -> Result<(), AllocError> {
     assert!(rt; print(&module, &numbers, &mut out).is_ok());
     assert!(rt; out.bytes() == TEXT);
     for workers in [1, 2, 5] {
-        let mut out = MemSink::new(alloc, Vec::new(alloc), 1000)?;
-        assert!(rt; print_with(&rt, alloc, &module, workers, &mut out) == Ok(()));
-        assert!(rt; out.bytes() == TEXT, "{workers} workers");
-        let mut small = MemSink::new(alloc, Vec::new(alloc), 60)?;
-        let failed = print_with(&rt, alloc, &module, workers, &mut small);
-        assert!(rt; failed == Err(PrintErr::Failed));
-        assert!(rt; small.bytes() == &TEXT[..60]);
+        assert!(rt;
+            is_printed_by(&rt, alloc, &module, workers)?,
+            "{workers} workers"
+        );
     }
     Ok(())
 }

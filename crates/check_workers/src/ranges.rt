@@ -20,7 +20,7 @@ impl<'m> Ranges<()> for FuncRanges<'m> {
 
     ghost stand = { λ ranges from to items. AllKeepRules ranges.«module».now from to };
 
-    fn stretch_end(&self, from: usize, end: usize, size: usize) -> usize {
+    fn find_stretch_end(&self, from: usize, end: usize, size: usize) -> usize {
         if end - from <= size {
             return end;
         }

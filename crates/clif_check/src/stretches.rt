@@ -15,7 +15,7 @@ use clif_resolve::meant_function;
 use clif_words::Class;
 use ir_core::{Func, Module};
 use range_workers::{Ranges, read_by_workers};
-use read_workers::{front_end, read_front, stretch_end};
+use read_workers::{find_front_end, find_stretch_end, read_front};
 use std::alloc::Global;
 use std::thread::Threads;
 use token_reader::Reader;
@@ -72,8 +72,8 @@ impl<'t> Ranges<Func> for TextRanges<'t> {
 
     ghost stand = { λ ranges from to functions. MeanFunctions ranges.text.now from to functions };
 
-    fn stretch_end(&self, from: usize, end: usize, size: usize) -> usize {
-        stretch_end(self.text, from, end, size)
+    fn find_stretch_end(&self, from: usize, end: usize, size: usize) -> usize {
+        find_stretch_end(self.text, from, end, size)
     }
 
     fn read_stretch(&self, alloc: Global, from: usize, end: usize) -> Option<Vec<Func>> {
@@ -148,7 +148,7 @@ pub fn read_module<R: Threads + Sync>(
 ) -> Option<Module>
     ensures { IfSome result (Reads text.now) }
 {
-    let end = front_end(text, size);
+    let end = find_front_end(text, size);
     let front = read_front(alloc, text, end)?;
     let first = meant_functions(alloc, front.functions.as_slice())?;
     let ranges = TextRanges { text };

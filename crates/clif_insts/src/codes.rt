@@ -32,7 +32,7 @@ pub(crate) fn read_condition(reader: &mut Reader<'_>) -> Result<Cc, Stop>
 }
 
 /// What a trap code but `userN` is in an instruction.
-fn raw_trap(code: NamedTrap) -> RawTrap
+fn to_raw_trap(code: NamedTrap) -> RawTrap
     ensures { result ≡ spec.trap_of (trap_place code) }
 {
     match code {
@@ -54,7 +54,7 @@ pub(crate) fn read_trap_code(reader: &mut Reader<'_>) -> Result<RawTrap, Stop>
     match reader.next_terminal() {
         Some(Terminal::Word(Word::TrapCode(code))) => {
             reader.advance();
-            Ok(raw_trap(code))
+            Ok(to_raw_trap(code))
         }
         _ => Ok(RawTrap::User(reader.take(Class::UserTrap)?)),
     }

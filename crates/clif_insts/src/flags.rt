@@ -44,7 +44,7 @@ impl Order {
 }
 
 /// What a flag but `little`, `big` and `vmctx` is in an instruction.
-fn raw_flag(flag: Flag) -> RawFlag
+fn to_raw_flag(flag: Flag) -> RawFlag
     ensures { result ≡ spec.flag_of (flag_place flag) }
 {
     match flag {
@@ -75,7 +75,7 @@ pub(crate) fn read_plain_flag(reader: &mut Reader<'_>) -> Result<RawFlag, Stop>
     match reader.next_terminal() {
         Some(Terminal::Word(Word::Flag(flag))) => {
             reader.advance();
-            Ok(raw_flag(flag))
+            Ok(to_raw_flag(flag))
         }
         Some(Terminal::Word(Word::Vmctx)) => {
             reader.advance();

@@ -53,7 +53,7 @@ impl fmt::Display for SyntaxErr {
 impl Error for SyntaxErr {}
 
 /// The error of a stop at a token.
-fn error_at(stop: Stop, place: usize) -> SyntaxErr
+fn make_error(stop: Stop, place: usize) -> SyntaxErr
     ensures { result ≡ insts.error_at stop place }
 {
     match stop {
@@ -153,6 +153,6 @@ pub fn inst(
     let place = find_place(tokens, i, reader.spot_or(text.len()));
     match read {
         Ok(found) => Ok((found, place)),
-        Err(stop) => Err(error_at(stop, place)),
+        Err(stop) => Err(make_error(stop, place)),
     }
 }

@@ -13,7 +13,7 @@ use std::alloc::Global;
 use token_reader::{Reader, Stop, start_list};
 
 /// The attribute that an extension is.
-fn raw_extension(extension: Extension) -> RawAttribute
+fn to_raw_extension(extension: Extension) -> RawAttribute
     ensures { result ≡ values.ext_of (extension_place extension) }
 {
     match extension {
@@ -31,7 +31,7 @@ fn read_ext(reader: &mut Reader<'_>) -> Result<RawAttribute, Stop>
     match reader.next_terminal() {
         Some(Terminal::Word(Word::Ext(extension))) => {
             reader.advance();
-            Ok(raw_extension(extension))
+            Ok(to_raw_extension(extension))
         }
         _ => Err(Stop::Syntax),
     }

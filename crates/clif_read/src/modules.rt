@@ -79,7 +79,7 @@ fn read_more_blocks(
 
 /// For how many blocks there is room at first: for four where a second one follows, else for the first alone.
 #[inline]
-fn room_for_blocks(reader: &Reader<'_>) -> usize {
+fn guess_block_count(reader: &Reader<'_>) -> usize {
     if reader.next_is(Class::Block) { 4 } else { 1 }
 }
 
@@ -95,7 +95,7 @@ pub fn read_function(alloc: Global, reader: &mut Reader<'_>) -> Result<RawFuncti
     reader.take(Class::LeftBrace)?;
     let decls = read_decls(alloc, reader)?;
     let first = read_block(alloc, reader)?;
-    let front = start_list_in_room(alloc, first, room_for_blocks(reader))?;
+    let front = start_list_in_room(alloc, first, guess_block_count(reader))?;
     let blocks = read_more_blocks(alloc, reader, front)?;
     let brace = reader.take(Class::RightBrace)?;
     Ok(RawFunction {

@@ -15,7 +15,7 @@ use std::alloc::Global;
 use token_reader::{Reader, Stop};
 
 /// The error of a stop at this byte.
-fn error_at(stop: Stop, spot: usize) -> TextErr
+fn make_error(stop: Stop, spot: usize) -> TextErr
     ensures { result ≡ spec.error_at stop spot }
 {
     let kind = match stop {
@@ -45,7 +45,7 @@ pub fn read_raw_alone(alloc: Global, text: &[u8], tokens: &Tokens) -> Result<Raw
     let spot = reader.spot_or(text.len());
     match read {
         Ok(found) => Ok(found),
-        Err(stop) => Err(error_at(stop, spot)),
+        Err(stop) => Err(make_error(stop, spot)),
     }
 }
 

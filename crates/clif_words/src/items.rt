@@ -13,13 +13,13 @@ ghost use Rattle.clif_words.specs.Lexemes as spec;
 
 use crate::class::Class;
 use crate::meanings::{Entity, Terminal, Word};
-use crate::opcodes::{OpcodeRow, opcode_rows};
+use crate::opcodes::{OpcodeRow, list_opcode_rows};
 use crate::words::*;
 use clif_lex::{TokenKind, digit, digit_run};
 
 /// The byte at the front, or 0 in an empty text.
 #[inline]
-fn front(text: &[u8]) -> u8
+fn get_first_byte(text: &[u8]) -> u8
     ensures { result ≡ first text.now }
 {
     match text.first() {
@@ -105,7 +105,7 @@ fn match_word(number: usize, word: &[u8]) -> Option<Word>
     requires { number < length table.all_words }
     ensures { option_map seen_word result ≡ words.look_up (take 1 (drop number table.all_words)) word.now }
 {
-    let opcodes = opcode_rows();
+    let opcodes = list_opcode_rows();
     if number < opcodes.len() {
         match_opcode(opcodes, number, word)
     } else {
@@ -164,7 +164,7 @@ fn parse_entity_number(digits: &[u8]) -> u64
 fn is_plain(digits: &[u8]) -> bool
     ensures { result ≡ words.is_plain digits.now }
 {
-    front(digits) != b'0' || digits.len() == 1
+    get_first_byte(digits) != b'0' || digits.len() == 1
 }
 
 /// How many digits stand at the end.
@@ -279,7 +279,7 @@ fn parse_value(word: &[u8]) -> Option<u64>
 /// What a word is to the grammar.
 #[inline(always)]
 #[tactic(auto, unfolding(crate::specs::Words::word_meaning))]
-pub fn word_meaning(word: &[u8]) -> Word
+pub fn find_word_meaning(word: &[u8]) -> Word
     ensures { seen_word result ≡ words.word_meaning word.now }
 {
     match find_word(word) {
@@ -316,7 +316,7 @@ fn classify_number(spelling: &[u8]) -> (Class, Terminal)
     ensures { (seen result.1 ≡ words.means (spec.number_class spelling.now) 0)
         × (result.0 ≡ spec.number_class spelling.now) }
 {
-    match front(spelling) {
+    match get_first_byte(spelling) {
         b'+' | b'-' => (Class::Signed, Terminal::Signed),
         _ => (Class::Unsigned, Terminal::Unsigned),
     }
@@ -325,7 +325,7 @@ fn classify_number(spelling: &[u8]) -> (Class, Terminal)
 /// The class of a token with this spelling, and what it is, where no search tells it. Nothing is given for words alone,
 /// and for which of them is not promised: values of few digits are told.
 #[inline(always)]
-pub fn quick_terminal(kind: TokenKind, spelling: &[u8]) -> Option<(Class, Terminal)>
+pub fn match_quick_terminal(kind: TokenKind, spelling: &[u8]) -> Option<(Class, Terminal)>
     ensures is { IfSome result (λ found. (seen found.1 ≡ spec.meaning_of kind spelling.now)
         × (found.0 ≡ (seen found.1).class)) }
     ensures word { result ≡ None → kind ≡ kinds.Word }

@@ -9,6 +9,6 @@ mod opcodes;
 mod words;
 
 pub use class::Class;
-pub use items::{quick_terminal, word_meaning};
+pub use items::{find_word_meaning, match_quick_terminal};
 pub use meanings::{Entity, Extension, Flag, NamedTrap, Terminal, Word};
-pub use opcodes::{OPCODES, Opcode, OpcodeRow, opcode_rows};
+pub use opcodes::{OPCODES, Opcode, OpcodeRow, list_opcode_rows};

@@ -83,7 +83,7 @@ impl Entity {
 }
 
 /// Which of its class the word of a calling convention is.
-fn convention_number(convention: Conv) -> u64
+fn find_convention_number(convention: Conv) -> u64
     ensures { result ≡ (spec.seen_convention convention).number }
 {
     match convention {
@@ -98,7 +98,7 @@ fn convention_number(convention: Conv) -> u64
 }
 
 /// Which of its class the word of a type is.
-fn type_number(ty: Ty) -> u64
+fn find_type_number(ty: Ty) -> u64
     ensures { result ≡ (spec.seen_type ty).number }
 {
     match ty {
@@ -194,13 +194,13 @@ impl Word {
 
     /// Which of its class the word is; of an entity the number in it.
     #[inline(never)]
-    fn place_in_class(self) -> u64
+    fn find_place_in_class(self) -> u64
         ensures { result ≡ (spec.seen_word self).number }
     {
         match self {
             Word::Opcode(opcode) => opcode as u64,
-            Word::Conv(convention) => convention_number(convention),
-            Word::Ty(ty) => type_number(ty),
+            Word::Conv(convention) => find_convention_number(convention),
+            Word::Ty(ty) => find_type_number(ty),
             Word::Ext(extension) => extension as u64,
             Word::Flag(flag) => flag as u64,
             Word::TrapCode(code) => code as u64,
@@ -218,7 +218,7 @@ impl Word {
     {
         match self {
             Word::Entity(_, number) => number,
-            _ => self.place_in_class(),
+            _ => self.find_place_in_class(),
         }
     }
 }

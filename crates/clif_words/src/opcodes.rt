@@ -167,7 +167,7 @@ impl Opcode {
         ensures form { result.now.2 ≡ form self }
         ensures immediate { result.now.3 ≡ spec.with_immediate self }
     {
-        &opcode_rows()[self.place()]
+        &list_opcode_rows()[self.place()]
     }
 
     /// How it is spelled.
@@ -297,7 +297,7 @@ pub const OPCODES: [OpcodeRow; 79] = [
 
 /// The table of opcodes. Its rows are those by which the reader knows the words of opcodes, and a row's number is its
 /// place.
-pub fn opcode_rows() -> &'static [OpcodeRow]
+pub fn list_opcode_rows() -> &'static [OpcodeRow]
     ensures words { map seen.opcode_row result.now ≡ table.numbered_through 0 table.opcodes }
     ensures opcodes { map (λ (row : OpcodeRow). row.1) result.now ≡ spec.all_opcodes }
     ensures spelled { map (λ (row : OpcodeRow). row.0.now) result.now ≡ map spec.word spec.all_opcodes }

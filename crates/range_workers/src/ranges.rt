@@ -20,7 +20,7 @@ pub trait Ranges<T>: Sync {
     ghost stand: { Self → ℕ → ℕ → List T → Type 0 };
 
     /// Where a stretch of a range ends.
-    fn stretch_end(&self, from: usize, end: usize, size: usize) -> usize
+    fn find_stretch_end(&self, from: usize, end: usize, size: usize) -> usize
         requires { range self.now from «end» }
         ensures stretch { range self.now from result }
         ensures rest { range self.now result «end» }
@@ -59,7 +59,7 @@ fn read_range<T: Drop, P: Ranges<T>>(
     let mut found = Vec::new(alloc);
     let mut at = from;
     'stretches: while at < end {
-        let next = ranges.stretch_end(at, end, size);
+        let next = ranges.find_stretch_end(at, end, size);
         make_room(alloc);
         let more = ranges.read_stretch(alloc, at, next)?;
         found = join_items(found, more)?;
@@ -89,7 +89,7 @@ fn read_halves<R: Threads + Sync, T: Drop + Send, P: Ranges<T>>(
     let few = workers / 2;
     let others = workers - few;
     let share = (end - from) / workers;
-    let middle = ranges.stretch_end(from, end, share.saturating_mul(few));
+    let middle = ranges.find_stretch_end(from, end, share.saturating_mul(few));
     let low = || -> Option<Vec<T>>
         requires { IsSync R.row × IsSync P.row × P.range ranges.now from middle }
         ensures { IfSome result (λ found. Follow (P.stand ranges.entry.now) from middle found.items) }

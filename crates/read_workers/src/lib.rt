@@ -5,6 +5,7 @@ mod text_ranges;
 mod token_ranges;
 
 pub use text_ranges::{
-    STRETCH, front_end, read_front, read_text, read_text_by, read_text_ranges, stretch_end,
+    STRETCH, find_front_end, find_stretch_end, read_front, read_text, read_text_by,
+    read_text_ranges,
 };
 pub use token_ranges::{read_raw, read_raw_by, read_token_ranges};

@@ -20,7 +20,7 @@ use token_reader::Reader;
 pub const STRETCH: usize = 65_536;
 
 /// Where a stretch of a range ends: behind so many bytes the next line that begins with `function`, or the range's end.
-pub fn stretch_end(text: &[u8], from: usize, end: usize, size: usize) -> usize
+pub fn find_stretch_end(text: &[u8], from: usize, end: usize, size: usize) -> usize
     requires { IsTextRange text.now from end }
     ensures stretch { IsTextRange text.now from result }
     ensures rest { IsTextRange text.now result end }
@@ -44,8 +44,8 @@ impl<'t> Ranges<RawFunction> for TextRanges<'t> {
 
     ghost stand = { λ ranges from to functions. AreFunctions ranges.text.now from to functions };
 
-    fn stretch_end(&self, from: usize, end: usize, size: usize) -> usize {
-        stretch_end(self.text, from, end, size)
+    fn find_stretch_end(&self, from: usize, end: usize, size: usize) -> usize {
+        find_stretch_end(self.text, from, end, size)
     }
 
     fn read_stretch(&self, alloc: Global, from: usize, end: usize) -> Option<Vec<RawFunction>> {
@@ -74,7 +74,7 @@ fn may_go_on_with_headers(tokens: &Tokens) -> bool
 }
 
 /// Where the front of a text ends: behind so many bytes and a line that begins with `function`, at the next such line.
-pub fn front_end(text: &[u8], size: usize) -> usize
+pub fn find_front_end(text: &[u8], size: usize) -> usize
     ensures { IsCut text.now result }
 {
     let first = next_line_with(text, 0, b"function");
@@ -121,7 +121,7 @@ pub fn read_text_ranges<R: Threads + Sync>(
 ) -> Option<RawModule>
     ensures { IfSome result (λ found. IsModuleText text.now found) }
 {
-    let end = front_end(text, size);
+    let end = find_front_end(text, size);
     let front = read_front(alloc, text, end)?;
     let ranges = TextRanges { text };
     let rest = read_by_workers(rt, alloc, &ranges, end, text.len(), workers, size)?;

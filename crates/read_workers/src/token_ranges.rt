@@ -37,7 +37,13 @@ fn find_next_function(text: &[u8], tokens: &Tokens, from: usize, end: usize) -> 
 
 /// Where a stretch of a range of tokens ends: behind so many tokens and one more at the next function, or at the
 /// range's end.
-fn token_stretch_end(text: &[u8], tokens: &Tokens, from: usize, end: usize, size: usize) -> usize
+fn find_token_stretch_end(
+    text: &[u8],
+    tokens: &Tokens,
+    from: usize,
+    end: usize,
+    size: usize,
+) -> usize
     requires { IsTokenRange text.now tokens.now from end }
     ensures stretch { IsTokenRange text.now tokens.now from result }
     ensures rest { IsTokenRange text.now tokens.now result end }
@@ -62,8 +68,8 @@ impl<'t> Ranges<RawFunction> for TokenRanges<'t> {
     ghost stand = { λ ranges from to functions. IsTokenRange ranges.text.now ranges.tokens.now from to
         × AreListed ranges.text.now ranges.tokens.now from to functions };
 
-    fn stretch_end(&self, from: usize, end: usize, size: usize) -> usize {
-        token_stretch_end(self.text, self.tokens, from, end, size)
+    fn find_stretch_end(&self, from: usize, end: usize, size: usize) -> usize {
+        find_token_stretch_end(self.text, self.tokens, from, end, size)
     }
 
     fn read_stretch(&self, alloc: Global, from: usize, end: usize) -> Option<Vec<RawFunction>> {

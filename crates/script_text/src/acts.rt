@@ -16,7 +16,7 @@ use std::alloc::Global;
 use token_reader::Stop;
 
 /// A trap code but `userN`, by its place among them.
-fn trap_code_at(number: u64) -> TrapCode
+fn find_trap_code(number: u64) -> TrapCode
     ensures { result ≡ trap_of number }
 {
     match number {
@@ -35,7 +35,7 @@ fn read_trap_code(reader: &mut Reader<'_>) -> Result<TrapCode, Stop>
 {
     if reader.next_is(Terminal::TrapCode) {
         let code = reader.take(Terminal::TrapCode)?;
-        Ok(trap_code_at(code.number))
+        Ok(find_trap_code(code.number))
     } else {
         let user = reader.take(Terminal::UserTrap)?;
         Ok(TrapCode::User(user.number as u16))

@@ -61,7 +61,7 @@ impl<T: Drop> From<AllocFailed<T>> for ScriptErr {
 }
 
 /// The error of a stop at a byte.
-fn error_at(stop: Stop, spot: usize) -> ScriptErr
+fn make_error(stop: Stop, spot: usize) -> ScriptErr
     ensures { result ≡ spec.error_at stop spot }
 {
     match stop {
@@ -107,7 +107,7 @@ pub fn script(alloc: Global, text: &str) -> Result<Script, ScriptErr>
         Ok(replies) => Ok(Script {
             replies: List::from_vec(replies),
         }),
-        Err(stop) => Err(error_at(stop, reader.spot_or(text.len()))),
+        Err(stop) => Err(make_error(stop, reader.spot_or(text.len()))),
     }
 }
 
@@ -125,6 +125,6 @@ pub fn number_list(alloc: Global, text: &str) -> Result<Vec<i128>, ScriptErr>
     let mut reader = Reader::new(symbols.as_slice());
     match read_whole_list(alloc, &mut reader) {
         Ok(numbers) => Ok(numbers),
-        Err(stop) => Err(error_at(stop, reader.spot_or(text.len()))),
+        Err(stop) => Err(make_error(stop, reader.spot_or(text.len()))),
     }
 }

@@ -12,7 +12,7 @@ use crate::scripts::ScriptErr;
 use crate::symbol::Symbol;
 use crate::terminal::Terminal;
 use clif_lex::{LexErr, TokenKind, Tokens, tokens};
-use clif_words::{Class, Word, word_meaning};
+use clif_words::{Class, Word, find_word_meaning};
 use clk_num::{Bits, Width};
 use std::alloc::{AllocError, Global};
 
@@ -35,7 +35,7 @@ fn make_symbol(terminal: Terminal, spot: usize) -> Symbol
 }
 
 /// `userN`, where the number is one of a trap code.
-fn user_trap(number: u64, spot: usize) -> Symbol
+fn make_user_trap(number: u64, spot: usize) -> Symbol
     ensures { spec.lexeme_of result ≡ spec.limited Terminal.UserTrap spec.most_user number spot }
 {
     if number > MOST_USER {
@@ -50,7 +50,7 @@ fn user_trap(number: u64, spot: usize) -> Symbol
 }
 
 /// `tagN`, where the number is one of a tag.
-fn tag(number: u64, spot: usize) -> Symbol
+fn make_tag(number: u64, spot: usize) -> Symbol
     ensures { spec.lexeme_of result ≡ spec.limited Terminal.Tag spec.most_tag number spot }
 {
     if number > MOST_TAG {
@@ -65,7 +65,7 @@ fn tag(number: u64, spot: usize) -> Symbol
 }
 
 /// A word that CLIF has too.
-fn clif_word(word: Word, spot: usize) -> Symbol
+fn make_clif_word(word: Word, spot: usize) -> Symbol
     ensures { spec.lexeme_of result ≡ spec.by_meaning (seen_word word) spot }
 {
     match word.class() {
@@ -77,26 +77,26 @@ fn clif_word(word: Word, spot: usize) -> Symbol
             amount: 0,
             spot,
         },
-        Class::UserTrap => user_trap(word.number(), spot),
-        Class::Tag => tag(word.number(), spot),
+        Class::UserTrap => make_user_trap(word.number(), spot),
+        Class::Tag => make_tag(word.number(), spot),
         _ => make_symbol(Terminal::Other, spot),
     }
 }
 
 /// A word.
 #[tactic(auto, unfolding(crate::specs::Symbols::word))]
-fn word(spelled: &[u8], spot: usize) -> Symbol
+fn make_word(spelled: &[u8], spot: usize) -> Symbol
     ensures { spec.lexeme_of result ≡ spec.word spelled.now spot }
 {
     if spelled == b"throw".as_slice() {
         make_symbol(Terminal::Throw, spot)
     } else {
-        clif_word(word_meaning(spelled), spot)
+        make_clif_word(find_word_meaning(spelled), spot)
     }
 }
 
 /// The terminal of a number by its size.
-fn number_terminal(number: i128) -> Terminal
+fn classify_number(number: i128) -> Terminal
     ensures { result ≡ spec.number_terminal number }
 {
     if number < 0 {
@@ -110,14 +110,14 @@ fn number_terminal(number: i128) -> Terminal
 
 /// A number of 64 bits, with a sign or without.
 #[tactic(auto, unfolding(crate::specs::Symbols::number))]
-fn number(amount: i128, spot: usize) -> Symbol
+fn make_number(amount: i128, spot: usize) -> Symbol
     ensures { spec.lexeme_of result ≡ spec.number amount spot }
 {
     let Some(bits) = Bits::fit(Width::W64, amount) else {
         return make_symbol(Terminal::Other, spot);
     };
     Symbol {
-        terminal: number_terminal(amount),
+        terminal: classify_number(amount),
         number: bits.value() as u64,
         amount,
         spot,
@@ -139,7 +139,7 @@ fn mark_terminal(byte: u8) -> Terminal
 }
 
 /// A token of the text.
-fn symbol(text: &[u8], tokens: &Tokens, i: usize) -> Symbol
+fn make_symbol_at(text: &[u8], tokens: &Tokens, i: usize) -> Symbol
     requires inside { AreIn text.now tokens.now }
     requires below { i < length tokens.now }
     ensures { IfSome (slice_get tokens.now i) (λ token. spec.lexeme_of result ≡ spec.lexeme text.now token) }
@@ -147,34 +147,34 @@ fn symbol(text: &[u8], tokens: &Tokens, i: usize) -> Symbol
     let token = tokens.get(i);
     let spot = token.start;
     match token.kind {
-        TokenKind::Word => word(tokens.spelling(text, i), spot),
-        TokenKind::Number => number(tokens.number(text, i), spot),
+        TokenKind::Word => make_word(tokens.spelling(text, i), spot),
+        TokenKind::Number => make_number(tokens.number(text, i), spot),
         TokenKind::Mark(byte) => make_symbol(mark_terminal(byte), spot),
         _ => make_symbol(Terminal::Other, spot),
     }
 }
 
 /// These tokens of the text.
-fn symbols(alloc: Global, text: &[u8], tokens: &Tokens) -> Result<Vec<Symbol>, AllocError>
+fn make_symbols(alloc: Global, text: &[u8], tokens: &Tokens) -> Result<Vec<Symbol>, AllocError>
     requires { AreIn text.now tokens.now }
     ensures { IfOk result (λ v. map spec.lexeme_of v.items ≡ lexed.symbols text.now tokens.now) }
 {
     let mut list = Vec::new(alloc);
     'tokens: for i in 0..tokens.len() {
-        list.push(symbol(text, tokens, i))?;
+        list.push(make_symbol_at(text, tokens, i))?;
     }
     Ok(list)
 }
 
 /// The tokens before a place where none stands, and there one that stands in no script.
-fn symbols_before(alloc: Global, text: &[u8], spot: usize) -> Result<Vec<Symbol>, ScriptErr>
+fn lex_symbols_before(alloc: Global, text: &[u8], spot: usize) -> Result<Vec<Symbol>, ScriptErr>
     requires { spot ≤ length text.now }
     ensures symbols { IfOk result (λ v. map spec.lexeme_of v.items ≡ lexed.symbols_before text.now spot) }
     ensures none { IfErr result (λ e. e ≡ NoMemory) }
 {
     let front = &text[..spot];
     let mut symbols = match tokens(alloc, front) {
-        Ok(tokens) => symbols(alloc, front, &tokens)?,
+        Ok(tokens) => make_symbols(alloc, front, &tokens)?,
         Err(LexErr::NoMemory) => return Err(ScriptErr::NoMemory),
         Err(LexErr::BadChar(_) | LexErr::BadNumber(_)) => Vec::new(alloc),
     };
@@ -191,8 +191,10 @@ pub(crate) fn lex_symbols(alloc: Global, text: &[u8]) -> Result<Vec<Symbol>, Scr
     ensures none { IfErr result (λ e. e ≡ NoMemory) }
 {
     match tokens(alloc, text) {
-        Ok(tokens) => Ok(symbols(alloc, text, &tokens)?),
-        Err(LexErr::BadChar(spot) | LexErr::BadNumber(spot)) => symbols_before(alloc, text, spot),
+        Ok(tokens) => Ok(make_symbols(alloc, text, &tokens)?),
+        Err(LexErr::BadChar(spot) | LexErr::BadNumber(spot)) => lex_symbols_before(
+            alloc, text, spot,
+        ),
         Err(LexErr::NoMemory) => Err(ScriptErr::NoMemory),
     }
 }

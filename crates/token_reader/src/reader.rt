@@ -21,7 +21,7 @@ use crate::kinds::{is_comment, is_number, parse_number, strip_mark};
 use crate::raw::{RawName, RawNumber, RawOpcode, RawText};
 use crate::stop::Stop;
 use clif_lex::{TokenKind, Tokens};
-use clif_words::{Class, Terminal, Word, quick_terminal, word_meaning};
+use clif_words::{Class, Terminal, Word, find_word_meaning, match_quick_terminal};
 use ir_core::List;
 use std::alloc::Global;
 use std::marker::Model;
@@ -72,7 +72,7 @@ fn keep_word(next: &mut Next, spelling: &[u8])
     ensures terminal { seen next.new.terminal ≡ word_meaning spelling.now }
     ensures class { next.new.class ≡ (seen next.new.terminal).class }
 {
-    let word = word_meaning(spelling);
+    let word = find_word_meaning(spelling);
     next.class = word.class();
     next.terminal = Terminal::Word(word);
 }
@@ -93,7 +93,7 @@ fn keep_any_word(next: &mut Next, spelling: &[u8])
         keep_word(next, spelling);
         return;
     }
-    match quick_terminal(TokenKind::Word, spelling) {
+    match match_quick_terminal(TokenKind::Word, spelling) {
         Some((class, terminal)) => {
             next.class = class;
             next.terminal = terminal;
@@ -118,7 +118,7 @@ fn keep(next: &mut Next, text: &[u8], tokens: &Tokens, at: usize)
         keep_any_word(next, spelling);
         return;
     }
-    match quick_terminal(token.kind, spelling) {
+    match match_quick_terminal(token.kind, spelling) {
         Some((class, terminal)) => {
             next.class = class;
             next.terminal = terminal;
@@ -266,7 +266,7 @@ impl<'a> Reader<'a> {
 
     /// The name that the next token spells.
     #[inline]
-    fn front(&self) -> RawName
+    fn peek_name(&self) -> RawName
         requires { self.now ≢ [] }
         ensures { (x : Lexeme) (xs : List Lexeme) → self.now ≡ x ∷ xs → result ≡ spec.name x }
     {
@@ -278,7 +278,7 @@ impl<'a> Reader<'a> {
 
     /// What the next token spells as a number, or 0 where it is none.
     #[inline]
-    fn front_amount(&self) -> i128
+    fn peek_amount(&self) -> i128
         requires { self.now ≢ [] }
         ensures { (x : Lexeme) (xs : List Lexeme) → self.now ≡ x ∷ xs → result ≡ x.amount }
     {
@@ -292,17 +292,17 @@ impl<'a> Reader<'a> {
 
     /// The number that the next token spells.
     #[inline]
-    fn front_number(&self) -> RawNumber
+    fn peek_number(&self) -> RawNumber
         requires { self.now ≢ [] }
         ensures { (x : Lexeme) (xs : List Lexeme) → self.now ≡ x ∷ xs → result ≡ spec.amount x }
     {
-        let value = self.front_amount();
-        let spot = self.front().spot;
+        let value = self.peek_amount();
+        let spot = self.peek_name().spot;
         RawNumber { value, spot }
     }
 
     /// What the next token spells as a name.
-    fn front_text(&self, alloc: Global) -> Result<RawText, Stop>
+    fn peek_text(&self, alloc: Global) -> Result<RawText, Stop>
         requires { self.now ≢ [] }
         ensures some { (x : Lexeme) (xs : List Lexeme) → self.now ≡ x ∷ xs → IfOk result (λ r. r ≡ names.text x) }
         ensures none { IfErr result (λ e. e ≡ NoMemory) }
@@ -333,7 +333,7 @@ impl<'a> Reader<'a> {
         ensures shorter { IfOk result (λ _. length self.new < length self.old) }
     {
         if self.next_is(class) {
-            let name = self.front();
+            let name = self.peek_name();
             self.advance();
             Ok(name)
         } else {
@@ -370,7 +370,7 @@ impl<'a> Reader<'a> {
         ensures shorter { IfOk result (λ _. length self.new < length self.old) }
     {
         if self.next_is(class) {
-            let number = self.front_number();
+            let number = self.peek_number();
             self.advance();
             Ok(number)
         } else {
@@ -384,7 +384,7 @@ impl<'a> Reader<'a> {
         ensures shorter { IfOk result (λ _. length self.new < length self.old) }
     {
         if self.next_is(class) {
-            let text = self.front_text(alloc)?;
+            let text = self.peek_text(alloc)?;
             self.advance();
             Ok(text)
         } else {

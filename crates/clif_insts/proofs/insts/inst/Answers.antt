@@ -28,4 +28,4 @@ pub returns-in-Err-clause-stop : goal.returns-in-Err-clause-stop
 returns-in-Err-clause-stop c =
     let s = stopped_at (lexemes c.args.text.now (drop c.args.i c.args.tokens.now)) c.new-reader.result c.read_one_inst-read.new.reader (place_left c.args.text.now c.args.tokens.now c.args.i) c.find_place-place.result c.in-Err.stop
     c.new-reader.ensures (c.find_place-place.ensures ∙ ap (place_of c.args.tokens.now c.args.i) c.spot_or.ensures) c.in-Err.ensures in
-    rw c.error_at.ensures s
+    rw c.make_error.ensures s

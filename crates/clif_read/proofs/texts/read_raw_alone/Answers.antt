@@ -22,7 +22,7 @@ pub returns-in-Err-clause-stop : goal.returns-in-Err-clause-stop
 returns-in-Err-clause-stop c =
     let s = stopped_at (lexemes c.args.text.now c.args.tokens.now) c.new-reader.result c.read_whole_module-read.new.reader (length c.args.text.now) (length c.args.text.now) c.spot_or-spot.result c.in-Err.stop
     c.new-reader.ensures refl c.spot_or-spot.ensures c.in-Err.ensures.is in
-    rw c.error_at.ensures s
+    rw c.make_error.ensures s
 
 pub returns-in-Err-clause-within : goal.returns-in-Err-clause-within
 returns-in-Err-clause-within c = stopped_within c.args.text.now c.args.tokens.now _ c.requires.whole (returns-in-Err-clause-stop c)

@@ -17,13 +17,13 @@ all_are table is = ap (λ (xs : List Row). xs ++ others) (sym is)
 
 pub match_entry-requires : goal.match_entry-requires
 match_entry-requires c =
-    let table = c.opcode_rows-opcodes in
+    let table = c.list_opcode_rows-opcodes in
     let few : length table.result.now ≡ 79 = sym (length-map table.result.now (λ (row : OpcodeRow). row.1)) ∙ ap length table.ensures.opcodes in
     omega (arith, few, words_count, c.requires, c.if-number-opcodes.false)
 
 pub returns-then-number-opcodes : goal.returns-then-number-opcodes
 returns-then-number-opcodes c =
-    let table = c.opcode_rows-opcodes in
+    let table = c.list_opcode_rows-opcodes in
     let below = c.if-number-opcodes.true in
     let same = length-map table.result.now opcode_row in
     c.match_opcode.ensures
@@ -32,7 +32,7 @@ returns-then-number-opcodes c =
 pub returns-else-number-opcodes : goal.returns-else-number-opcodes
 unfolding others
 returns-else-number-opcodes c =
-    let table = c.opcode_rows-opcodes in
+    let table = c.list_opcode_rows-opcodes in
     let behind = c.if-number-opcodes.false in
     let same = length-map table.result.now opcode_row in
     c.match_entry.ensures

@@ -18,5 +18,5 @@ pub returns-clause-refused : goal.returns-clause-refused
 returns-clause-refused c =
     let tokens : c.new-reader.result ≡ lexed c.args.text.now =
     c.new-reader.ensures ∙ (ap (map lexeme_of) c.as_slice.ensures.value ∙ (c.in_ok-symbols.ensures.symbols ∙ ap lexed c.as_bytes.ensures.value)) in
-    rw (c.error_at.ensures, c.spot_or.ensures)
+    rw (c.make_error.ensures, c.spot_or.ensures)
     (refuses number_list_is number_list_is_good c.args.text.now c.in-Err.stop c.read_whole_list.new.reader (subst (λ ts. Stops c.read_whole_list.new.reader c.in-Err.stop (whole number_list_at ts)) tokens c.in-Err.ensures))

@@ -1,6 +1,6 @@
 use Rattle.std.proofs.Common.{refl, ◌∙◌}
 use Rattle.token_reader.proofs.Shown.{front_shown}
-use Rattle.token_reader.proofs.reader.Reader.front.Goals as goal
+use Rattle.token_reader.proofs.reader.Reader.peek_name.Goals as goal
 
 pub returns : goal.returns
 returns c = λ x xs e.

@@ -10,7 +10,7 @@ use Rattle.clif_words.specs.Lexemes.{is_number}
 use Rattle.token_reader.proofs.Ends.{next_within, some_taken}
 use Rattle.token_reader.proofs.Shown.{shown_not}
 use Rattle.token_reader.proofs.Views.{amount_is, number_kind, if_some, to_if_some}
-use Rattle.token_reader.proofs.reader.Reader.front_amount.Goals as goal
+use Rattle.token_reader.proofs.reader.Reader.peek_amount.Goals as goal
 
 pub get-token-requires : goal.get-token-requires
 get-token-requires c = let i = c.self.inside in (next_within i.text.now i.tokens.now i.next.at i.«end» (rw (c.self.view_is) c.requires)).1

@@ -35,9 +35,9 @@ fn is_in(classes: &[u8; 256], c: u8, bit: u8) -> bool
     classes[c as usize] & bit != 0
 }
 
-/// What stands between tokens.
+/// Whether a byte is a blank, which stands between tokens.
 #[inline]
-pub(crate) fn is_blank(c: u8) -> bool
+pub fn is_blank(c: u8) -> bool
     ensures { result ≡ spec.is_blank c }
 {
     is_in(&CLASSES, c, BLANK)

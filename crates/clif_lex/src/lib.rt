@@ -10,6 +10,7 @@ mod numbers;
 mod places;
 mod spans;
 
+pub use bytes::is_blank;
 pub use faults::{LexErr, Place, TextErr, TextKind};
 pub use lexing::{digit_run, tokens, tokens_between};
 pub use lines::next_line_with;

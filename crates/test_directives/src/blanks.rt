@@ -4,12 +4,7 @@ ghost use Rattle.std.specs.List.{prefix_len, suffix_len};
 ghost use Rattle.clif_lex.specs.Bytes as bytes;
 ghost use Rattle.test_directives.specs.Blanks as spec;
 
-/// What stands between words.
-pub(crate) fn is_blank(c: u8) -> bool
-    ensures { result ≡ bytes.is_blank c }
-{
-    c == b' ' || c == b'\n' || c == b'\t' || c == b'\r'
-}
+use clif_lex::is_blank;
 
 /// How many blanks stand in front.
 fn blanks_in_front(text: &[u8]) -> usize

@@ -4,7 +4,7 @@ ghost use Rattle.std.specs.List.{list_all};
 ghost use Rattle.test_directives.specs.Frame as frame;
 ghost use Rattle.test_directives.specs.Marks as spec;
 
-use crate::blanks::is_blank;
+use clif_lex::is_blank;
 
 /// What a byte of a `run:` is to its grammar.
 #[derive(Clone, Copy, Debug, PartialEq, Eq)]

@@ -124,7 +124,7 @@ fn make_number(amount: i128, spot: usize) -> Symbol
     }
 }
 
-fn mark_terminal(byte: u8) -> Terminal
+fn classify_mark(byte: u8) -> Terminal
     ensures { result ≡ spec.mark_terminal byte }
 {
     match byte {
@@ -149,7 +149,7 @@ fn make_symbol_at(text: &[u8], tokens: &Tokens, i: usize) -> Symbol
     match token.kind {
         TokenKind::Word => make_word(tokens.spelling(text, i), spot),
         TokenKind::Number => make_number(tokens.number(text, i), spot),
-        TokenKind::Mark(byte) => make_symbol(mark_terminal(byte), spot),
+        TokenKind::Mark(byte) => make_symbol(classify_mark(byte), spot),
         _ => make_symbol(Terminal::Other, spot),
     }
 }

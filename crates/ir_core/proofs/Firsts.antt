@@ -7,10 +7,10 @@ use Rattle.std.proofs.lemmas.Option.{slice_get_read}
 use Rattle.std.specs.HashMap as hashed
 use Rattle.ir_core.specs.declared.names.FuncName.{FuncName}
 use Rattle.ir_core.specs.Module.{Function}
-use Rattle.ir_core.specs.declared.module.Module.TheInside.{Inside}
+use Rattle.ir_core.specs.declared.index.Names.{Names}
 use Rattle.ir_core.specs.Lookup.{same_name}
 use Rattle.ir_core.specs.Edits.{Body}
-use Rattle.ir_core.specs.Named.{function_in, functions_of, IsNamed, name_hash, place_of, place_of_hash, is_first}
+use Rattle.ir_core.specs.Named.{function_in, IsIndex, name_hash, place_of, place_of_hash, is_first}
 use Rattle.ir_core.proofs.Equal.{name_equal, equal_name, cases_name, number_equal}
 use Rattle.ir_core.proofs.Indexing.{place_push, place_more}
 
@@ -130,7 +130,7 @@ pub none_of : (o : Option ℕ) → is_some o ≡ false → o ≡ None
 none_of None h = refl
 none_of (Some k) h = cc
 
-get_mapped : {A B : Type 0} (f : A → B) (xs : List A) (i : ℕ) (x : A) → slice_get xs i ≡ Some x → slice_get (map f xs) i ≡ Some (f x)
+pub get_mapped : {A B : Type 0} (f : A → B) (xs : List A) (i : ℕ) (x : A) → slice_get xs i ≡ Some x → slice_get (map f xs) i ≡ Some (f x)
 get_mapped f [] i x e = cc
 get_mapped f (y ∷ xs) zero x e = let q : y ≡ x = cc in ap (λ z. Some (f z)) q
 get_mapped f (y ∷ xs) (suc i) x e = get_mapped f xs i x e
@@ -152,5 +152,9 @@ is_first_by n k xs x m b e q named told =
     ∙ (ap (λ z. same_name z n) (sym named) ∙ sym told)
 
 -- what the index has at a name's hash
-pub place_in : (s : Inside) (n : FuncName) (h : ℕ) (o : Option ℕ) → IsNamed s → o ≡ hashed.get nat_eq s.places h → h ≡ name_hash n → o ≡ place_of_hash (name_hash n) (functions_of s)
-place_in s n h o named e hash = e ∙ (named.places h ∙ ap (λ z. place_of_hash z (functions_of s)) hash)
+pub place_in : (names : Names) (fs : List Function) (n : FuncName) (h : ℕ) (o : Option ℕ) → IsIndex names fs → o ≡ hashed.get nat_eq names.places h → h ≡ name_hash n → o ≡ place_of_hash (name_hash n) fs
+place_in names fs n h o index e hash = e ∙ (index.places h ∙ ap (λ z. place_of_hash z fs) hash)
+
+-- whether the index has a name's hash
+pub known_in : (names : Names) (fs : List Function) (n : FuncName) (h : ℕ) (known : Bool) → IsIndex names fs → known ≡ is_some (hashed.get nat_eq names.places h) → h ≡ name_hash n → known ≡ is_some (place_of_hash (name_hash n) fs)
+known_in names fs n h known index e hash = e ∙ ap is_some (place_in names fs n h (hashed.get nat_eq names.places h) index refl hash)

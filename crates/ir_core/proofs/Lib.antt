@@ -1,4 +1,5 @@
 pub mod Adding
+pub mod Apart
 pub mod Changing
 pub mod Copying
 pub mod Counting

@@ -100,14 +100,14 @@ bytes_flip [] (b ∷ bs) = refl
 bytes_flip (a ∷ as') [] = refl
 bytes_flip (a ∷ as') (b ∷ bs) = ap₂ (λ p q. p && q) (eq_flip a b) (bytes_flip as' bs)
 
-name_flip : (m n : FuncName) → same_name m n ≡ same_name n m
+pub name_flip : (m n : FuncName) → same_name m n ≡ same_name n m
 name_flip (name.Text a) (name.Text b) = bytes_flip a b
 name_flip (name.User a i) (name.User b j) = ap₂ (λ p q. p && q) (eq_flip a b) (eq_flip i j)
 name_flip (name.Text a) (name.User b j) = refl
 name_flip (name.User a i) (name.Text b) = refl
 
 -- a function of another name in front of those that have not the name
-other_first : (n : FuncName) (g : Function) (fs : Module) → find_function n (g ∷ fs) ≡ None → (same_name g.name n ≡ false) × (find_function n fs ≡ None)
+pub other_first : (n : FuncName) (g : Function) (fs : Module) → find_function n (g ∷ fs) ≡ None → (same_name g.name n ≡ false) × (find_function n fs ≡ None)
 other_first n g fs e = go (same_name g.name n) refl e
   where
     go : (b : Bool) → same_name g.name n ≡ b → cond {A = Option Function} b (Some g) (find_function n fs) ≡ None → (same_name g.name n ≡ false) × (find_function n fs ≡ None)

@@ -68,3 +68,9 @@ number_after a (b ∷ bs) = if nat_eq b.number a then first_number bs else numbe
 -- a place of an instruction of the function
 abbrev pub IsPoint : Function → Point → Type 0
 IsPoint f at = In at.block (block_numbers f.blocks) × (at.index < length (lines_of at.block f.blocks))
+
+-- ---- without a body
+
+-- the head of a function: its name, its signature and its declarations
+abbrev pub head_of : Function → Function
+head_of f = record f { types = []; blocks = [] }

@@ -2,6 +2,7 @@ pub mod Alike
 pub mod Calling
 pub mod Edits
 pub mod Forms
+pub mod Headed
 pub mod Layout
 pub mod Listed
 pub mod Lists

@@ -11,6 +11,7 @@ use Rattle.std.specs.Hash.{le_bytes}
 use Rattle.std.specs.Hash.FoldHasher as folding
 use Rattle.ir_core.specs.declared.names.FuncName.TheVariants as name
 use Rattle.ir_core.specs.declared.names.FuncName.{FuncName}
+use Rattle.ir_core.specs.declared.index.Names.{Names}
 use Rattle.ir_core.specs.declared.module.Module.TheInside.{Inside}
 use Rattle.ir_core.specs.Module.{Function}
 use Rattle.ir_core.specs.Lookup.{same_name}
@@ -22,8 +23,11 @@ use Rattle.ir_core.specs.WellFormed.{IsModule}
 abbrev pub function_in : Body → Function
 function_in body = body.function
 
+abbrev pub functions_in : List Body → List Function
+functions_in bodies = map function_in bodies
+
 abbrev pub functions_of : Inside → List Function
-functions_of s = map function_in s.funcs.items
+functions_of s = functions_in s.funcs.items
 
 -- the place of the first function that has the name
 abbrev pub place_of : FuncName → List Function → Option ℕ
@@ -52,13 +56,17 @@ compare_users p q = ordering_then (nat_cmp p.0 q.0) (nat_cmp p.1 q.1)
 abbrev pub compare_texts : List ℕ → Vec ℕ Global → Ordering
 compare_texts text key = slice_cmp nat_cmp text key.items
 
--- every function is whole, their names differ, and the index has the place of each: of the first name with a hash by
--- that hash, of the others by their names
+-- the index has the place of each of these functions: of the first name with a hash by that hash, of the others by
+-- their names
+pub record IsIndex (names : Names) (fs : List Function) : Type 0 where
+  pub places : (hash : ℕ) → hashed.get nat_eq names.places hash ≡ place_of_hash hash fs
+  pub texts : (text : List ℕ) → is_first (name.Text text) fs ≡ false
+      → get_by (compare_texts text) names.texts ≡ place_of (name.Text text) fs
+  pub users : (first second : ℕ) → is_first (name.User first second) fs ≡ false
+      → get_by (compare_users (first, second)) names.users ≡ place_of (name.User first second) fs
+
+-- every function is whole, their names differ, and the index has the place of each
 pub record IsNamed (s : Inside) : Type 0 where
   pub defined : Each IsWhole (functions_of s)
   pub functions : IsModule (functions_of s)
-  pub places : (hash : ℕ) → hashed.get nat_eq s.places hash ≡ place_of_hash hash (functions_of s)
-  pub texts : (text : List ℕ) → is_first (name.Text text) (functions_of s) ≡ false
-      → get_by (compare_texts text) s.texts ≡ place_of (name.Text text) (functions_of s)
-  pub users : (first second : ℕ) → is_first (name.User first second) (functions_of s) ≡ false
-      → get_by (compare_users (first, second)) s.users ≡ place_of (name.User first second) (functions_of s)
+  pub index : IsIndex s.names (functions_of s)

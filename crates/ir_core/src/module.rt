@@ -1,27 +1,23 @@
 //! Modules.
-ghost use Rattle.std.specs.Prelude.{◌≡◌, ℕ, ◌<◌, ◌++◌, List, [], ◌∷◌, Some, None, length, slice_get, MatchOption, OnOk};
-ghost use Rattle.std.specs.Prelude.{OnErr, IsTrue, ◌↔◌};
+ghost use Rattle.std.specs.Prelude.{◌≡◌, ℕ, ◌<◌, ◌++◌, List, [], ◌∷◌, Some, None, length, map, slice_get, MatchOption};
+ghost use Rattle.std.specs.Prelude.{IfOk, IfSome, OnOk, OnErr, IsTrue, ◌↔◌};
 ghost use Rattle.std.specs.List.{position_from};
+ghost use Rattle.ir_core.specs.Lists.{Each};
 ghost use Rattle.ir_core.specs.Lookup.{same_name, find_function};
 ghost use Rattle.ir_core.specs.Sound.{IsWhole};
-ghost use Rattle.ir_core.specs.WellFormed.{WellFormed, IsModule};
+ghost use Rattle.ir_core.specs.WellFormed.{WellFormed, DifferentNames, IsModule};
 
 use crate::func::Func;
+use crate::index::Names;
 use crate::names::FuncName;
 use std::alloc::{AllocError, Global};
-use std::collections::{BTreeMap, HashMap};
 use std::marker::Model;
 
 /// A module: whole functions of different names, in order. Contracts see it as a list of functions.
 #[derive(Drop)]
 pub struct Module {
     funcs: Vec<Func>,
-    /// The place of the first function whose name has a hash, by that hash.
-    places: HashMap<u64, usize>,
-    /// The place of each function whose name is a text, where an earlier name has the same hash.
-    texts: BTreeMap<Vec<u8>, usize>,
-    /// The place of each function whose name is two numbers, where an earlier name has the same hash.
-    users: BTreeMap<(u32, u32), usize>,
+    names: Names,
 }
 
 impl Model for Module {
@@ -44,9 +40,22 @@ impl Module {
     {
         Module {
             funcs: Vec::new(alloc),
-            places: HashMap::new(alloc),
-            texts: BTreeMap::new(alloc),
-            users: BTreeMap::new(alloc),
+            names: Names::new(alloc),
+        }
+    }
+
+    /// The module of these whole functions, in this order; the list is kept as it is. `None` exactly where two of them
+    /// have one name. Only `AllocError` refuses. Where no module is made the functions are dropped.
+    pub fn of_functions(alloc: Global, funcs: Vec<Func>) -> Result<Option<Module>, AllocError>
+        requires { Each (λ func. IsWhole func.function) funcs.items }
+        ensures functions { IfOk result (λ made. MatchOption made
+            (DifferentNames (map (λ func. func.function) funcs.items) → ⊥)
+            (λ m. m ≡ map (λ func. func.function) funcs.items)) }
+        ensures names { IfOk result (λ made. IfSome made DifferentNames) }
+    {
+        match Names::of(alloc, funcs.as_slice())? {
+            Some(names) => Ok(Some(Module { funcs, names })),
+            None => Ok(None),
         }
     }
 
@@ -55,7 +64,7 @@ impl Module {
         ensures { self.new ≡ self.old }
     {
         self.funcs.reserve(additional)?;
-        self.places.reserve(additional)
+        self.names.reserve(additional)
     }
 
     /// Appends a whole function, whose name no function of the module has. Only `AllocError` refuses; then the function
@@ -66,22 +75,9 @@ impl Module {
         ensures ok { OnOk result (self.new ≡ self.old ++ func.function ∷ []) }
         ensures err { OnErr result (self.new ≡ self.old) }
     {
-        let place = self.funcs.len();
-        let hash = func.name().hash();
         self.funcs.reserve(1)?;
-        if self.places.contains_key(&hash) {
-            match func.name() {
-                FuncName::Text(text) => {
-                    let text = Vec::from_slice(*self.funcs.allocator(), text.as_slice())?;
-                    self.texts.insert(text, place)?;
-                }
-                FuncName::User(first, second) => {
-                    self.users.insert((*first, *second), place)?;
-                }
-            }
-        } else {
-            self.places.insert(hash, place)?;
-        }
+        let hash = func.name().hash();
+        self.names.add(*self.funcs.allocator(), self.funcs.as_slice(), &func, hash)?;
         self.funcs.push_reserved(func);
         Ok(())
     }
@@ -117,13 +113,14 @@ impl Module {
         ensures cases { MatchOption result (find_function name.now self.now ≡ None)
             (λ i. (i < length self.now) × (find_function name.now self.now ≡ slice_get self.now i)) }
     {
-        let place = self.places.get(&name.hash()).copied()?;
-        if self.funcs[place].name().is(name) {
-            return Some(place);
-        }
-        match name {
-            FuncName::Text(text) => self.texts.get(text.as_slice()).copied(),
-            FuncName::User(first, second) => self.users.get(&(*first, *second)).copied(),
-        }
+        self.names.find(self.funcs.as_slice(), name, name.hash())
+    }
+
+    /// The functions, in order. It takes no memory.
+    pub fn into_functions(self) -> Vec<Func>
+        ensures { map (λ func. func.function) result.items ≡ self }
+    {
+        let Module { funcs, names: _ } = self;
+        funcs
     }
 }

@@ -6,7 +6,7 @@ ghost use Rattle.ir_core.specs.Lookup.{block_numbers, definitions};
 ghost use Rattle.ir_core.specs.Lists.{In, Different, Below, Each};
 ghost use Rattle.ir_core.specs.Sound.{CanAdd, LineInRange, counts_of, instruction_count};
 ghost use Rattle.ir_core.specs.Edits.{HasRoom, at_block, insert_after, put_param, put_line, lines_of, with_lines};
-ghost use Rattle.ir_core.specs.Edits.{change_last};
+ghost use Rattle.ir_core.specs.Edits.{change_last, head_of};
 ghost use Rattle.ir_core.specs.Viewed.{line_of};
 ghost use Rattle.ir_core.specs.Shift.{shifted};
 
@@ -127,6 +127,18 @@ impl Func {
         ensures { self.new.function ≡ record self.old.function { types = enumerate_from 0 values } }
     {
         self.types = values.into_vec();
+    }
+
+    /// Lets the values and the blocks go, with their memory: the name, the signature and the declarations are left.
+    pub fn drop_body(&mut self)
+        ensures { self.new.function ≡ head_of self.old.function }
+    {
+        self.types = Vec::new(self.alloc);
+        self.insts = Vec::new(self.alloc);
+        self.blocks = Vec::new(self.alloc);
+        self.first = None;
+        self.last = None;
+        self.defined = 0;
     }
 
     /// Puts an empty block directly after `after` and answers its number.

@@ -1,6 +1,13 @@
-use Rattle.std.proofs.Common.{◌<◌, ◌≤◌, ℕ}
-use Rattle.clif_lex.specs.Stretches.{IsLineWith}
+use Rattle.std.proofs.Common.{◌-◌, ◌≤◌, length}
+use Rattle.clif_lex.proofs.LineStarts.{NoLine}
 use Rattle.clif_lex.proofs.lines.next_line_with.Given as goal
 
-abbrev pub invariant-bytes : goal.invariant-bytes
-invariant-bytes l = (at : ℕ) → l.from < at → at ≤ l.at → IsLineWith l.word l.text at → ⊥
+abbrev pub invariant-lines : goal.invariant-lines
+invariant-lines l = record {
+  behind : l.fn.from ≤ l.at;
+  within : l.at ≤ length l.fn.text;
+  none : NoLine l.fn.text l.fn.word l.fn.from l.at;
+}
+
+abbrev pub decreases-lines : goal.decreases-lines
+decreases-lines l = length l.fn.text - l.at

@@ -357,12 +357,22 @@ fn trim(lines: &mut Vec<RawLine>)
     }
 }
 
+/// For how many lines a block has room at first: for one where its first line ends it.
+#[inline]
+fn guess_line_count(reader: &Reader<'_>) -> usize {
+    if reader.next_is_one_of(Class::Return, Class::Jump, Class::Trap) {
+        1
+    } else {
+        FIRST_ROOM
+    }
+}
+
 /// The lines of a block.
 pub(crate) fn read_lines(alloc: Global, reader: &mut Reader<'_>) -> Result<Vec<RawLine>, Stop>
     ensures is { Gives (λ x. x.items) reader.new result (spec.lines_at reader.old) }
     ensures shorter { IfOk result (λ _. length reader.new ≤ length reader.old) }
 {
-    let mut list = Vec::with_capacity(alloc, FIRST_ROOM)?;
+    let mut list = Vec::with_capacity(alloc, guess_line_count(reader))?;
     let mut after_return = false;
     'lines: while begins_line(reader) {
         after_return = add_line(alloc, reader, &mut list, after_return)?;

@@ -92,22 +92,24 @@ tried_has rules n [] f place rule i p r = elim i [ ]
 tried_has rules n (g ∷ fs) f place rule (inl q) p r = (n, front (check n f place rule) (tried_at rules n g (items g)) (tried rules (suc n) fs) (subst (λ z. In (check n f place rule) (tried_at rules n z (items z))) q (tried_at_has rules n f place rule (items f) p r)))
 tried_has rules n (g ∷ fs) f place rule (inr i) p r = let t = tried_has rules (suc n) fs f place rule i p r in (t.0, back (check t.0 f place rule) (tried_at rules n g (items g)) (tried rules (suc n) fs) t.1)
 
-checks_have : (m : Module) (f : Function) (place : Item) (rule : Rule) → In f m → In place (items f) → (k : ℕ) × In (check k f place rule) (checks m)
-checks_have m f place rule i p = go rule
-  where
-    early : (rule : Rule) → In rule first_rules → (k : ℕ) × In (check k f place rule) (checks m)
-    early rule r = let t = tried_has first_rules 0 m f place rule i p r in (t.0, front (check t.0 f place rule) (tried first_rules 0 m) (tried last_rules 0 m) t.1)
+-- each rule is tried
+first_or_last : (rule : Rule) → In rule first_rules ⊎ In rule last_rules
+first_or_last no_terminator = inl (inl refl)
+first_or_last entry_target = inl (inr (inl refl))
+first_or_last count_mismatch = inl (inr (inr (inl refl)))
+first_or_last type_mismatch = inl (inr (inr (inr (inl refl))))
+first_or_last convention = inl (inr (inr (inr (inr (inl refl)))))
+first_or_last signature_mismatch = inl (inr (inr (inr (inr (inr (inl refl))))))
+first_or_last slot_range = inl (inr (inr (inr (inr (inr (inr (inl refl)))))))
+first_or_last tag_place = inl (inr (inr (inr (inr (inr (inr (inr (inl refl))))))))
+first_or_last not_available = inr (inl refl)
 
-    go : (rule : Rule) → (k : ℕ) × In (check k f place rule) (checks m)
-    go no_terminator = early no_terminator (inl refl)
-    go entry_target = early entry_target (inr (inl refl))
-    go count_mismatch = early count_mismatch (inr (inr (inl refl)))
-    go type_mismatch = early type_mismatch (inr (inr (inr (inl refl))))
-    go convention = early convention (inr (inr (inr (inr (inl refl)))))
-    go signature_mismatch = early signature_mismatch (inr (inr (inr (inr (inr (inl refl))))))
-    go slot_range = early slot_range (inr (inr (inr (inr (inr (inr (inl refl)))))))
-    go tag_place = early tag_place (inr (inr (inr (inr (inr (inr (inr (inl refl))))))))
-    go not_available = let t = tried_has last_rules 0 m f place not_available i p (inl refl) in (t.0, back (check t.0 f place not_available) (tried first_rules 0 m) (tried last_rules 0 m) t.1)
+checks_have : (m : Module) (f : Function) (place : Item) (rule : Rule) → In f m → In place (items f) → (k : ℕ) × In (check k f place rule) (checks m)
+checks_have m f place rule i p =
+    elim (first_or_last rule) [
+      | inl r ↦ let t = tried_has first_rules 0 m f place rule i p r in (t.0, front (check t.0 f place rule) (tried first_rules 0 m) (tried last_rules 0 m) t.1)
+      | inr r ↦ let t = tried_has last_rules 0 m f place rule i p r in (t.0, back (check t.0 f place rule) (tried first_rules 0 m) (tried last_rules 0 m) t.1)
+    ]
 
 pub tried_at_of : (rules : List Rule) (n : ℕ) (f : Function) (places : List Item) (c : Check) → In c (tried_at rules n f places) → (c.func ≡ f) × (c.number ≡ n) × In c.rule rules
 tried_at_of rules n f [] c i = elim i [ ]
@@ -203,8 +205,15 @@ inst_there n i (c ∷ bs) b l h g =
 
 -- ---- the laws
 
+-- the rules of a function, by those at its callee declarations and those at its blocks
+rules_at : (m : Module) (f : Function) → ((k : ℕ) (rule : Rule) → Holds m f (item.Callee k) rule) → ((place : Item) (rule : Rule) → In place (block_items f.blocks) → Holds m f place rule) → RulesHold m f
+rules_at m f callees passed item.Whole rule = tt
+rules_at m f callees passed (item.Callee k) rule = callees k rule
+rules_at m f callees passed (item.Block b) rule = λ c g. passed (item.Block b) rule (block_there b f.blocks c g) c g
+rules_at m f callees passed (item.Inst p) rule = λ c l h g. passed (item.Inst p) rule (inst_there p.block p.index f.blocks c l h g) c l h g
+
 pub accepted_of : (m : Module) → Each (Passed m) (checks m) → Accepted m
-accepted_of m e f i = at
+accepted_of m e f i = rules_at m f callees (λ place rule p. passed place rule (back place (callee_items 0 f.callees) (block_items f.blocks) p))
   where
     passed : (place : Item) (rule : Rule) → In place (items f) → Holds m f place rule
     passed place rule p = let t = checks_have m f place rule i p in each_at (Passed m) (checks m) e (check t.0 f place rule) t.1
@@ -212,11 +221,30 @@ accepted_of m e f i = at
     none : (k : ℕ) → k + 0 ≡ k
     none k = omega arith
 
-    at : RulesHold m f
-    at item.Whole rule = tt
-    at (item.Callee k) rule = λ c g. passed (item.Callee k) rule (front (item.Callee k) (callee_items 0 f.callees) (block_items f.blocks) (subst (λ z. In (item.Callee z) (callee_items 0 f.callees)) (none k) (callee_there f.callees 0 k c g))) c g
-    at (item.Block b) rule = λ c g. passed (item.Block b) rule (back (item.Block b) (callee_items 0 f.callees) (block_items f.blocks) (block_there b f.blocks c g)) c g
-    at (item.Inst p) rule = λ c l h g. passed (item.Inst p) rule (back (item.Inst p) (callee_items 0 f.callees) (block_items f.blocks) (inst_there p.block p.index f.blocks c l h g)) c l h g
+    callees : (k : ℕ) (rule : Rule) → Holds m f (item.Callee k) rule
+    callees k rule = λ c g. passed (item.Callee k) rule (front (item.Callee k) (callee_items 0 f.callees) (block_items f.blocks) (subst (λ z. In (item.Callee z) (callee_items 0 f.callees)) (none k) (callee_there f.callees 0 k c g))) c g
+
+-- a function's own rules: in the empty module each callee declaration keeps its rule, since it names no function there
+pub own_rules : (f : Function) (n : ℕ) → Each (Passed []) (tried_at first_rules n f (block_items f.blocks)) → Each (Passed []) (tried_at last_rules n f (items f)) → RulesHold [] f
+own_rules f n early late = rules_at [] f callees passed
+  where
+    callees : (k : ℕ) (rule : Rule) → Holds [] f (item.Callee k) rule
+    callees k no_terminator = λ c g. tt
+    callees k entry_target = λ c g. tt
+    callees k count_mismatch = λ c g. tt
+    callees k type_mismatch = λ c g. tt
+    callees k convention = λ c g. tt
+    callees k signature_mismatch = λ c g h e. cc
+    callees k slot_range = λ c g. tt
+    callees k tag_place = λ c g. tt
+    callees k not_available = λ c g. tt
+
+    passed : (place : Item) (rule : Rule) → In place (block_items f.blocks) → Holds [] f place rule
+    passed place rule p =
+        elim (first_or_last rule) [
+          | inl r ↦ each_at (Passed []) (tried_at first_rules n f (block_items f.blocks)) early (check n f place rule) (tried_at_has first_rules n f place rule (block_items f.blocks) p r)
+          | inr r ↦ each_at (Passed []) (tried_at last_rules n f (items f)) late (check n f place rule) (tried_at_has last_rules n f place rule (items f) (back place (callee_items 0 f.callees) (block_items f.blocks) p) r)
+        ]
 
 pub of_accepted : (m : Module) → Accepted m → Each (Passed m) (checks m)
 of_accepted m ok = each_of (Passed m) (checks m) (λ c i. ok c.func (get_in m c.number c.func (checks_of m c i)) c.place c.rule)

@@ -34,6 +34,15 @@ impl Checked {
         &self.module
     }
 
+    /// The module, out of which its functions may be taken.
+    pub fn into_module(self) -> Module
+        ensures same { result ≡ self }
+        ensures accepted { Accepted result }
+    {
+        let Checked { module } = self;
+        module
+    }
+
     /// A module that is known to be accepted. It is not looked at.
     pub fn of_accepted(module: Module) -> Checked
         requires { Accepted «module» }

@@ -148,7 +148,7 @@ fn find_fault_in_block(
 }
 
 /// The first fault but availability among the blocks of a function. `first` is its first block.
-fn find_fault_in_blocks(
+pub(crate) fn find_fault_in_blocks(
     func: &Func,
     sigs: &FuncSigs<'_>,
     number: usize,
@@ -213,7 +213,7 @@ fn find_fault_in_callees(
 }
 
 /// The first block of a function, if it has one.
-fn find_first(func: &Func) -> Block
+pub(crate) fn find_first(func: &Func) -> Block
     ensures number { result ≡ first_number func.now.function.blocks }
     ensures sound { IsSound func.now.function }
 {

@@ -1,6 +1,6 @@
 -- Tables of signatures by an index that grows, and what they tell.
 use Rattle.std.proofs.Common.{inl, inr, ◌≡◌, ℕ, zero, suc, ◌+◌, ◌<◌, List, [], ◌∷◌, ◌++◌, map, length, take, Bool, true, false, Option, Some, None, refl, sym, ap, ap₂, ◌∙◌, subst, arith, eq-eqb, ne_eqb, get_or}
-use Rattle.std.specs.Prelude.{slice_get, nat_eq}
+use Rattle.std.specs.Prelude.{◌≤◌, slice_get, nat_eq, if◌then◌else◌}
 use Rattle.std.proofs.lemmas.Bool.{cases_eq}
 use Rattle.std.proofs.lemmas.List.{take_more, map_push, length-map}
 use Rattle.std.proofs.lemmas.Option.{same_Some, slice_get_cases, slice_get_read}
@@ -8,7 +8,7 @@ use Rattle.ir_core.specs.declared.signatures.Sig.{Sig}
 use Rattle.ir_core.specs.Module.{Function, Module}
 use Rattle.ir_core.specs.Lookup.{same_bytes}
 use Rattle.ir_core.specs.Signatures.{same_sig}
-use Rattle.ir_core.proofs.Equal.{sig_equal}
+use Rattle.ir_core.proofs.Equal.{sig_equal, sig_same}
 use Rattle.ir_core.proofs.Indexing.{same_bytes_self}
 use Rattle.body_import.specs.SigKeys.{sig_key}
 use Rattle.body_import.proofs.SigsDecided.{sigs_decide}
@@ -16,7 +16,7 @@ use Rattle.sig_numbers.specs.declared.index.SigIndex.{SigIndex}
 use Rattle.sig_numbers.specs.declared.tables.SigEntry.{SigEntry}
 use Rattle.sig_numbers.specs.declared.tables.SigTable.{SigTable}
 use Rattle.sig_numbers.specs.Index.{IsIndex, Keeps, number_of}
-use Rattle.sig_numbers.specs.Tables.{Tells, numbers_in, flags_in, IsTable, AreTables}
+use Rattle.sig_numbers.specs.Tables.{return_alike, Tells, numbers_in, flags_in, AreEntries, IsTable, Entered, AreTables}
 
 -- ---- an index that grows
 
@@ -51,7 +51,7 @@ flags_more f sigs es es' k e s is more low at flag =
     ∙ (sym (map_push f (take k sigs) (get_or sigs k s)) ∙ ap (map f) (sym (take_more sigs k s low)))))
 
 pub table_kept : (i j : SigIndex) → Keeps i j → (f : Function) (t : SigTable) → IsTable (number_of i) f t → IsTable (number_of j) f t
-table_kept i j keeps f t h = record { own = keeps (sig_key f.sig) t.own h.own; numbers = numbers_kept i j keeps f.sigs (numbers_in t.entries.items) h.numbers; flags = h.flags }
+table_kept i j keeps f t h = record { own = keeps (sig_key f.sig) t.own h.own; entries = record { numbers = numbers_kept i j keeps f.sigs (numbers_in t.entries.items) h.entries.numbers; flags = h.entries.flags } }
 
 -- the tables of the first functions of a module
 abbrev pub Tabling : SigIndex → Module → List SigTable → Type 0
@@ -90,8 +90,8 @@ same_by_number number tells s t a b p q =
     differ true h e = let r : Some a ≡ Some b = sym p ∙ (ap number (sig_equal s t h) ∙ q) in absurd (e cc)
     differ false h e = sym h
 
-pub number_stands : (number : Sig → Option ℕ) (f : Function) (t : SigTable) → IsTable number f t → (k : ℕ) (s : Sig) → slice_get f.sigs k ≡ Some s → (d : SigEntry) → number s ≡ Some (get_or t.entries.items k d).number
-number_stands number f t h k s at d = by f.sigs t.entries.items k h.numbers at
+number_stands : (number : Sig → Option ℕ) (f : Function) (es : List SigEntry) → AreEntries number f es → (k : ℕ) (s : Sig) → slice_get f.sigs k ≡ Some s → (d : SigEntry) → number s ≡ Some (get_or es k d).number
+number_stands number f es h k s at d = by f.sigs es k h.numbers at
   where
     by : (sigs : List Sig) (es : List SigEntry) (k : ℕ) → map Some (numbers_in es) ≡ map number sigs → slice_get sigs k ≡ Some s → number s ≡ Some (get_or es k d).number
     by [] es k e at = cc
@@ -99,22 +99,22 @@ number_stands number f t h k s at d = by f.sigs t.entries.items k h.numbers at
     by (x ∷ sigs) (n ∷ es) zero e at = let q : x ≡ s = cc in let r : Some n.number ≡ number x = cc in sym (r ∙ ap number q)
     by (x ∷ sigs) (n ∷ es) (suc k) e at = let r : map Some (numbers_in es) ≡ map number sigs = cc in by sigs es k r at
 
-pub number_read : (number : Sig → Option ℕ) (f : Function) (t : SigTable) → IsTable number f t → (k k' : ℕ) (e : SigEntry) (s : Sig) → slice_get f.sigs k ≡ Some s → k' ≡ k → e ≡ get_or t.entries.items k' e → number s ≡ Some e.number
-number_read number f t h k k' e s at same r = number_stands number f t h k s at e ∙ ap (λ (x : SigEntry). Some x.number) (sym (r ∙ ap (λ (z : ℕ). get_or t.entries.items z e) same))
+pub number_read : (number : Sig → Option ℕ) (f : Function) (es : List SigEntry) → AreEntries number f es → (k k' : ℕ) (d : SigEntry) (s : Sig) → slice_get f.sigs k ≡ Some s → k' ≡ k → number s ≡ Some (get_or es k' d).number
+number_read number f es h k k' d s at same = number_stands number f es h k s at d ∙ ap (λ (z : ℕ). Some (get_or es z d).number) (sym same)
 
-pub flag_read : (f : Sig → Bool) (sigs : List Sig) (es : List SigEntry) → flags_in es ≡ map f sigs → (k k' : ℕ) (e : SigEntry) (s : Sig) → slice_get sigs k ≡ Some s → k' ≡ k → e ≡ get_or es k' e → e.returns_alike ≡ f s
-flag_read f sigs es is k k' e s at same r = ap (λ (x : SigEntry). x.returns_alike) (r ∙ ap (λ (z : ℕ). get_or es z e) same) ∙ by sigs es k is at
+pub flag_read : (f : Sig → Bool) (sigs : List Sig) (es : List SigEntry) → flags_in es ≡ map f sigs → (k k' : ℕ) (d : SigEntry) (s : Sig) → slice_get sigs k ≡ Some s → k' ≡ k → (get_or es k' d).returns_alike ≡ f s
+flag_read f sigs es is k k' d s at same = ap (λ (z : ℕ). (get_or es z d).returns_alike) same ∙ by sigs es k is at
   where
-    by : (sigs : List Sig) (es : List SigEntry) (k : ℕ) → flags_in es ≡ map f sigs → slice_get sigs k ≡ Some s → (get_or es k e).returns_alike ≡ f s
+    by : (sigs : List Sig) (es : List SigEntry) (k : ℕ) → flags_in es ≡ map f sigs → slice_get sigs k ≡ Some s → (get_or es k d).returns_alike ≡ f s
     by [] es k is at = cc
     by (x ∷ sigs) [] k is at = cc
     by (x ∷ sigs) (n ∷ es) zero is at = let q : x ≡ s = cc in let r : n.returns_alike ≡ f x = cc in r ∙ ap f q
     by (x ∷ sigs) (n ∷ es) (suc k) is at = let r : flags_in es ≡ map f sigs = cc in by sigs es k r at
 
-pub entries_long : (number : Sig → Option ℕ) (f : Function) (t : SigTable) → IsTable number f t → length t.entries.items ≡ length f.sigs
-entries_long number f t h =
-    sym (length-map t.entries.items (λ (e : SigEntry). e.number))
-    ∙ (sym (length-map (numbers_in t.entries.items) (λ (n : ℕ). Some n)) ∙ (ap length h.numbers ∙ length-map f.sigs number))
+pub entries_long : (number : Sig → Option ℕ) (f : Function) (es : List SigEntry) → AreEntries number f es → length es ≡ length f.sigs
+entries_long number f es h =
+    sym (length-map es (λ (e : SigEntry). e.number))
+    ∙ (sym (length-map (numbers_in es) (λ (n : ℕ). Some n)) ∙ (ap length h.numbers ∙ length-map f.sigs number))
 
 pub item_there : {A : Type 0} (xs : List A) (i : ℕ) → i < length xs → (x : A) × (slice_get xs i ≡ Some x)
 item_there xs i low = elim (slice_get_cases xs i).1 [
@@ -127,3 +127,43 @@ pub table_at : (m now : List Function) (ts : List SigTable) (known : AreTables m
 table_at m now ts known same i low t at f stands =
     known.each i f t (ap (λ (z : List Function). slice_get z i) same ∙ stands)
     (slice_get_read ts (length now) i t (sym (known.count ∙ ap length same)) low at)
+
+-- ---- a function that declares one signature at most
+
+pub none_entered : (f : Function) (es : List SigEntry) → slice_get f.sigs 0 ≡ None → es ≡ [] → Entered f es
+none_entered f es none is = subst (Entered f) (sym is) (by f.sigs refl none)
+  where
+    by : (sigs : List Sig) → f.sigs ≡ sigs → slice_get sigs 0 ≡ None → Entered f []
+    by (s ∷ sigs) q h = cc
+    by [] q h = record {
+      number = λ s. None;
+      tells = λ s t n p r. cc;
+      entries = record { numbers = ap (map (λ (s : Sig). None)) (sym q); flags = ap (map (return_alike f.sig)) (sym q) };
+    }
+
+pub one_entered : (f : Function) (s : Sig) (e : SigEntry) (es : List SigEntry) → length f.sigs ≤ 1 → slice_get f.sigs 0 ≡ Some s → e.number ≡ 0 → e.returns_alike ≡ return_alike f.sig s → es ≡ e ∷ [] → Entered f es
+one_entered f s e es few at zeroth flag is = subst (Entered f) (sym is) (by f.sigs refl few at)
+  where
+    number : Sig → Option ℕ
+    number t = if same_sig s t then Some 0 else None
+
+    numbered : (t : Sig) (n : ℕ) → number t ≡ Some n → s ≡ t
+    numbered t n p = go (same_sig s t) refl p
+      where
+        go : (z : Bool) → same_sig s t ≡ z → (if z then Some 0 else None) ≡ Some n → s ≡ t
+        go true h p = sig_equal s t h
+        go false h p = cc
+
+    by : (sigs : List Sig) → f.sigs ≡ sigs → length sigs ≤ 1 → slice_get sigs 0 ≡ Some s → Entered f (e ∷ [])
+    by [] q low at = cc
+    by (t ∷ u ∷ sigs) q low at = absurd (omega (arith, low))
+    by (t ∷ []) q low at =
+        let only : f.sigs ≡ s ∷ [] = q ∙ ap (λ (z : Sig). z ∷ []) (same_Some t s at) in
+        record {
+          number = number;
+          tells = λ a b n p q. ap₂ same_sig (sym (numbered a n p)) (sym (numbered b n q)) ∙ sig_same s;
+          entries = record {
+            numbers = ap (λ (n : ℕ). Some n ∷ []) zeroth ∙ (ap (λ (z : Bool). (if z then Some 0 else None) ∷ []) (sym (sig_same s)) ∙ ap (map number) (sym only));
+            flags = ap (λ (z : Bool). z ∷ []) flag ∙ ap (map (return_alike f.sig)) (sym only);
+          };
+        }

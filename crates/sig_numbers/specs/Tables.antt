@@ -22,11 +22,21 @@ numbers_in es = map (λ (e : SigEntry). e.number) es
 abbrev pub flags_in : List SigEntry → List Bool
 flags_in es = map (λ (e : SigEntry). e.returns_alike) es
 
--- the table of a function by the numbers that are given
+-- the entries of the signatures that a function declares, by the numbers that are given
+pub record AreEntries (number : Sig → Option ℕ) (f : Function) (es : List SigEntry) : Type 0 where
+  pub numbers : map Some (numbers_in es) ≡ map number f.sigs
+  pub flags : flags_in es ≡ map (return_alike f.sig) f.sigs
+
+-- the table of a function by them
 pub record IsTable (number : Sig → Option ℕ) (f : Function) (t : SigTable) : Type 0 where
   pub own : number f.sig ≡ Some t.own
-  pub numbers : map Some (numbers_in t.entries.items) ≡ map number f.sigs
-  pub flags : flags_in t.entries.items ≡ map (return_alike f.sig) f.sigs
+  pub entries : AreEntries number f t.entries.items
+
+-- the entries of a function by some numbers
+pub record Entered (f : Function) (es : List SigEntry) : Type 0 where
+  pub number : Sig → Option ℕ
+  pub tells : Tells number
+  pub entries : AreEntries number f es
 
 -- the tables of a module's functions
 pub record AreTables (m : Module) (ts : List SigTable) : Type 0 where

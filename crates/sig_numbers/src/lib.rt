@@ -8,5 +8,5 @@ mod tables;
 mod types;
 
 pub use same::is_same_sig;
-pub use sigs::{FuncSigs, ModuleSigs, number_sigs};
+pub use sigs::{FuncSigs, ModuleSigs, OwnSigs, number_sigs};
 pub use types::is_same_type;

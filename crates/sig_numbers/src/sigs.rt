@@ -5,7 +5,7 @@ ghost use Rattle.ir_core.specs.Module.{Function};
 ghost use Rattle.ir_core.specs.Signatures.{same_sig};
 ghost use Rattle.sig_numbers.specs.Tables.{return_alike};
 
-use crate::tables::{SigTable, find_tables};
+use crate::tables::{SigEntry, SigTable, find_own_entries, find_tables};
 use ir_core::{Func, Module, SigRef};
 use std::alloc::{AllocError, Global};
 use std::marker::Model;
@@ -33,7 +33,7 @@ impl<'a> Model for ModuleSigs<'a> {
 #[derive(Drop)]
 pub struct FuncSigs<'a> {
     func: &'a Func,
-    table: &'a SigTable,
+    entries: &'a [SigEntry],
 }
 
 impl<'a> Model for FuncSigs<'a> {
@@ -47,6 +47,24 @@ impl<'a> Model for FuncSigs<'a> {
     ghost invariant = { KnowsFunction };
 }
 
+/// The signatures of one function, numbered alone. Contracts see the function.
+#[derive(Drop)]
+pub struct OwnSigs<'a> {
+    func: &'a Func,
+    entries: Vec<SigEntry>,
+}
+
+impl<'a> Model for OwnSigs<'a> {
+    ghost use Rattle.ir_core.specs.Module.{Function};
+    ghost use Rattle.sig_numbers.specs.Known.{owner_of, KnowsOwner};
+
+    ghost Value = { Function };
+
+    ghost view = { owner_of };
+
+    ghost invariant = { KnowsOwner };
+}
+
 impl<'a> ModuleSigs<'a> {
     /// The signatures of the function at a place.
     pub fn func(&self, i: usize) -> FuncSigs<'_>
@@ -55,7 +73,7 @@ impl<'a> ModuleSigs<'a> {
     {
         FuncSigs {
             func: self.module.func(i),
-            table: &self.tables[i],
+            entries: self.tables[i].entries.as_slice(),
         }
     }
 
@@ -81,8 +99,7 @@ impl<'a> FuncSigs<'a> {
         ensures { (s t : Sig) → slice_get self.now.sigs a ≡ Some s → slice_get self.now.sigs b ≡ Some t
             → result ≡ same_sig s t }
     {
-        let entries = &self.table.entries;
-        entries[a.number() as usize].number == entries[b.number() as usize].number
+        self.entries[a.number() as usize].number == self.entries[b.number() as usize].number
     }
 
     /// Whether the results of a signature that the function declares have the types of the function's own. It takes one
@@ -91,7 +108,29 @@ impl<'a> FuncSigs<'a> {
         requires { sig < length self.now.sigs }
         ensures { (s : Sig) → slice_get self.now.sigs sig ≡ Some s → result ≡ return_alike self.now.sig s }
     {
-        self.table.entries[sig.number() as usize].returns_alike
+        self.entries[sig.number() as usize].returns_alike
+    }
+}
+
+impl<'a> OwnSigs<'a> {
+    /// Numbers the signatures that a function declares. It takes time linear in them, times the logarithm of their
+    /// number. For a function that declares none it takes no memory, and for one that declares a single one that of its
+    /// entry. Only `AllocError` refuses.
+    pub fn of(alloc: Global, func: &'a Func) -> Result<OwnSigs<'a>, AllocError>
+        ensures { IfOk result (λ sigs. sigs ≡ func.now.function) }
+    {
+        let entries = find_own_entries(alloc, func)?;
+        Ok(OwnSigs { func, entries })
+    }
+
+    /// What is looked up of them.
+    pub fn sigs(&self) -> FuncSigs<'_>
+        ensures { result ≡ self.now }
+    {
+        FuncSigs {
+            func: self.func,
+            entries: self.entries.as_slice(),
+        }
     }
 }
 

@@ -1,7 +1,7 @@
 //! What is looked up of the signatures of each function.
-ghost use Rattle.std.specs.Prelude.{◌≡◌, Some, map, IfOk, OnOk};
+ghost use Rattle.std.specs.Prelude.{◌≡◌, ◌≤◌, Some, length, map, IfOk, OnOk};
 ghost use Rattle.sig_numbers.specs.Index.{IsIndex, Keeps, number_of};
-ghost use Rattle.sig_numbers.specs.Tables.{AreTables, IsTable, return_alike};
+ghost use Rattle.sig_numbers.specs.Tables.{AreTables, Entered, IsTable, return_alike};
 
 use crate::index::SigIndex;
 use crate::types::have_same_types;
@@ -49,6 +49,36 @@ fn find_entries<'a>(
             returns_alike,
         })?;
     }
+    Ok(entries)
+}
+
+/// The entries of a function that declares one signature at most, whose number is 0. Only `AllocError` refuses.
+fn find_few_entries(alloc: Global, func: &Func) -> Result<Vec<SigEntry>, AllocError>
+    requires { length func.now.function.sigs ≤ 1 }
+    ensures { IfOk result (λ entries. Entered func.now.function entries.items) }
+{
+    let Some(sig) = func.sigs().first() else {
+        return Ok(Vec::new(alloc));
+    };
+    let returns_alike = have_same_types(sig.results.as_slice(), func.sig().results.as_slice());
+    let mut entries = Vec::with_capacity(alloc, 1)?;
+    entries.push(SigEntry {
+        number: 0,
+        returns_alike,
+    })?;
+    Ok(entries)
+}
+
+/// The entries of a function whose signatures are numbered alone. Only `AllocError` refuses.
+pub(crate) fn find_own_entries(alloc: Global, func: &Func) -> Result<Vec<SigEntry>, AllocError>
+    ensures { IfOk result (λ entries. Entered func.now.function entries.items) }
+{
+    let sigs = func.sigs();
+    if sigs.len() <= 1 {
+        return find_few_entries(alloc, func);
+    }
+    let mut index = SigIndex::new(alloc);
+    let entries = find_entries(alloc, &mut index, func.sig(), sigs)?;
     Ok(entries)
 }
 

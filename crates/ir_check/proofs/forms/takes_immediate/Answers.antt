@@ -1,4 +1,3 @@
-use Rattle.std.proofs.Common.{◌∙◌}
 use Rattle.clif_words.proofs.OpcodesOf.{immediate_form}
 use Rattle.ir_check.proofs.forms.takes_immediate.Goals as goal
 

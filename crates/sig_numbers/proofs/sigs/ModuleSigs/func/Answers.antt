@@ -1,7 +1,9 @@
-use Rattle.std.proofs.Common.{List, ◌≡◌, Some, sym, ap, ◌∙◌}
+use Rattle.std.proofs.Common.{List, ◌≡◌, Some, sym, ap, subst, ◌∙◌}
 use Rattle.std.specs.Prelude.{slice_get}
 use Rattle.ir_core.specs.Module.{Function}
+use Rattle.sig_numbers.specs.declared.tables.SigEntry.{SigEntry}
 use Rattle.sig_numbers.specs.Known.{module_of}
+use Rattle.sig_numbers.specs.Tables.{AreEntries}
 use Rattle.sig_numbers.proofs.Tabled.{table_at}
 use Rattle.sig_numbers.proofs.sigs.ModuleSigs.func.Goals as goal
 
@@ -11,5 +13,5 @@ invariant_of-result c =
     record {
       number = c.self.invariant.number;
       tells = c.self.invariant.tells;
-      table = table_at (module_of c.self.inside) c.args.self.now c.self.inside.tables.items c.self.invariant c.self.view_is c.args.i c.requires c.index.result.now c.index.ensures c.func.result.now.function stands;
+      entries = subst (λ (es : List SigEntry). AreEntries c.self.invariant.number c.func.result.now.function es) (sym c.as_slice.ensures.value) (table_at (module_of c.self.inside) c.args.self.now c.self.inside.tables.items c.self.invariant c.self.view_is c.args.i c.requires c.index.result.now c.index.ensures c.func.result.now.function stands).entries;
     }

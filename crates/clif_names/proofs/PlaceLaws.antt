@@ -37,6 +37,6 @@ place_is ws n = elim (leb_tells (suc (at (nat_eq n) ws)) (length ws)) [
 pub words_placed : WordsPlaced
 words_placed f names free are kind n =
     let words : (table_at names.uses kind).words ≡ numbers_of (definitions f kind) =
-    ap (λ (u : Uses). (table_at u kind).words) are.uses ∙ ap (λ (t : Names). t.words) (table_is f names.ends.items are.ends kind)
+    ap (λ (u : Uses). (table_at u kind).words) are.uses ∙ ap (λ (t : Names). t.words) (table_is f names.ends are.ends kind)
     ∙ (taken (definitions f kind) (uses f kind)).stays ∙ words_are (definitions f kind) (λ s h. free Duplicate s (kind, h)) in
     rw words (place_is (numbers_of (definitions f kind)) n)

@@ -125,11 +125,11 @@ firsts_are ds none = firsts_from [] ds no_tables holds_none refl none
 pub values_numbered : ValuesNumbered
 values_numbered f names free are =
     let ds = value_defs f in
-    let ends = names.ends.items in
+    let ends = names.ends in
     let all : (fold define_value no_tables ds).firsts ≡ ds = firsts_are ds (no_repeats f free) in
     let words : names.uses.values.words ≡ map number ds =
     ap (λ (u : Uses). u.values.words) are.uses ∙ ap (λ (t : Names). t.words) (table_is f ends are.ends Values)
     ∙ (taken (definitions f Values) (uses f Values)).stays ∙ same_late f ends are.ends ∙ ap (map number) all in
     let right = rw all at (right_firsts f ends are.ends) in
-    let counted : AreCounts ds names.values_before.items = subst (λ ds. AreCounts ds names.values_before.items) (same_firsts f ends are.ends ∙ all) are.counts in
-    subst (λ ws. IsNumbering ds (value_at ws ends names.values_before.items)) (sym words) (numbers ds ends names.values_before.items right counted (all_end f free))
+    let counted : AreCounts ds names.values_before = subst (λ ds. AreCounts ds names.values_before) (same_firsts f ends are.ends ∙ all) are.counts in
+    subst (λ ws. IsNumbering ds (value_at ws ends names.values_before)) (sym words) (numbers ds ends names.values_before right counted (all_end f free))

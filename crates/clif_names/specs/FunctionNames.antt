@@ -18,10 +18,10 @@ use Rattle.name_tables.specs.Words.{place_in}
 -- The words are those that the function defines and uses, the ends those of the chains of its alias lines, and the
 -- counts those of the values before each definition.
 pub record AreNamesOf (f : RawFunction) (names : FunctionNames) : Type 0 where
-  pub ends : AreEnds (map (link_of (defined f).values.words) (defined f).firsts) names.ends.items
-  pub uses : names.uses ≡ use_function names.ends.items (uses_of (defined f)) f
-  pub endless : names.endless ≡ least_endless (defined f).firsts names.ends.items
-  pub counts : AreCounts (defined f).firsts names.values_before.items
+  pub ends : AreEnds (map (link_of (defined f).values.words) (defined f).firsts) names.ends
+  pub uses : names.uses ≡ use_function names.ends (uses_of (defined f)) f
+  pub endless : names.endless ≡ least_endless (defined f).firsts names.ends
+  pub counts : AreCounts (defined f).firsts names.values_before
 
 -- ---- numbers of values
 
@@ -44,7 +44,7 @@ value_at words ends counts n = get_or counts (end_place words (end_of words ends
 
 -- the number of the value that a word stands for
 abbrev pub value_number : FunctionNames → ℕ → ℕ
-value_number names n = value_at names.uses.values.words names.ends.items names.values_before.items n
+value_number names n = value_at names.uses.values.words names.ends names.values_before n
 
 -- ---- laws
 

@@ -9,8 +9,8 @@ ghost use Rattle.clif_names.specs.Using.{uses_of};
 use crate::least::LeastSpots;
 use crate::uses::Uses;
 use clif_read::RawFunction;
-use name_tables::aliases::{endless, links, values_before};
-use name_tables::{End, Tables, ends};
+use name_tables::aliases::{Counts, endless, ends, values_before};
+use name_tables::{End, Ends, Tables};
 use std::alloc::{AllocError, Global};
 
 /// The names of a function: its words by kind, and what its alias lines stand for.
@@ -18,11 +18,11 @@ use std::alloc::{AllocError, Global};
 pub struct FunctionNames {
     pub uses: Uses,
     /// How the chain of each value's word ends.
-    pub ends: Vec<End>,
+    pub ends: Ends,
     /// The least spot of an alias line whose chain never ends.
     pub endless: Option<usize>,
     /// How many values are defined before each word's first definition, and at last by all of them.
-    pub values_before: Vec<usize>,
+    pub values_before: Counts,
 }
 
 impl FunctionNames {
@@ -31,8 +31,7 @@ impl FunctionNames {
         ensures { IfOk result (λ names. AreNamesOf func.now names) }
     {
         let tables = Tables::of_definitions(alloc, func)?;
-        let links = links(alloc, &tables.values.words, tables.firsts.as_slice())?;
-        let ends = ends(alloc, &links)?;
+        let ends = ends(alloc, &tables.values.words, tables.firsts.as_slice())?;
         let endless = endless(tables.firsts.as_slice(), &ends);
         let values_before = values_before(alloc, tables.firsts.as_slice())?;
         let mut uses = begun(tables);
@@ -78,13 +77,14 @@ impl FunctionNames {
     }
 
     /// How the chain of a value's word ends.
+    #[inline]
     fn end(&self, word: u64) -> End
-        ensures { result ≡ end_of self.now.uses.values.words self.now.ends.items word }
+        ensures { result ≡ end_of self.now.uses.values.words self.now.ends word }
     {
         match self.uses.values.words.place(word) {
             None => End::Nowhere,
             Some(place) => match self.ends.get(place) {
-                Some(end) => *end,
+                Some(end) => end,
                 None => End::Nowhere,
             },
         }
@@ -92,6 +92,7 @@ impl FunctionNames {
 
     /// The number of the value that a word stands for, after alias lines, or the number of values where it stands for
     /// none. Values are numbered in order of definition.
+    #[inline]
     pub fn value(&self, word: u64) -> usize
         ensures { result ≡ value_number self.now word }
     {
@@ -100,7 +101,7 @@ impl FunctionNames {
             End::Nowhere | End::Endless => self.uses.values.words.len(),
         };
         match self.values_before.get(place) {
-            Some(count) => *count,
+            Some(count) => count,
             None => 0,
         }
     }

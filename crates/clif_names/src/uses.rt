@@ -10,7 +10,7 @@ use clif_read::{
     RawBlock, RawBlockParam, RawCalleeSig, RawDecl, RawFuncName, RawFunction, RawLine, RawTag,
 };
 use ir_core::{Boxed, Ty};
-use name_tables::{End, Names, earlier_spot};
+use name_tables::{End, Ends, Names, earlier_spot};
 use token_reader::{RawName, RawNumber};
 
 /// The words of a function by kind, with the first faults of its uses.
@@ -218,20 +218,20 @@ impl Uses {
     }
 
     /// Whether a word stands for a value that isn't defined so far.
-    fn is_late(&self, ends: &[End], word: u64) -> bool
+    fn is_late(&self, ends: &Ends, word: u64) -> bool
         ensures { result ≡ spec.is_late ends.now self.now word }
     {
         match self.values.words.place(word) {
             None => false,
             Some(place) => match ends.get(place) {
-                Some(End::At(end)) => self.defined <= *end,
+                Some(End::At(end)) => self.defined <= end,
                 Some(End::Nowhere | End::Endless) | None => false,
             },
         }
     }
 
     /// Notes the opcode where the type of a value is asked for that isn't defined so far.
-    fn ask_type(&mut self, ends: &[End], inst: &RawInst)
+    fn ask_type(&mut self, ends: &Ends, inst: &RawInst)
         ensures { self.new ≡ spec.ask_type ends.now self.old inst.now }
     {
         if let Some(operand) = asks(inst) {
@@ -261,7 +261,7 @@ impl Uses {
         }
     }
 
-    fn use_line(&mut self, ends: &[End], line: &RawLine)
+    fn use_line(&mut self, ends: &Ends, line: &RawLine)
         ensures { self.new ≡ spec.use_line ends.now self.old line.now }
     {
         match line {
@@ -286,7 +286,7 @@ impl Uses {
     }
 
     #[tactic(auto, using(name_tables::proofs::Folds::fold_one))]
-    fn use_lines(&mut self, ends: &[End], lines: &[RawLine])
+    fn use_lines(&mut self, ends: &Ends, lines: &[RawLine])
         ensures { self.new ≡ fold (spec.use_line ends.now) self.old lines.now }
     {
         for line in lines {
@@ -303,7 +303,7 @@ impl Uses {
         }
     }
 
-    fn use_block(&mut self, ends: &[End], block: &RawBlock)
+    fn use_block(&mut self, ends: &Ends, block: &RawBlock)
         ensures { self.new ≡ spec.use_block ends.now self.old block.now }
     {
         self.define_params(block.params.as_slice());
@@ -311,7 +311,7 @@ impl Uses {
     }
 
     #[tactic(auto, using(name_tables::proofs::Folds::fold_one))]
-    fn use_blocks(&mut self, ends: &[End], blocks: &[RawBlock])
+    fn use_blocks(&mut self, ends: &Ends, blocks: &[RawBlock])
         ensures { self.new ≡ fold (spec.use_block ends.now) self.old blocks.now }
     {
         for block in blocks {
@@ -320,7 +320,7 @@ impl Uses {
     }
 
     /// Takes all uses of a function.
-    pub(crate) fn use_function(&mut self, ends: &[End], func: &RawFunction)
+    pub(crate) fn use_function(&mut self, ends: &Ends, func: &RawFunction)
         ensures { self.new ≡ spec.use_function ends.now self.old func.now }
     {
         self.note_name(&func.name);

@@ -17,3 +17,4 @@ pub mod ChainWords
 pub mod EndlessLaws
 pub mod LinkLaws
 pub mod Counts
+pub mod ValueRuns

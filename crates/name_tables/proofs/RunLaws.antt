@@ -1,12 +1,13 @@
 -- Where words stand behind a run.
-use Rattle.std.proofs.Common.{◌≡◌, ℕ, zero, suc, ◌+◌, ◌-◌, ◌<◌, ◌≤◌, ◌≢◌, Bool, true, false, inl, inr, List, [], ◌∷◌, ◌++◌, length, length-append, map, get_or, Option, None, Some, refl, sym, ap, ◌∙◌, arith, append_assoc, add-one}
-use Rattle.std.specs.Prelude.{nat_eq, nat_lt, position, option_map}
+use Rattle.std.proofs.Common.{◌≡◌, ℕ, zero, suc, ◌+◌, ◌-◌, ◌<◌, ◌≤◌, ◌≢◌, Bool, true, false, inl, inr, List, [], ◌∷◌, ◌++◌, length, length-append, map, Option, None, Some, is_none, refl, sym, ap, ◌∙◌, arith, append_assoc, add-one}
+use Rattle.std.specs.Prelude.{nat_eq, nat_lt, position, option_map, OnOk, Result, Ok, Err}
+use Rattle.std.specs.Global.{Box}
 use Rattle.std.specs.List.{range_with_len}
 use Rattle.std.proofs.lemmas.Bool.{eq-eqb}
 use Rattle.std.proofs.lemmas.Bool.Decides.{eqb_tells, leb_tells}
 use Rattle.std.proofs.lemmas.List.{length-map, append-nil, map-append}
 use Rattle.std.proofs.lemmas.List.FromFn.{length-range_with_len}
-use Rattle.name_tables.specs.Dense.{words_of, or_far}
+use Rattle.name_tables.specs.Dense.{words_of, or_no_words}
 use Rattle.name_tables.proofs.WordPlaces.{at, position_front, yes_less, not_less}
 
 range_more : (a n : ℕ) → range_with_len a (suc n) ≡ range_with_len a n ++ (a + n) ∷ []
@@ -87,19 +88,23 @@ module _ (r : ℕ) (bs : List ℕ) where
     pub position_less : position (nat_eq x) (words_of r bs) ≡ option_map (λ p. r + p) (position (nat_eq (x - r)) bs)
     position_less = ap (λ k. position (nat_eq k) (words_of r bs)) (sym back) ∙ position_behind (x - r)
 
-    -- what the tables tell of a word
-    pub told : (near : List ℕ) (far : ℕ → Option ℕ) → ((n : ℕ) → or_far (get_or near n 0) (far n) ≡ position (nat_eq n) bs)
-        → (o : Option ℕ) → or_far (get_or near (x - r) 0) (far (x - r)) ≡ o → option_map (λ p. r + p) o ≡ position (nat_eq x) (words_of r bs)
-    told near far right o e = sym (position_less ∙ ap (option_map (λ p. r + p)) (sym (right (x - r)) ∙ e))
-
     pub none_behind : position (nat_eq x) (words_of r bs) ≡ None → position (nat_eq (x - r)) bs ≡ None
     none_behind new = none_of (position (nat_eq (x - r)) bs) (sym position_less ∙ new)
 
     pub words_more : words_of r (bs ++ (x - r) ∷ []) ≡ words_of r bs ++ x ∷ []
     words_more = ap (λ ks. range_with_len 0 r ++ ks) (map-append (λ n. r + n) bs ((x - r) ∷ []) ∙ ap (λ k. map (λ n. r + n) bs ++ k ∷ []) back) ∙ sym (append_assoc (range_with_len 0 r) (map (λ n. r + n) bs) (x ∷ []))
 
+pub no_words : (behind : Option (Box (List ℕ))) → is_none behind ≡ true → length (or_no_words behind) ≡ 0
+no_words None h = refl
+no_words (Some words) h = absurd cc
+
 -- a run that grows, where no word is behind it
 pub run_longer : (r x : ℕ) (bs : List ℕ) → length bs ≡ 0 → x ≡ r → words_of (r + 1) bs ≡ words_of r bs ++ x ∷ []
 run_longer r x [] none is = let e : 0 + r ≡ x = omega (arith, is) in
     append-nil (range_with_len 0 (r + 1)) ∙ ap (range_with_len 0) (add-one r) ∙ range_more 0 r ∙ ap (λ k. range_with_len 0 r ++ k ∷ []) e ∙ ap (λ ks. ks ++ x ∷ []) (sym (append-nil (range_with_len 0 r)))
 run_longer r x (b ∷ bs) none is = absurd (omega (arith, none))
+
+-- what holds on success, where more follows from it
+pub on_ok : {A E P Q : Type 0} (r : Result A E) → (P → Q) → OnOk r P → OnOk r Q
+on_ok (Ok a) then h = then h
+on_ok (Err e) then h = h

@@ -1,5 +1,6 @@
 -- A table with a short way from a word to its place, and a long one where there is no short one.
-use Rattle.std.specs.Prelude.{◌≡◌, ℕ, zero, suc, ◌+◌, ◌^◌, ◌<◌, nat_eq, List, ◌++◌, map, get_or, Option, Some, position}
+use Rattle.std.specs.Prelude.{◌≡◌, ℕ, zero, suc, ◌+◌, nat_eq, List, [], ◌++◌, map, get_or, Option, None, Some, position}
+use Rattle.std.specs.Global.{Box}
 use Rattle.std.specs.List.{range_with_len}
 use Rattle.std.specs.declared.hash.FoldHasher.{FoldHasher}
 use Rattle.std.specs.declared.hash.BuildHasherDefault.{BuildHasherDefault}
@@ -25,7 +26,7 @@ AreRight words near far = (n : ℕ) → or_far (get_or near n 0) (get nat_eq far
 abbrev pub words_of : ℕ → List ℕ → List ℕ
 words_of run behind = range_with_len 0 run ++ map (λ n. run + n) behind
 
--- a run whose length fits 32 bits, and both ways to the words behind it
-pub record AreKept (run : ℕ) (behind near : List ℕ) (far : Far) : Type 0 where
-  pub short : run < 2 ^ 32
-  pub right : AreRight behind near far
+-- what stands behind a run, where there is anything
+abbrev pub or_no_words : Option (Box (List ℕ)) → List ℕ
+or_no_words None = []
+or_no_words (Some behind) = behind.value

@@ -1,6 +1,7 @@
 -- What a chain of alias lines comes to.
 use Rattle.std.specs.Prelude.{◌≡◌, ℕ, zero, suc, ◌<◌, ◌==◌, Bool, false, List, length, Option, None, Some, get_or}
-use Rattle.std.specs.Prelude.{if◌then◌else◌}
+use Rattle.std.specs.Prelude.{if◌then◌else◌, ◌++◌, map}
+use Rattle.std.specs.List.{range_with_len}
 use Rattle.name_tables.specs.declared.links.Link.{Link}
 use Rattle.name_tables.specs.declared.links.Link.TheVariants.{Value, Missing, To}
 use Rattle.name_tables.specs.declared.links.End.{End}
@@ -41,6 +42,10 @@ AreRight links marks = (i : ℕ) (e : End) → get_or marks i Open ≡ Ended e �
 -- the walks that left their marks began below n
 abbrev pub AreBelow : ℕ → List Mark → Type 0
 AreBelow n marks = (i by : ℕ) → get_or marks i Open ≡ Walking by → by < n
+
+-- the ends of a run of words that are each the end of their own chain, and those behind them
+abbrev pub ends_of : ℕ → List End → List End
+ends_of run listed = map At (range_with_len 0 run) ++ listed
 
 -- each word has the end of its chain
 abbrev pub AreEnds : List Link → List End → Type 0

@@ -11,7 +11,7 @@ mod tables;
 mod words;
 
 pub use firsts::{Def, Firsts};
-pub use links::{End, Link, ends};
+pub use links::{End, Ends, Link};
 pub use names::Names;
 pub use spots::{earlier_of, earlier_spot};
 pub use tables::Tables;

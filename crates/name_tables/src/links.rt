@@ -1,8 +1,9 @@
 //! The ends of chains of alias lines.
-ghost use Rattle.std.specs.Prelude.{◌≡◌, ◌+◌, ◌<◌, length, IfOk};
-ghost use Rattle.name_tables.specs.Links.{InRange, AreRight, AreBelow, AreEnds, Means, walks};
+ghost use Rattle.std.specs.Prelude.{◌≡◌, ◌+◌, ◌<◌, [], length, true, IfOk, slice_get};
+ghost use Rattle.name_tables.specs.Links.{InRange, AreRight, AreBelow, AreEnds, Means, ends_of, walks};
 
 use std::alloc::{AllocError, Global};
+use std::marker::Model;
 
 /// What stands behind a word.
 #[derive(Clone, Copy, Debug)]
@@ -93,8 +94,71 @@ fn is_walking(mark: Mark, start: usize) -> bool
     }
 }
 
+/// The ends of chains in order. Contracts see their list.
+#[derive(Drop)]
+pub struct Ends {
+    /// How many words at the front are each the end of their own chain. They take no memory.
+    run: usize,
+    /// The ends behind them.
+    listed: Vec<End>,
+}
+
+impl Model for Ends {
+    ghost use Rattle.std.specs.Prelude.{List};
+    ghost use Rattle.name_tables.specs.declared.links.End.{End};
+    ghost use Rattle.name_tables.specs.Links.{ends_of};
+
+    ghost Value = { List End };
+
+    ghost view = { λ ends. ends_of ends.run ends.listed.items };
+}
+
+impl Ends {
+    /// So many words that are each the end of their own chain.
+    pub(crate) fn of_values(alloc: Global, count: usize) -> Ends
+        ensures { result ≡ ends_of count [] }
+    {
+        Ends {
+            run: count,
+            listed: Vec::new(alloc),
+        }
+    }
+
+    /// The end of each word's chain.
+    pub(crate) fn of_links(alloc: Global, links: &[Link]) -> Result<Ends, AllocError>
+        requires links_in_range { InRange links.now }
+        ensures { IfOk result (λ ends. AreEnds links.now ends) }
+    {
+        Ok(Ends {
+            run: 0,
+            listed: list_ends(alloc, links)?,
+        })
+    }
+
+    /// The end at a place.
+    #[inline]
+    pub fn get(&self, place: usize) -> Option<End>
+        ensures { result ≡ slice_get self.now place }
+    {
+        if place < self.run {
+            return Some(End::At(place));
+        }
+        match self.listed.get(place - self.run) {
+            Some(end) => Some(*end),
+            None => None,
+        }
+    }
+
+    /// Whether no other words are known than those that are each the end of their own chain.
+    pub(crate) fn is_of_values(&self) -> bool
+        ensures { result ≡ true → self.now ≡ ends_of (length self.now) [] }
+    {
+        self.listed.is_empty()
+    }
+}
+
 /// The end of each word's chain.
-pub fn ends(alloc: Global, links: &[Link]) -> Result<Vec<End>, AllocError>
+fn list_ends(alloc: Global, links: &[Link]) -> Result<Vec<End>, AllocError>
     requires links_in_range { InRange links.now }
     ensures { IfOk result (λ v. AreEnds links.now v.items) }
 {

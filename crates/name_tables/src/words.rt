@@ -12,23 +12,20 @@ use std::marker::Model;
 pub struct Words {
     /// How many words at the front are each their own place: 0, 1, 2 and so on. They take no memory.
     run: usize,
-    /// The words behind them, each less `run`, as are their places in what follows.
-    order: Vec<u64>,
-    /// One more than the place of each word with a small number, or 0.
-    near: Vec<u32>,
-    /// The places of the other words.
-    far: IndexMap<u64, usize>,
+    /// The words behind them, where there are any.
+    behind: Option<Box<Behind>>,
+    alloc: Global,
 }
 
 impl Model for Words {
-    ghost use Rattle.std.specs.Prelude.{List, ℕ};
-    ghost use Rattle.name_tables.specs.Dense.{words_of, AreKept};
+    ghost use Rattle.std.specs.Prelude.{◌<◌, ◌^◌, List, ℕ};
+    ghost use Rattle.name_tables.specs.Dense.{words_of, or_no_words};
 
     ghost Value = { List ℕ };
 
-    ghost view = { λ w. words_of w.run w.order.items };
+    ghost view = { λ w. words_of w.run (or_no_words w.behind) };
 
-    ghost invariant = { λ w. AreKept w.run w.order.items w.near.items w.far };
+    ghost invariant = { λ w. w.run < 2 ^ 32 };
 }
 
 impl Words {
@@ -38,9 +35,8 @@ impl Words {
     {
         Words {
             run: 0,
-            order: Vec::new(alloc),
-            near: Vec::new(alloc),
-            far: IndexMap::new(alloc),
+            behind: None,
+            alloc,
         }
     }
 
@@ -49,7 +45,10 @@ impl Words {
     pub fn len(&self) -> usize
         ensures { result ≡ length self.now }
     {
-        self.run + self.order.len()
+        match &self.behind {
+            None => self.run,
+            Some(behind) => self.run + behind.len(),
+        }
     }
 
     /// The place of a word.
@@ -62,13 +61,12 @@ impl Words {
         if word < run {
             return Some(word as usize);
         }
-        let behind = word - run;
-        match self.near.get(behind as usize) {
-            Some(0) | None => match self.far.get(&behind) {
-                Some(place) => Some(self.run + *place),
+        match &self.behind {
+            None => None,
+            Some(behind) => match behind.place(word - run) {
+                Some(place) => Some(self.run + place),
                 None => None,
             },
-            Some(next) => Some(self.run + (*next as usize - 1)),
         }
     }
 
@@ -78,7 +76,7 @@ impl Words {
         requires { position (nat_eq word) self.old ≡ None }
         ensures { OnOk result (self.new ≡ self.old ++ word ∷ []) }
     {
-        if self.order.is_empty() && word == self.run as u64 && self.run < u32::MAX as usize {
+        if self.behind.is_none() && word == self.run as u64 && self.run < u32::MAX as usize {
             self.run += 1;
             return Ok(());
         }
@@ -86,19 +84,93 @@ impl Words {
     }
 
     /// Appends a word that isn't there to those behind the run.
+    #[inline(never)]
     fn push_behind(&mut self, word: u64) -> Result<(), AllocError>
         requires { position (nat_eq word) self.old ≡ None }
         ensures { OnOk result (self.new ≡ self.old ++ word ∷ []) }
     {
-        let behind = word - self.run as u64;
+        let word = word - self.run as u64;
+        match &mut self.behind {
+            Some(behind) => behind.push(word),
+            None => {
+                let mut behind = Behind::new(self.alloc);
+                behind.push(word)?;
+                self.behind = Some(Box::new(self.alloc, behind)?);
+                Ok(())
+            }
+        }
+    }
+}
+
+/// Different words in order, each less the length of the run before them. Contracts see their list.
+#[derive(Drop)]
+struct Behind {
+    order: Vec<u64>,
+    /// One more than the place of each word with a small number, or 0.
+    near: Vec<u32>,
+    /// The places of the other words.
+    far: IndexMap<u64, usize>,
+}
+
+impl Model for Behind {
+    ghost use Rattle.std.specs.Prelude.{List, ℕ};
+    ghost use Rattle.name_tables.specs.Dense.{AreRight};
+
+    ghost Value = { List ℕ };
+
+    ghost view = { λ b. b.order.items };
+
+    ghost invariant = { λ b. AreRight b.order.items b.near.items b.far };
+}
+
+impl Behind {
+    /// No words.
+    fn new(alloc: Global) -> Behind
+        ensures { result ≡ [] }
+    {
+        Behind {
+            order: Vec::new(alloc),
+            near: Vec::new(alloc),
+            far: IndexMap::new(alloc),
+        }
+    }
+
+    /// How many there are.
+    fn len(&self) -> usize
+        ensures len { result ≡ length self.now }
+        ensures small { result < 2 ^ 63 }
+    {
+        self.order.len()
+    }
+
+    /// The place of a word.
+    #[inline(never)]
+    fn place(&self, word: u64) -> Option<usize>
+        ensures place { result ≡ position (nat_eq word) self.now }
+        ensures small { IfSome result (λ place. place < 2 ^ 63) }
+    {
+        match self.near.get(word as usize) {
+            Some(0) | None => match self.far.get(&word) {
+                Some(place) => Some(*place),
+                None => None,
+            },
+            Some(next) => Some(*next as usize - 1),
+        }
+    }
+
+    /// Appends a word that isn't there.
+    fn push(&mut self, word: u64) -> Result<(), AllocError>
+        requires { position (nat_eq word) self.old ≡ None }
+        ensures { OnOk result (self.new ≡ self.old ++ word ∷ []) }
+    {
         let place = self.order.len();
-        if behind / 4 <= place as u64 + 256 && place < u32::MAX as usize {
-            grow(&mut self.near, behind as usize)?;
-            self.order.push(behind)?;
-            self.near[behind as usize] = place as u32 + 1;
+        if word / 4 <= place as u64 + 256 && place < u32::MAX as usize {
+            grow(&mut self.near, word as usize)?;
+            self.order.push(word)?;
+            self.near[word as usize] = place as u32 + 1;
         } else {
-            self.order.push(behind)?;
-            match self.far.insert(behind, place) {
+            self.order.push(word)?;
+            match self.far.insert(word, place) {
                 Ok(_) => {}
                 Err(failed) => {
                     self.order.pop();

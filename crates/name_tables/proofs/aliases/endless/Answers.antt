@@ -1,22 +1,27 @@
-use Rattle.std.proofs.Common.{◌≡◌, List, [], ◌∷◌, length, refl, sym, ap, ◌∙◌, arith, inl, inr}
-use Rattle.std.specs.Prelude.{zip, fold}
-use Rattle.name_tables.specs.Aliases.{note_pair}
+use Rattle.std.proofs.Common.{rules, ◌≡◌, None, Some, length, get_or, slice_get, sym, ap, ◌∙◌}
 use Rattle.name_tables.specs.declared.firsts.Def.{Def}
-use Rattle.name_tables.specs.declared.links.End.{End}
+use Rattle.name_tables.specs.Aliases.{note_end, least_endless}
+use Rattle.name_tables.proofs.ValueRuns.{none_endless, endless_more}
 use Rattle.name_tables.proofs.aliases.endless.Goals as goal
+use Rattle.name_tables.proofs.aliases.endless.Goals.{in-Some, in_default}
 
-none_left : (xs : List Def) (es : List End) → length xs ≡ 0 → zip xs es ≡ []
-none_left [] es h = refl
-none_left (x ∷ xs) es h = absurd (omega arith)
+pub returns-then-is_of_values : goal.returns-then-is_of_values
+returns-then-is_of_values c =
+    sym (ap (least_endless c.args.firsts.now) (c.is_of_values.ensures c.if-is_of_values.true) ∙ none_endless c.args.firsts.now (length c.args.ends.now))
 
-none_right : (xs : List Def) (es : List End) → length es ≡ 0 → zip xs es ≡ []
-none_right [] es h = refl
-none_right (x ∷ xs) [] h = refl
-none_right (x ∷ xs) (e ∷ es) h = absurd (omega arith)
-
-pub returns : goal.returns
-returns c =
-    let xs = c.loop-first.first-iterator.a.rest.now in
-    let es = c.loop-first.first-iterator.b.rest.now in
-    let e : zip xs es ≡ [] = elim c.in-None.ensures.steps [ inl a ↦ none_left xs es a.1.0 | inr b ↦ none_right xs es b.1.0 ] in
-    sym (ap (fold note_pair c.loop-first.least) e) ∙ c.loop-first.invariant
+pub loop-place-preserved : goal.loop-place-preserved
+loop-place-preserved c =
+    let firsts = c.args.firsts.now in
+    let ends = c.args.ends.now in
+    let place = c.loop-place.place in
+    let nothing : Def = record { name = record { number = 0; spot = 0 }; target = None } in
+    elim c.match-get.branch [
+      | in-Some w ↦ (
+          let found : slice_get ends place ≡ Some w.in-Some.end = sym c.get.ensures ∙ w.in-Some.is in
+          let more = endless_more firsts ends place nothing (Some w.in-Some.end) c.loop-place-test.true found in
+          w.least-is ∙ w.note_end-least.ensures ∙ ap (λ o. note_end o (get_or firsts place nothing).name.spot w.in-Some.end) c.loop-place.invariant ∙ sym more)
+      | in_default w ↦ (
+          let found : slice_get ends place ≡ None = search rules in
+          let more = endless_more firsts ends place nothing None c.loop-place-test.true found in
+          w.least-is ∙ c.loop-place.invariant ∙ sym more)
+    ]

@@ -1,18 +1,12 @@
-use Rattle.std.proofs.Common.{◌≡◌, ◌++◌, ◌∷◌, [], None, arith, length-append}
-use Rattle.name_tables.specs.declared.firsts.Def.{Def}
-use Rattle.name_tables.proofs.Counts.{counted_more, count_more}
+use Rattle.std.proofs.Common.{rules, ◌≡◌, ◌+◌, [], false, length, subst, sym}
+use Rattle.std.specs.List.{list_any}
+use Rattle.name_tables.specs.Aliases.{is_alias, counts_of, AreCounts}
+use Rattle.name_tables.proofs.ValueRuns.{value_counts}
 use Rattle.name_tables.proofs.aliases.values_before.Goals as goal
 
-pub loop-first-preserved : goal.loop-first-preserved
-loop-first-preserved c =
+pub returns-then-not-has_alias : goal.returns-then-not-has_alias
+returns-then-not-has_alias c =
     let firsts = c.args.firsts.now in
-    let old = c.loop-first.counts.items in
-    let count = c.loop-first.count in
-    let nothing : Def = record { name = record { number = 0; spot = 0 }; target = None } in
-    let pushed : c.push.new.self.items ≡ old ++ count ∷ [] = c.in_ok-push.ensures.items in
-    rw pushed (record {
-      long = omega (arith, length-append old (count ∷ []));
-      each = counted_more firsts old c.loop-first.first-index count c.loop-first.invariant.long c.loop-first.invariant.each c.loop-first.invariant.count;
-      count = omega (arith, count_more firsts c.loop-first.first-index nothing c.loop-first-test.true);
-      small = omega arith;
-    })
+    let none : list_any is_alias firsts ≡ false = search rules in
+    let empty : c.new.result.items ≡ [] = search rules in
+    subst (λ listed. AreCounts firsts (counts_of (length firsts + 1) listed)) (sym empty) (value_counts firsts none)

@@ -2,7 +2,7 @@ use Rattle.std.proofs.Common.{◌≡◌, ◌≤◌, length, take}
 use Rattle.ir_core.specs.Size.{total}
 use Rattle.name_tables.specs.Aliases.{value_count}
 use Rattle.name_tables.proofs.Counts.{Counted}
-use Rattle.name_tables.proofs.aliases.values_before.Given as goal
+use Rattle.name_tables.proofs.aliases.list_counts.Given as goal
 
 abbrev pub invariant-loop-first : goal.invariant-loop-first
 invariant-loop-first l = record {

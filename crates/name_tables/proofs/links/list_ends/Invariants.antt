@@ -1,7 +1,7 @@
 use Rattle.std.proofs.Common.{◌≡◌, ℕ, ◌<◌, length, get_or}
 use Rattle.name_tables.specs.declared.links.End.TheVariants.{Nowhere}
 use Rattle.name_tables.specs.Links.{AreRight, AreBelow, Means}
-use Rattle.name_tables.proofs.links.ends.Given as goal
+use Rattle.name_tables.proofs.links.list_ends.Given as goal
 
 abbrev pub invariant-loop-i : goal.invariant-loop-i
 invariant-loop-i l = record {

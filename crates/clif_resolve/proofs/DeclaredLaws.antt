@@ -1,4 +1,4 @@
--- A function with its declarations, and then its values and empty blocks.
+-- A function with its name and signature, then its declarations, its values and empty blocks.
 use Rattle.std.proofs.Common.{◌≡◌, ℕ, ◌+◌, ◌-◌, ◌<◌, ◌^◌, List, [], ◌∷◌, ◌++◌, length, map, slice_get, Some, take, sym, ap, subst, ◌∙◌, arith}
 use Rattle.std.specs.Prelude.{flat_map}
 use Rattle.std.specs.List.{enumerate_from}
@@ -14,20 +14,27 @@ use Rattle.ir_core.proofs.Ranges.{map_append}
 use Rattle.ir_semantics.specs.Renaming.{Renaming}
 use Rattle.clif_read.specs.declared.raw.RawBlock.{RawBlock}
 use Rattle.clif_read.specs.declared.raw.RawFunction.{RawFunction}
+use Rattle.name_tables.specs.Definitions.{block_steps, steps}
 use Rattle.clif_names.specs.FunctionNames.{NoFunctionFault}
 use Rattle.clif_meaning.specs.Meaning.{block_with, callees_from, decl_slots, function_with, name_of, numbers, sig_of}
 use Rattle.clif_meaning.proofs.Lists.{numbered_long}
-use Rattle.clif_resolve.specs.Declaring.{AreFew, declared, sigs_of}
-use Rattle.clif_resolve.specs.Filling.{empty_block, filled, IsReady}
+use Rattle.clif_resolve.specs.Declaring.{AreFew, declared, sigs_of, undeclared}
+use Rattle.clif_resolve.specs.Filling.{empty_block, filled, IsReady, valued}
+use Rattle.clif_resolve.specs.FormTypes.{types_along, types_of}
 use Rattle.clif_resolve.proofs.DeclaringLaws.{sigs_whole}
 use Rattle.clif_lines.proofs.Parting.{parted_long, parted_next}
 use Rattle.clif_resolve.proofs.Opening.{enumerate_begun}
 use Rattle.clif_resolve.proofs.ReadyLaws.{few}
 
--- ---- declarations
+-- ---- a name and a signature
 
 abbrev made : FuncName → Sig → List SlotDecl → List Sig → List Callee → Function
 made n s ss gs cs = record { name = n; sig = s; slots = ss; sigs = gs; callees = cs; types = []; blocks = [] }
+
+pub undeclared_by : (raw : RawFunction) (n : FuncName) (s : Sig) (f : Function) → n ≡ name_of raw.name → s ≡ sig_of raw.signature → f ≡ made n s [] [] [] → f ≡ undeclared raw
+undeclared_by raw n s f named signed is = is ∙ ap (λ x. made x s [] [] []) named ∙ ap (λ x. made (name_of raw.name) x [] [] []) signed
+
+-- ---- declarations
 
 module _ (raw : RawFunction) (at : Renaming) (words : at ≡ numbers raw at.value) (ss : List SlotDecl) (gs : List Sig) (cs : List Callee)
     (slots_are : ss ≡ flat_map decl_slots raw.decls) (sigs_are : gs ≡ sigs_of raw) (callees_are : cs ≡ callees_from at.sig 0 raw.decls) where
@@ -39,12 +46,9 @@ module _ (raw : RawFunction) (at : Renaming) (words : at ≡ numbers raw at.valu
       subst (λ xs. AreFew xs gs cs) (sym slots_are)
       (subst (λ xs. AreFew (flat_map decl_slots raw.decls) xs cs) (sym sigs_are) (subst (λ xs. AreFew (flat_map decl_slots raw.decls) (sigs_of raw) xs) (sym callees_right) (few raw free at.value)))
 
-  pub declared_by : (n : FuncName) (s : Sig) (f g : Function) → n ≡ name_of raw.name → s ≡ sig_of raw.signature
-      → f ≡ made n s [] [] [] → g ≡ record f { slots = ss; sigs = gs; callees = cs } → g ≡ declared raw at.value
-  declared_by n s f g named signed is next =
+  pub declared_by : (f g : Function) → f ≡ undeclared raw → g ≡ record f { slots = ss; sigs = gs; callees = cs } → g ≡ declared raw at.value
+  declared_by f g is next =
       next ∙ ap (λ (x : Function). record x { slots = ss; sigs = gs; callees = cs }) is
-      ∙ ap (λ x. made x s ss gs cs) named
-      ∙ ap (λ x. made (name_of raw.name) x ss gs cs) signed
       ∙ ap (λ x. made (name_of raw.name) (sig_of raw.signature) x gs cs) slots_are
       ∙ ap (λ x. made (name_of raw.name) (sig_of raw.signature) (flat_map decl_slots raw.decls) x cs) (sigs_are ∙ sigs_whole raw.decls)
       ∙ ap (λ x. made (name_of raw.name) (sig_of raw.signature) (flat_map decl_slots raw.decls) (function_with raw at.value []).sigs x) callees_right
@@ -72,17 +76,24 @@ block_added start f g bs i b at n is numbered next =
 
 -- ---- values and empty blocks
 
-module _ (raw : RawFunction) (at : Renaming) (types : List Ty) where
-  pub begun_by : (bs : List RawBlock) (f g h : Function) → bs ≡ raw.blocks → f ≡ declared raw at.value → g ≡ record f { types = enumerate_from 0 types }
-      → h ≡ record g { blocks = map empty_block (enumerate_from 0 bs) } → h ≡ filled raw at types 0
-  begun_by bs f g h same is next last =
-      last ∙ ap (λ xs. record g { blocks = map empty_block (enumerate_from 0 xs) }) same
-      ∙ ap (λ (x : Function). record x { blocks = map empty_block (enumerate_from 0 raw.blocks) })
-      (next ∙ ap (λ (x : Function). record x { types = enumerate_from 0 types }) is)
+module _ (raw : RawFunction) (at : Renaming) where
+  pub types_found : (us : List Ty) (bs : List RawBlock) (f : Function) → us ≡ types_along f at (flat_map block_steps bs) → bs ≡ raw.blocks → f ≡ declared raw at.value → us ≡ types_of raw at
+  unfolding types_of
+  types_found us bs f found same is =
+      found ∙ ap (λ xs. types_along f at (flat_map block_steps xs)) same ∙ ap (λ (x : Function). types_along x at (steps raw)) is
 
-  module _ (ready : IsReady raw at types) where
+  pub valued_by : (us : List Ty) (f g : Function) → us ≡ types_of raw at → f ≡ declared raw at.value → g ≡ record f { types = enumerate_from 0 us } → g ≡ valued raw at
+  valued_by us f g are is next =
+      next ∙ ap (λ ts. record f { types = enumerate_from 0 ts }) are ∙ ap (λ (x : Function). record x { types = enumerate_from 0 (types_of raw at) }) is
+
+  pub begun_by : (bs : List RawBlock) (f g : Function) → bs ≡ raw.blocks → f ≡ valued raw at → g ≡ record f { blocks = map empty_block (enumerate_from 0 bs) } → g ≡ filled raw at 0
+  begun_by bs f g same is next =
+      next ∙ ap (λ xs. record f { blocks = map empty_block (enumerate_from 0 xs) }) same
+      ∙ ap (λ (x : Function). record x { blocks = map empty_block (enumerate_from 0 raw.blocks) }) is
+
+  module _ (ready : IsReady raw at) where
     pub few_blocks : length raw.blocks < 2 ^ 32 - 1
-    few_blocks = let s = ready.sound.small.blocks in let e = numbered_long (block_with raw at.value (enumerate_from 0 types)) 0 raw.blocks in omega (arith, s, e)
+    few_blocks = let s = ready.sound.small.blocks in let e = numbered_long (block_with raw at.value (enumerate_from 0 (types_of raw at))) 0 raw.blocks in omega (arith, s, e)
 
-    pub few_values : length types < 2 ^ 32 - 1
-    few_values = let s = ready.sound.small.values in let e = length_numbered 0 types in omega (arith, s, e)
+    pub few_values : length (types_of raw at) < 2 ^ 32 - 1
+    few_values = let s = ready.sound.small.values in let e = length_numbered 0 (types_of raw at) in omega (arith, s, e)

@@ -30,7 +30,7 @@ use Rattle.clif_names.specs.Limits.{all_words, decl_limits, line_limits, name_li
 use Rattle.clif_lines.specs.Keeping.{AllKeep, Keeps}
 use Rattle.clif_meaning.specs.Instructions.{known, line_of, type_for}
 use Rattle.clif_resolve.specs.Filling.{begun, empty_block, empty_from, filled, IsReady, meant, opened, whole_before}
-use Rattle.clif_resolve.specs.FormTypes.{type_after}
+use Rattle.clif_resolve.specs.FormTypes.{type_after, types_of}
 use Rattle.clif_meaning.specs.Meaning.{block_with, lines_with}
 use Rattle.clif_resolve.proofs.Opening.{at_middle, count_middle, defined_middle, differ, enumerate_begun, fresh, in_middle, number_range, split_lines, split_params}
 use Rattle.clif_lines.proofs.Parting.{each_all, each_at, each_part, got, got_or, parted, parted_long, parted_next, parted_one}
@@ -45,7 +45,10 @@ empties_count : (k : ℕ) (bs : List RawBlock) → instruction_count (map empty_
 empties_count k [] = refl
 empties_count k (b ∷ bs) = let a = empties_count (k + 1) bs in omega (arith, a)
 
-module _ (raw : RawFunction) (at : Renaming) (types : List Ty) where
+module _ (raw : RawFunction) (at : Renaming) where
+  abbrev types : List Ty
+  types = types_of raw at
+
   abbrev with_block : ℕ × RawBlock → Block
   with_block = block_with raw at.value (enumerate_from 0 types)
 
@@ -53,7 +56,7 @@ module _ (raw : RawFunction) (at : Renaming) (types : List Ty) where
   written = lines_with raw at.value (enumerate_from 0 types)
 
   -- a line of the block under the numbers of its words
-  pub added_is : IsReady raw at types → (location : Option ℕ) (tags ts : List RawTag) (results rs : List RawName) (inst : RawInst) (ty : Ty) (x : Line)
+  pub added_is : IsReady raw at → (location : Option ℕ) (tags ts : List RawTag) (results rs : List RawName) (inst : RawInst) (ty : Ty) (x : Line)
       → ts ≡ tags → rs ≡ results → ty ≡ type_after at types inst → x ≡ line_of at ty ts rs inst → written (line.Inst location tags results inst) ≡ x ∷ []
   added_is ready location tags ts results rs inst ty x same_tags same_results typed is =
       ap (λ (r : Renaming). line_of r (known (type_for (type_in (enumerate_from 0 types)) r inst)) tags results inst ∷ []) (sym ready.words)
@@ -62,31 +65,34 @@ module _ (raw : RawFunction) (at : Renaming) (types : List Ty) where
       ∙ ap (λ xs. line_of at ty ts xs inst ∷ []) (sym same_results)
       ∙ ap (λ l. l ∷ []) (sym is)
 
-  pub line_keeps : IsReady raw at types → (place : ℕ) (b : RawBlock) → slice_get raw.blocks place ≡ Some b → (i : ℕ) (l : RawLine) → slice_get b.lines i ≡ Some l → AllKeep (line_limits l)
+  pub typed_by : (place params lines : ℕ) (inst : RawInst) (f : Function) (ty : Ty) → f ≡ opened raw at place params lines → ty ≡ known (type_for (type_in f.types) at inst) → ty ≡ type_after at types inst
+  typed_by place params lines inst f ty is typed = typed ∙ ap (λ (x : Function). known (type_for (type_in x.types) at inst)) is
+
+  pub line_keeps : IsReady raw at → (place : ℕ) (b : RawBlock) → slice_get raw.blocks place ≡ Some b → (i : ℕ) (l : RawLine) → slice_get b.lines i ≡ Some l → AllKeep (line_limits l)
   line_keeps ready place b got i l here =
       each_at (λ (x : RawLine). AllKeep (line_limits x)) b.lines i l
       (each_part (λ (x : RawLine). AllKeep (line_limits x)) (λ (x : RawBlock). x.lines) raw.blocks place b
       (each_all Keeps line_limits (lines raw)
       (each_right Keeps ((map (of_word Entity) (all_words raw) ++ name_limits raw.name) ++ flat_map decl_limits raw.decls) (flat_map line_limits (lines raw)) ready.limits)) got) here
 
-  pub filled_all : filled raw at types (length raw.blocks) ≡ meant raw at types
+  pub filled_all : filled raw at (length raw.blocks) ≡ meant raw at
   filled_all =
-      ap (λ bs. record (meant raw at types) { blocks = bs })
+      ap (λ bs. record (meant raw at) { blocks = bs })
       (ap₂ (λ xs ys. map with_block (enumerate_from 0 xs) ++ map empty_block (enumerate_from (length raw.blocks) ys)) (take-length raw.blocks) (drop-length raw.blocks)
       ∙ append-nil (map with_block (enumerate_from 0 raw.blocks)))
 
   module _ (place : ℕ) (b : RawBlock) (got : slice_get raw.blocks place ≡ Some b) where
     abbrev done : List Block
-    done = whole_before raw at types place
+    done = whole_before raw at place
 
     abbrev empties : List Block
-    empties = empty_from raw at types (suc place)
+    empties = empty_from raw at (suc place)
 
     abbrev rest : List Block
     rest = map with_block (enumerate_from (suc place) (drop (suc place) raw.blocks))
 
     abbrev part : ℕ → ℕ → Block
-    part params lines = begun raw at types params lines (place, b)
+    part params lines = begun raw at params lines (place, b)
 
     abbrev whole : Block
     whole = with_block (place, b)
@@ -94,21 +100,21 @@ module _ (raw : RawFunction) (at : Renaming) (types : List Ty) where
     one_block : take 1 (drop place raw.blocks) ≡ b ∷ []
     one_block = ap (take 1) (parted_one raw.blocks place b got)
 
-    pub opened_blocks : (params lines : ℕ) → opened raw at types place params lines ≡ record (meant raw at types) { blocks = done ++ part params lines ∷ empties }
+    pub opened_blocks : (params lines : ℕ) → opened raw at place params lines ≡ record (meant raw at) { blocks = done ++ part params lines ∷ empties }
     opened_blocks params lines =
-        ap (λ bs. record (meant raw at types) { blocks = done ++ (map (begun raw at types params lines) (enumerate_from place bs) ++ empties) }) one_block
+        ap (λ bs. record (meant raw at) { blocks = done ++ (map (begun raw at params lines) (enumerate_from place bs) ++ empties) }) one_block
 
-    pub opened_begins : opened raw at types place 0 0 ≡ filled raw at types place
+    pub opened_begins : opened raw at place 0 0 ≡ filled raw at place
     opened_begins =
         opened_blocks 0 0
-        ∙ ap (λ n. record (meant raw at types) { blocks = done ++ part 0 0 ∷ map empty_block (enumerate_from n (drop (suc place) raw.blocks)) }) (sym (add-one place))
-        ∙ ap (λ bs. record (meant raw at types) { blocks = done ++ map empty_block (enumerate_from place bs) }) (sym (parted_one raw.blocks place b got))
+        ∙ ap (λ n. record (meant raw at) { blocks = done ++ part 0 0 ∷ map empty_block (enumerate_from n (drop (suc place) raw.blocks)) }) (sym (add-one place))
+        ∙ ap (λ bs. record (meant raw at) { blocks = done ++ map empty_block (enumerate_from place bs) }) (sym (parted_one raw.blocks place b got))
 
     part_whole : part (length b.params) (length b.lines) ≡ whole
     part_whole =
         ap₂ (λ ps ls. record { number = place; params = map (λ (p : RawBlockParam). at.value p.value.number) ps; lines = flat_map written ls }) (take-length b.params) (take-length b.lines)
 
-    whole_next : whole_before raw at types (place + 1) ≡ done ++ whole ∷ []
+    whole_next : whole_before raw at (place + 1) ≡ done ++ whole ∷ []
     whole_next =
         ap (λ n. map with_block (enumerate_from 0 (take n raw.blocks))) (add-one place)
         ∙ ap (λ bs. map with_block (enumerate_from 0 bs)) (parted_next raw.blocks place b got)
@@ -116,18 +122,18 @@ module _ (raw : RawFunction) (at : Renaming) (types : List Ty) where
         ∙ map_append with_block (enumerate_from 0 (take place raw.blocks)) (enumerate_from (length (take place raw.blocks)) (b ∷ []))
         ∙ ap (λ n. done ++ with_block (n, b) ∷ []) (parted_long raw.blocks place b got)
 
-    pub opened_ends : opened raw at types place (length b.params) (length b.lines) ≡ filled raw at types (place + 1)
+    pub opened_ends : opened raw at place (length b.params) (length b.lines) ≡ filled raw at (place + 1)
     opened_ends =
         opened_blocks (length b.params) (length b.lines)
-        ∙ ap (λ x. record (meant raw at types) { blocks = done ++ x ∷ empties }) part_whole
-        ∙ ap (λ bs. record (meant raw at types) { blocks = bs })
+        ∙ ap (λ x. record (meant raw at) { blocks = done ++ x ∷ empties }) part_whole
+        ∙ ap (λ bs. record (meant raw at) { blocks = bs })
         (sym (append_assoc done (whole ∷ []) empties)
         ∙ ap (λ xs. xs ++ empties) (sym whole_next)
-        ∙ ap (λ n. whole_before raw at types (place + 1) ++ map empty_block (enumerate_from n (drop n raw.blocks))) (sym (add-one place)))
+        ∙ ap (λ n. whole_before raw at (place + 1) ++ map empty_block (enumerate_from n (drop n raw.blocks))) (sym (add-one place)))
 
     -- ---- the whole function
 
-    pub all_blocks : (meant raw at types).blocks ≡ done ++ whole ∷ rest
+    pub all_blocks : (meant raw at).blocks ≡ done ++ whole ∷ rest
     all_blocks =
         ap (λ bs. map with_block (enumerate_from 0 bs)) (parted raw.blocks place b got)
         ∙ ap (map with_block) (enumerate_begun (take place raw.blocks) (b ∷ drop (suc place) raw.blocks))
@@ -145,27 +151,27 @@ module _ (raw : RawFunction) (at : Renaming) (types : List Ty) where
     not_behind : In place (block_numbers empties) → ⊥
     not_behind i = let q = number_range empty_block (λ p. refl) (suc place) (drop (suc place) raw.blocks) place i in let r = q.0 in omega (arith, r)
 
-    pub put_at : (g : Block → Block) (params lines : ℕ) → at_block place g (opened raw at types place params lines).blocks ≡ done ++ g (part params lines) ∷ empties
+    pub put_at : (g : Block → Block) (params lines : ℕ) → at_block place g (opened raw at place params lines).blocks ≡ done ++ g (part params lines) ∷ empties
     put_at g params lines =
         ap (λ (f : Function). at_block place g f.blocks) (opened_blocks params lines)
         ∙ at_middle place g done empties (part params lines) refl not_before not_behind
 
-    pub stands : (params lines : ℕ) → In place (block_numbers (opened raw at types place params lines).blocks)
+    pub stands : (params lines : ℕ) → In place (block_numbers (opened raw at place params lines).blocks)
     stands params lines = subst (λ (f : Function). In place (block_numbers f.blocks)) (sym (opened_blocks params lines)) (in_middle done empties (part params lines))
 
-    pub defined_there : (params lines : ℕ) → definitions (opened raw at types place params lines).blocks ≡ definitions done ++ block_definitions (part params lines)
+    pub defined_there : (params lines : ℕ) → definitions (opened raw at place params lines).blocks ≡ definitions done ++ block_definitions (part params lines)
     defined_there params lines =
         ap (λ (f : Function). definitions f.blocks) (opened_blocks params lines)
         ∙ defined_middle done empties (part params lines) (empties_define (suc place) (drop (suc place) raw.blocks))
 
-    module _ (ready : IsReady raw at types) where
+    module _ (ready : IsReady raw at) where
       once : Different (definitions (done ++ whole ∷ rest))
       once = subst (λ bs. Different (definitions bs)) all_blocks ready.sound.defined_once
 
-      in_range : BlockInRange (counts_of (meant raw at types)) whole
-      in_range = (each_right (BlockInRange (counts_of (meant raw at types))) done (whole ∷ rest) (subst (Each (BlockInRange (counts_of (meant raw at types)))) all_blocks ready.sound.blocks)).0
+      in_range : BlockInRange (counts_of (meant raw at)) whole
+      in_range = (each_right (BlockInRange (counts_of (meant raw at))) done (whole ∷ rest) (subst (Each (BlockInRange (counts_of (meant raw at)))) all_blocks ready.sound.blocks)).0
 
-      blocks_long : length (opened raw at types place 0 0).blocks ≡ length (meant raw at types).blocks
+      blocks_long : length (opened raw at place 0 0).blocks ≡ length (meant raw at).blocks
       blocks_long =
           ap (λ (f : Function). length f.blocks) (opened_blocks 0 0) ∙ length-append done (part 0 0 ∷ empties)
           ∙ (let e = length-enumerated empty_block (suc place) (drop (suc place) raw.blocks) in
@@ -178,10 +184,10 @@ module _ (raw : RawFunction) (at : Renaming) (types : List Ty) where
           length-enumerated f k [] = refl
           length-enumerated f k (x ∷ xs) = ap suc (length-enumerated f (k + 1) xs)
 
-      counts_kept : (params lines : ℕ) → counts_of (opened raw at types place params lines) ≡ counts_of (meant raw at types)
-      counts_kept params lines = ap (λ n. record (counts_of (meant raw at types)) { blocks = n }) (same params lines)
+      counts_kept : (params lines : ℕ) → counts_of (opened raw at place params lines) ≡ counts_of (meant raw at)
+      counts_kept params lines = ap (λ n. record (counts_of (meant raw at)) { blocks = n }) (same params lines)
         where
-          same : (params lines : ℕ) → length (opened raw at types place params lines).blocks ≡ length (meant raw at types).blocks
+          same : (params lines : ℕ) → length (opened raw at place params lines).blocks ≡ length (meant raw at).blocks
           same params lines =
               ap (λ (f : Function). length f.blocks) (opened_blocks params lines) ∙ length-append done (part params lines ∷ empties)
               ∙ sym (length-append done (part 0 0 ∷ empties)) ∙ sym (ap (λ (f : Function). length f.blocks) (opened_blocks 0 0)) ∙ blocks_long
@@ -198,16 +204,16 @@ module _ (raw : RawFunction) (at : Renaming) (types : List Ty) where
         params_whole : whole.params ≡ map number (take i b.params) ++ number p ∷ map number (drop (suc i) b.params)
         params_whole = ap (map number) (parted b.params i p here) ∙ map_append number (take i b.params) (p ∷ drop (suc i) b.params)
 
-        pub param_step : record (meant raw at types) { blocks = at_block place (put_param (number p)) (opened raw at types place i 0).blocks } ≡ opened raw at types place (i + 1) 0
+        pub param_step : record (meant raw at) { blocks = at_block place (put_param (number p)) (opened raw at place i 0).blocks } ≡ opened raw at place (i + 1) 0
         param_step =
-            ap (λ bs. record (meant raw at types) { blocks = bs })
+            ap (λ bs. record (meant raw at) { blocks = bs })
             (put_at (put_param (number p)) i 0 ∙ ap (λ ps. done ++ record { number = place; params = ps; lines = [] } ∷ empties) (sym params_next))
             ∙ sym (opened_blocks (i + 1) 0)
 
-        pub param_declared : number p < length (meant raw at types).types
-        param_declared = (each_right (λ v. v < length (meant raw at types).types) (map number (take i b.params)) (number p ∷ map number (drop (suc i) b.params)) (subst (Below (length (meant raw at types).types)) params_whole in_range.params)).0
+        pub param_declared : number p < length (meant raw at).types
+        param_declared = (each_right (λ v. v < length (meant raw at).types) (map number (take i b.params)) (number p ∷ map number (drop (suc i) b.params)) (subst (Below (length (meant raw at).types)) params_whole in_range.params)).0
 
-        pub param_fresh : In (number p) (definitions (opened raw at types place i 0).blocks) → ⊥
+        pub param_fresh : In (number p) (definitions (opened raw at place i 0).blocks) → ⊥
         param_fresh j =
             fresh done rest whole once (map number (take i b.params)) (number p ∷ []) (map number (drop (suc i) b.params) ++ line_definitions whole.lines)
             (split_params whole (map number (take i b.params)) (map number (drop (suc i) b.params)) (number p) params_whole) (number p) (inl refl)
@@ -231,10 +237,10 @@ module _ (raw : RawFunction) (at : Renaming) (types : List Ty) where
         lines_whole = ap (flat_map written) (parted b.lines i l here) ∙ flat_map-append written (take i b.lines) (l ∷ drop (suc i) b.lines)
 
         -- an alias line adds nothing
-        pub none_step : written l ≡ [] → opened raw at types place (length b.params) i ≡ opened raw at types place (length b.params) (i + 1)
+        pub none_step : written l ≡ [] → opened raw at place (length b.params) i ≡ opened raw at place (length b.params) (i + 1)
         none_step none =
             opened_blocks (length b.params) i
-            ∙ ap (λ ls. record (meant raw at types) { blocks = done ++ record { number = place; params = map (λ (p : RawBlockParam). at.value p.value.number) (take (length b.params) b.params); lines = ls } ∷ empties })
+            ∙ ap (λ ls. record (meant raw at) { blocks = done ++ record { number = place; params = map (λ (p : RawBlockParam). at.value p.value.number) (take (length b.params) b.params); lines = ls } ∷ empties })
             (sym (lines_next ∙ ap (λ xs. before ++ xs) none ∙ append-nil before))
             ∙ sym (opened_blocks (length b.params) (i + 1))
 
@@ -242,17 +248,17 @@ module _ (raw : RawFunction) (at : Renaming) (types : List Ty) where
           line_whole : whole.lines ≡ before ++ x ∷ behind
           line_whole = lines_whole ∙ ap (λ xs. before ++ (xs ++ behind)) is
 
-          pub line_step : record (meant raw at types) { blocks = at_block place (put_line x) (opened raw at types place (length b.params) i).blocks } ≡ opened raw at types place (length b.params) (i + 1)
+          pub line_step : record (meant raw at) { blocks = at_block place (put_line x) (opened raw at place (length b.params) i).blocks } ≡ opened raw at place (length b.params) (i + 1)
           line_step =
-              ap (λ bs. record (meant raw at types) { blocks = bs })
+              ap (λ bs. record (meant raw at) { blocks = bs })
               (put_at (put_line x) (length b.params) i
               ∙ ap (λ ls. done ++ record { number = place; params = map (λ (p : RawBlockParam). at.value p.value.number) (take (length b.params) b.params); lines = ls } ∷ empties)
               (sym (lines_next ∙ ap (λ xs. before ++ xs) is)))
               ∙ sym (opened_blocks (length b.params) (i + 1))
 
-          pub line_ranges : LineInRange (counts_of (opened raw at types place (length b.params) i)) x
+          pub line_ranges : LineInRange (counts_of (opened raw at place (length b.params) i)) x
           line_ranges = subst (λ n. LineInRange n x) (sym (counts_kept (length b.params) i))
-              (each_right (LineInRange (counts_of (meant raw at types))) before (x ∷ behind) (subst (Each (LineInRange (counts_of (meant raw at types)))) line_whole in_range.lines)).0
+              (each_right (LineInRange (counts_of (meant raw at))) before (x ∷ behind) (subst (Each (LineInRange (counts_of (meant raw at)))) line_whole in_range.lines)).0
 
           parts : block_definitions whole ≡ (whole.params ++ line_definitions before) ++ (x.results ++ line_definitions behind)
           parts = split_lines whole before behind x line_whole
@@ -260,13 +266,13 @@ module _ (raw : RawFunction) (at : Renaming) (types : List Ty) where
           pub line_differs : Different x.results
           line_differs = differ done rest whole once (whole.params ++ line_definitions before) x.results (line_definitions behind) parts
 
-          pub line_fresh : (v : ℕ) → In v x.results → In v (definitions (opened raw at types place (length b.params) i).blocks) → ⊥
+          pub line_fresh : (v : ℕ) → In v x.results → In v (definitions (opened raw at place (length b.params) i).blocks) → ⊥
           line_fresh v j k =
               fresh done rest whole once (whole.params ++ line_definitions before) x.results (line_definitions behind) parts v j
               (subst (In v) (defined_there (length b.params) i
               ∙ ap (λ ps. definitions done ++ (map (λ (p : RawBlockParam). at.value p.value.number) ps ++ line_definitions before)) (take-length b.params)) k)
 
-          pub line_few : CanAdd (instruction_count (opened raw at types place (length b.params) i).blocks)
+          pub line_few : CanAdd (instruction_count (opened raw at place (length b.params) i).blocks)
           line_few =
               let s = ready.sound.small.instructions in
               let e = ap instruction_count all_blocks in

@@ -18,7 +18,7 @@ use Rattle.clif_names.specs.FunctionNames.{NoFunctionFault}
 use Rattle.name_tables.specs.Uses.{decl_uses, line_uses}
 use Rattle.clif_resolve.specs.Declaring.{AreFew, declared, sigs_of}
 use Rattle.clif_resolve.specs.Filling.{IsReady, meant}
-use Rattle.clif_resolve.specs.FormTypes.{types_along}
+use Rattle.clif_resolve.specs.FormTypes.{types_along, types_of}
 use Rattle.clif_lines.specs.WordNumbers.{AreSmall}
 use Rattle.clif_meaning.specs.Meaning.{block_with, callees_from, decl_sigs, decl_slots, function_with, FunctionMeans, numbers}
 use Rattle.clif_meaning.proofs.BoundLaws.{callees_below, callees_long, sig_below, slots_long}
@@ -103,26 +103,21 @@ module _ (raw : RawFunction) (free : NoFunctionFault raw) where
           omega (arith, a, b, c));
     }
 
-    ready : IsReady raw (numbers raw value) types
+    ready : IsReady raw (numbers raw value)
+    unfolding types_of
     ready = record { words = refl; limits = all_kept raw free; sound = made_sound }
 
-  pub ready_by : (begins : raw.blocks ≢ []) (at : Renaming) → at ≡ numbers raw at.value → IsNumbering (value_defs raw) at.value
-      → IsReady raw at (types_along (declared raw at.value) at (steps raw))
-  ready_by begins at e numbering =
-      subst (λ (r : Renaming). IsReady raw r (types_along (declared raw r.value) r (steps raw))) (sym e) (ready begins at.value numbering)
+  module _ (begins : raw.blocks ≢ []) (at : Renaming) (words : at ≡ numbers raw at.value) (numbering : IsNumbering (value_defs raw) at.value) where
+    pub ready_with : IsReady raw at
+    ready_with = subst (IsReady raw) (sym words) (ready begins at.value numbering)
 
-  -- with the types found one step after the other
-  module _ (begins : raw.blocks ≢ []) (at : Renaming) (words : at ≡ numbers raw at.value) (numbering : IsNumbering (value_defs raw) at.value) (us : List Ty)
-      (are : us ≡ types_along (declared raw at.value) at (steps raw)) where
-    pub ready_with : IsReady raw at us
-    ready_with = subst (IsReady raw at) (sym are) (ready_by begins at words numbering)
-
-    is_made : (f : Function) → f ≡ meant raw at us → f ≡ made begins at.value numbering
+    is_made : (f : Function) → f ≡ meant raw at → f ≡ made begins at.value numbering
+    unfolding types_of
     is_made f is =
-        is ∙ ap (λ ts. function_with raw at.value (enumerate_from 0 ts)) (are ∙ ap (λ (r : Renaming). types_along (declared raw at.value) r (steps raw)) words)
+        is ∙ ap (λ ts. function_with raw at.value (enumerate_from 0 ts)) (ap (λ (r : Renaming). types_along (declared raw at.value) r (steps raw)) words)
 
-    pub means_with : (f : Function) → f ≡ meant raw at us → FunctionMeans raw f
+    pub means_with : (f : Function) → f ≡ meant raw at → FunctionMeans raw f
     means_with f is = subst (FunctionMeans raw) (sym (is_made f is)) (means begins at.value numbering)
 
-    pub whole_with : (f : Function) → f ≡ meant raw at us → IsWhole f
+    pub whole_with : (f : Function) → f ≡ meant raw at → IsWhole f
     whole_with f is = subst IsWhole (sym (is_made f is)) (made_whole begins at.value numbering)

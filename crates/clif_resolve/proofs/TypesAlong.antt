@@ -1,14 +1,16 @@
 -- The types of values, found one step after the other, are those that the function gives its values.
-use Rattle.std.proofs.Common.{◌≡◌, ℕ, zero, suc, ◌+◌, ◌<◌, List, [], ◌∷◌, ◌++◌, length, take, slice_get, Option, None, Some, refl, sym, ap, ◌∙◌, arith, append_assoc}
+use Rattle.std.proofs.Common.{◌≡◌, ℕ, zero, suc, ◌+◌, ◌<◌, ◌≤◌, List, [], ◌∷◌, ◌++◌, length, take, slice_get, Option, None, Some, refl, sym, ap, ◌∙◌, arith, append_assoc}
 use Rattle.std.specs.Prelude.{fold, map}
 use Rattle.std.specs.List.{enumerate_from}
 use Rattle.std.proofs.Math.Numerals.{add-one}
 use Rattle.std.proofs.lemmas.Grind.{fold-append}
-use Rattle.std.proofs.lemmas.List.{append-nil}
+use Rattle.std.proofs.lemmas.List.{append-nil, length-map}
+use Rattle.std.proofs.lemmas.Option.{slice_get_past}
 use Rattle.ir_core.specs.declared.signatures.Ty.{Ty}
 use Rattle.ir_core.specs.declared.signatures.Ty.TheVariants.{I8}
 use Rattle.ir_core.specs.Lookup.{type_in}
 use Rattle.ir_core.specs.Module.{Function}
+use Rattle.ir_core.specs.Sound.{IsSound}
 use Rattle.ir_core.proofs.Walking.{type_found}
 use Rattle.ir_semantics.specs.Renaming.{Renaming}
 use Rattle.clif_insts.specs.declared.raw.RawInst.{RawInst}
@@ -22,19 +24,26 @@ use Rattle.name_tables.specs.Chains.{IsNumbering}
 use Rattle.clif_names.specs.Typing.{gives_type, IsUntyped}
 use Rattle.clif_resolve.specs.Declaring.{declared}
 use Rattle.clif_resolve.specs.FormTypes.{type_after, with_step, step_types_after, types_along}
-use Rattle.clif_meaning.specs.Instructions.{known, operand_type}
+use Rattle.clif_meaning.specs.Instructions.{known, operand_type, type_for}
 use Rattle.clif_meaning.specs.Meaning.{numbers, step_types, types_for, value_types}
 use Rattle.clif_meaning.proofs.OneMeaning.{types_from}
 
 pub type_of_place : (ts : List Ty) (v : ℕ) → type_in (enumerate_from 0 ts) v ≡ slice_get ts v
 type_of_place ts v = type_found 0 v v ts (omega arith)
 
+pub none_past : (f : Function) → IsSound f → (v : ℕ) → length f.types ≤ v → type_in f.types v ≡ None
+none_past f sound v past =
+    ap (λ ts. type_in ts v) sound.numbered ∙ type_of_place (map (λ typed. typed.1) f.types) v
+    ∙ slice_get_past (map (λ typed. typed.1) f.types) v (omega (arith, past, length-map f.types (λ typed. typed.1)))
+
 -- the type of an instruction without a suffix is that of the operand which gives it
+pub type_read : (type : ℕ → Option Ty) (at : Renaming) (inst : RawInst) (x : RawName) → inst.suffix ≡ None → gives_type inst.operands ≡ Some x → type_for type at inst ≡ type (at.value x.number)
+type_read type at inst x bare gives =
+    ap (λ s. elim s as (λ s. Option Ty) [ None ↦ operand_type type at (gives_type inst.operands) | Some t ↦ Some t ]) bare ∙ ap (operand_type type at) gives
+
 pub type_given : (at : Renaming) (ts : List Ty) (inst : RawInst) (x : RawName) → inst.suffix ≡ None → gives_type inst.operands ≡ Some x → known (slice_get ts (at.value x.number)) ≡ type_after at ts inst
 type_given at ts inst x bare gives =
-    ap known
-    (sym (ap (λ s. elim s as (λ s. Option Ty) [ None ↦ operand_type (type_in (enumerate_from 0 ts)) at (gives_type inst.operands) | Some t ↦ Some t ]) bare
-    ∙ ap (operand_type (type_in (enumerate_from 0 ts)) at) gives ∙ type_of_place ts (at.value x.number)))
+    ap known (sym (type_read (type_in (enumerate_from 0 ts)) at inst x bare gives ∙ type_of_place ts (at.value x.number)))
 
 -- one more result
 pub types_more : (rs : List RawName) (ts : List Ty) (i : ℕ) → i < length rs → types_for (take (i + 1) rs) ts ≡ types_for (take i rs) ts ++ known (slice_get ts i) ∷ []

@@ -8,9 +8,11 @@ use Rattle.ir_semantics.specs.Renaming.{Renaming}
 use Rattle.clif_words.specs.declared.opcodes.Opcode.{Opcode}
 use Rattle.clif_words.specs.declared.opcodes.Opcode.TheVariants as opcode
 use Rattle.clif_insts.specs.declared.raw.RawInst.{RawInst}
+use Rattle.clif_read.specs.declared.raw.RawFunction.{RawFunction}
 use Rattle.clif_read.specs.declared.raw.RawLine.{RawLine}
 use Rattle.clif_read.specs.declared.raw.RawLine.TheVariants as line
-use Rattle.name_tables.specs.Definitions.{Step, Param as Parameter, Line as Written}
+use Rattle.name_tables.specs.Definitions.{Step, Param as Parameter, Line as Written, steps}
+use Rattle.clif_resolve.specs.Declaring.{declared}
 use Rattle.clif_resolve.specs.declared.forms.FormTypes.{FormTypes}
 use Rattle.clif_resolve.specs.declared.forms.FormTypes.TheVariants as form
 use Rattle.clif_meaning.specs.Instructions.{instruction_of, known, type_for}
@@ -52,3 +54,7 @@ module _ (f : Function) (at : Renaming) where
 
   abbrev pub types_along : List Step → List Ty
   types_along ss = fold with_step [] ss
+
+-- the types of the values of a function, whose words have these numbers
+unfoldable pub types_of : RawFunction → Renaming → List Ty
+types_of raw at = types_along (declared raw at.value) at (steps raw)

@@ -3,29 +3,28 @@ ghost use Rattle.std.specs.Prelude.{◌≡◌, ◌<◌, ◌+◌, ◌^◌, length
 ghost use Rattle.clif_lines.specs.WordRenaming.{renaming};
 ghost use Rattle.clif_resolve.specs.Filling as spec;
 
-use crate::types::inst_type;
+use crate::types::find_inst_type;
 use clif_lines::{WordNumbers, line};
 use clif_read::{RawBlock, RawFunction, RawLine};
-use ir_core::{Block, Func, Ty};
+use ir_core::{Block, Func};
 use std::alloc::{AllocError, Global};
 
-/// A function as it is written, the numbers of its words, and the types of its values.
+/// A function as it is written, and the numbers of its words.
 #[derive(Drop)]
 pub(crate) struct Filling<'a> {
     pub(crate) raw: &'a RawFunction,
     pub(crate) words: &'a WordNumbers<'a>,
-    pub(crate) types: &'a [Ty],
 }
 
 impl<'a> Filling<'a> {
     /// Fills all blocks.
     pub(crate) fn fill(&self, alloc: Global, func: &mut Func) -> Result<(), AllocError>
-        requires ready { spec.IsReady self.now.raw.now (renaming self.now.words.now) self.now.types.now }
+        requires ready { spec.IsReady self.now.raw.now (renaming self.now.words.now) }
         requires few { length self.now.raw.now.blocks < 2 ^ 32 }
         requires empty { func.old.function
-            ≡ spec.filled self.now.raw.now (renaming self.now.words.now) self.now.types.now 0 }
+            ≡ spec.filled self.now.raw.now (renaming self.now.words.now) 0 }
         ensures { OnOk result
-            (func.new.function ≡ spec.meant self.now.raw.now (renaming self.now.words.now) self.now.types.now) }
+            (func.new.function ≡ spec.meant self.now.raw.now (renaming self.now.words.now)) }
     {
         for place in 0..self.raw.blocks.as_slice().len() {
             self.fill_block(alloc, func, place)?;
@@ -35,14 +34,14 @@ impl<'a> Filling<'a> {
 
     /// Fills the block at a place.
     fn fill_block(&self, alloc: Global, func: &mut Func, place: usize) -> Result<(), AllocError>
-        requires ready { spec.IsReady self.now.raw.now (renaming self.now.words.now) self.now.types.now }
+        requires ready { spec.IsReady self.now.raw.now (renaming self.now.words.now) }
         requires there { place < length self.now.raw.now.blocks }
         requires small { place < 2 ^ 32 }
         requires before { func.old.function
-            ≡ spec.filled self.now.raw.now (renaming self.now.words.now) self.now.types.now place }
+            ≡ spec.filled self.now.raw.now (renaming self.now.words.now) place }
         ensures { OnOk result
             (func.new.function
-            ≡ spec.filled self.now.raw.now (renaming self.now.words.now) self.now.types.now (place + 1)) }
+            ≡ spec.filled self.now.raw.now (renaming self.now.words.now) (place + 1)) }
     {
         let block = &self.raw.blocks.as_slice()[place];
         let number = Block::new(place as u32);
@@ -53,13 +52,13 @@ impl<'a> Filling<'a> {
 
     /// Adds all parameters of the block of this number.
     fn add_params(&self, func: &mut Func, number: Block, block: &RawBlock) -> Result<(), AllocError>
-        requires ready { spec.IsReady self.now.raw.now (renaming self.now.words.now) self.now.types.now }
+        requires ready { spec.IsReady self.now.raw.now (renaming self.now.words.now) }
         requires at { slice_get self.now.raw.now.blocks number ≡ Some block.now }
         requires before { func.old.function
-            ≡ spec.opened self.now.raw.now (renaming self.now.words.now) self.now.types.now number 0 0 }
+            ≡ spec.opened self.now.raw.now (renaming self.now.words.now) number 0 0 }
         ensures { OnOk result
             (func.new.function
-            ≡ spec.opened self.now.raw.now (renaming self.now.words.now) self.now.types.now number
+            ≡ spec.opened self.now.raw.now (renaming self.now.words.now) number
             (length block.now.params) 0) }
     {
         for index in 0..block.params.as_slice().len() {
@@ -76,14 +75,14 @@ impl<'a> Filling<'a> {
         block: &RawBlock,
         index: usize,
     ) -> Result<(), AllocError>
-        requires ready { spec.IsReady self.now.raw.now (renaming self.now.words.now) self.now.types.now }
+        requires ready { spec.IsReady self.now.raw.now (renaming self.now.words.now) }
         requires at { slice_get self.now.raw.now.blocks number ≡ Some block.now }
         requires there { index < length block.now.params }
         requires before { func.old.function
-            ≡ spec.opened self.now.raw.now (renaming self.now.words.now) self.now.types.now number index 0 }
+            ≡ spec.opened self.now.raw.now (renaming self.now.words.now) number index 0 }
         ensures { OnOk result
             (func.new.function
-            ≡ spec.opened self.now.raw.now (renaming self.now.words.now) self.now.types.now number (index + 1) 0) }
+            ≡ spec.opened self.now.raw.now (renaming self.now.words.now) number (index + 1) 0) }
     {
         let param = block.params.as_slice()[index];
         func.add_param(number, self.words.value(param.value))?;
@@ -98,14 +97,14 @@ impl<'a> Filling<'a> {
         number: Block,
         block: &RawBlock,
     ) -> Result<(), AllocError>
-        requires ready { spec.IsReady self.now.raw.now (renaming self.now.words.now) self.now.types.now }
+        requires ready { spec.IsReady self.now.raw.now (renaming self.now.words.now) }
         requires at { slice_get self.now.raw.now.blocks number ≡ Some block.now }
         requires before { func.old.function
-            ≡ spec.opened self.now.raw.now (renaming self.now.words.now) self.now.types.now number
+            ≡ spec.opened self.now.raw.now (renaming self.now.words.now) number
             (length block.now.params) 0 }
         ensures { OnOk result
             (func.new.function
-            ≡ spec.opened self.now.raw.now (renaming self.now.words.now) self.now.types.now number
+            ≡ spec.opened self.now.raw.now (renaming self.now.words.now) number
             (length block.now.params) (length block.now.lines)) }
     {
         for index in 0..block.lines.as_slice().len() {
@@ -123,15 +122,15 @@ impl<'a> Filling<'a> {
         block: &RawBlock,
         index: usize,
     ) -> Result<(), AllocError>
-        requires ready { spec.IsReady self.now.raw.now (renaming self.now.words.now) self.now.types.now }
+        requires ready { spec.IsReady self.now.raw.now (renaming self.now.words.now) }
         requires at { slice_get self.now.raw.now.blocks number ≡ Some block.now }
         requires there { index < length block.now.lines }
         requires before { func.old.function
-            ≡ spec.opened self.now.raw.now (renaming self.now.words.now) self.now.types.now number
+            ≡ spec.opened self.now.raw.now (renaming self.now.words.now) number
             (length block.now.params) index }
         ensures { OnOk result
             (func.new.function
-            ≡ spec.opened self.now.raw.now (renaming self.now.words.now) self.now.types.now number
+            ≡ spec.opened self.now.raw.now (renaming self.now.words.now) number
             (length block.now.params) (index + 1)) }
     {
         match &block.lines.as_slice()[index] {
@@ -142,7 +141,7 @@ impl<'a> Filling<'a> {
                 inst,
                 ..
             } => {
-                let ty = inst_type(self.words, self.types, inst);
+                let ty = find_inst_type(self.words, func, inst);
                 let tags = tags.as_slice();
                 let added = line(alloc, self.words, ty, tags, results.as_slice(), inst)?;
                 func.add_inst(number, added)?;

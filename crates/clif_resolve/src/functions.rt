@@ -7,7 +7,7 @@ ghost use Rattle.name_tables.specs.Definitions.{value_defs};
 ghost use Rattle.clif_names.specs.FunctionNames.{AreNamesOf, NoFunctionFault};
 ghost use Rattle.clif_lines.specs.WordRenaming.{renaming};
 ghost use Rattle.clif_resolve.specs.Declaring as declaring;
-ghost use Rattle.clif_resolve.specs.Filling.{empty_block, IsReady, meant};
+ghost use Rattle.clif_resolve.specs.Filling.{empty_block, IsReady, meant, valued};
 ghost use Rattle.clif_meaning.specs.Meaning.{FunctionMeans, numbers};
 
 use crate::declarations::{Sigs, callees, slots};
@@ -16,7 +16,7 @@ use crate::types::value_types;
 use clif_lines::{WordNumbers, func_name, signature};
 use clif_names::FunctionNames;
 use clif_read::{RawBlock, RawFunction, RawLine};
-use ir_core::{Func, List, Room, Sig, Ty};
+use ir_core::{Func, List, Room, Sig};
 use std::alloc::{AllocError, Global};
 
 /// The function that is meant, `None` exactly where it has a fault of names or numbers. Takes time linear in its text.
@@ -32,100 +32,88 @@ pub fn meant_function(alloc: Global, raw: &RawFunction) -> Result<Option<Func>, 
     if !names.least(raw).is_none() {
         return Ok(None);
     }
-    Ok(Some(function_by_names(alloc, raw, &names)?))
+    let name = func_name(&raw.name)?;
+    let sig = signature(alloc, &raw.signature)?;
+    let mut func = Func::new(alloc, name, sig)?;
+    build_by_names(alloc, raw, &names, &mut func)?;
+    Ok(Some(func))
 }
 
-/// The function that is meant, by the names of its text.
-fn function_by_names(
+/// Makes a function with its name and signature alone the one that is meant, by the names of its text.
+fn build_by_names(
     alloc: Global,
     raw: &RawFunction,
     names: &FunctionNames,
-) -> Result<Func, AllocError>
+    func: &mut Func,
+) -> Result<(), AllocError>
     requires free { NoFunctionFault raw.now }
     requires begins { raw.now.blocks ≢ [] }
     requires names { AreNamesOf raw.now names.now }
-    ensures meant { IfOk result (λ func. FunctionMeans raw.now func.function) }
-    ensures whole { IfOk result (λ func. IsWhole func.function) }
+    requires undeclared { func.old.function ≡ declaring.undeclared raw.now }
+    ensures meant { OnOk result (FunctionMeans raw.now func.new.function) }
+    ensures whole { OnOk result (IsWhole func.new.function) }
 {
     let Sigs { list, numbers } = Sigs::of(alloc, raw.decls.as_slice())?;
     let words = WordNumbers {
         names,
         sigs: numbers,
     };
-    function_by_words(alloc, raw, &words, List::from_vec(list))
+    build_by_words(alloc, raw, &words, List::from_vec(list), func)
 }
 
-/// The function that is meant, by the numbers of its words and the list of its signatures.
-fn function_by_words(
+/// The same by the numbers of its words and the list of its signatures.
+fn build_by_words(
     alloc: Global,
     raw: &RawFunction,
     words: &WordNumbers<'_>,
     sigs: List<Sig>,
-) -> Result<Func, AllocError>
+    func: &mut Func,
+) -> Result<(), AllocError>
     requires free { NoFunctionFault raw.now }
     requires begins { raw.now.blocks ≢ [] }
     requires words { renaming words.now ≡ numbers raw.now (renaming words.now).value }
     requires numbering { IsNumbering (value_defs raw.now) (renaming words.now).value }
     requires sigs { sigs ≡ declaring.sigs_of raw.now }
-    ensures meant { IfOk result (λ func. FunctionMeans raw.now func.function) }
-    ensures whole { IfOk result (λ func. IsWhole func.function) }
+    requires undeclared { func.old.function ≡ declaring.undeclared raw.now }
+    ensures meant { OnOk result (FunctionMeans raw.now func.new.function) }
+    ensures whole { OnOk result (IsWhole func.new.function) }
 {
-    let mut func = declared(alloc, raw, words, sigs)?;
-    let types = value_types(alloc, &func, words, raw.blocks.as_slice())?;
-    let filling = Filling {
-        raw,
-        words,
-        types: types.as_slice(),
-    };
-    complete(alloc, &mut func, &filling)?;
-    Ok(func)
+    declare(alloc, raw, words, sigs, func)?;
+    let types = value_types(alloc, func, words, raw.blocks.as_slice())?;
+    func.take_values(List::from_vec(types));
+    complete(alloc, func, &Filling { raw, words })?;
+    Ok(())
 }
 
-/// The function with its declarations, without values and blocks.
-fn declared(
+/// Gives a function with its name and signature alone its declarations.
+fn declare(
     alloc: Global,
     raw: &RawFunction,
     words: &WordNumbers<'_>,
     sigs: List<Sig>,
-) -> Result<Func, AllocError>
+    func: &mut Func,
+) -> Result<(), AllocError>
     requires free { NoFunctionFault raw.now }
     requires words { renaming words.now ≡ numbers raw.now (renaming words.now).value }
     requires sigs { sigs ≡ declaring.sigs_of raw.now }
-    ensures { IfOk result (λ func. func.function ≡ declaring.declared raw.now (renaming words.now).value) }
+    requires undeclared { func.old.function ≡ declaring.undeclared raw.now }
+    ensures { OnOk result (func.new.function ≡ declaring.declared raw.now (renaming words.now).value) }
 {
     let decls = raw.decls.as_slice();
     let slots = slots(alloc, decls)?;
     let callees = callees(alloc, words, decls)?;
-    let name = func_name(&raw.name)?;
-    let sig = signature(alloc, &raw.signature)?;
-    let mut func = Func::new(alloc, name, sig)?;
     func.take_declarations(slots, sigs, callees);
-    Ok(func)
+    Ok(())
 }
 
-/// Gives a function that has its declarations its values and its blocks.
+/// Gives a function that has its declarations and its values its blocks.
 fn complete(alloc: Global, func: &mut Func, filling: &Filling<'_>) -> Result<(), AllocError>
-    requires ready { IsReady filling.now.raw.now (renaming filling.now.words.now) filling.now.types.now }
-    requires declared { func.old.function
-        ≡ declaring.declared filling.now.raw.now (renaming filling.now.words.now).value }
-    ensures { OnOk result
-        (func.new.function ≡ meant filling.now.raw.now (renaming filling.now.words.now) filling.now.types.now) }
+    requires ready { IsReady filling.now.raw.now (renaming filling.now.words.now) }
+    requires values { func.old.function ≡ valued filling.now.raw.now (renaming filling.now.words.now) }
+    ensures { OnOk result (func.new.function ≡ meant filling.now.raw.now (renaming filling.now.words.now)) }
 {
-    declare_values(alloc, func, filling.types)?;
     add_blocks(func, filling.raw.blocks.as_slice())?;
     filling.fill(alloc, func)
-}
-
-/// Declares values of these types.
-fn declare_values(alloc: Global, func: &mut Func, types: &[Ty]) -> Result<(), AllocError>
-    requires none { func.old.function.types ≡ [] }
-    requires few { length types.now < 2 ^ 32 - 1 }
-    ensures { OnOk result
-        (func.new.function ≡ record func.old.function { types = enumerate_from 0 types.now }) }
-{
-    let list = Vec::from_slice(alloc, types)?;
-    func.take_values(List::from_vec(list));
-    Ok(())
 }
 
 /// How many instructions stand in these blocks.

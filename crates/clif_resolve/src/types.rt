@@ -1,9 +1,10 @@
 //! The types of a function's values, in order of definition.
 ghost use Rattle.std.specs.Prelude.{◌≡◌, ◌++◌, fold, flat_map, map, slice_get, IfOk, OnOk};
+ghost use Rattle.ir_core.specs.Lookup.{type_in};
 ghost use Rattle.name_tables.specs.Definitions.{block_steps, Line, Param};
 ghost use Rattle.clif_lines.specs.WordRenaming.{renaming};
 ghost use Rattle.clif_resolve.specs.FormTypes as spec;
-ghost use Rattle.clif_meaning.specs.Instructions.{known};
+ghost use Rattle.clif_meaning.specs.Instructions.{known, type_for};
 ghost use Rattle.clif_meaning.specs.Meaning.{types_for};
 
 use crate::forms::{FormTypes, form_results};
@@ -26,13 +27,37 @@ fn type_at(types: &[Ty], value: Value) -> Ty
 }
 
 /// The type of an instruction: its suffix, or else the type of the operand that gives it, by the types of values.
-pub(crate) fn inst_type(words: &WordNumbers<'_>, types: &[Ty], inst: &RawInst) -> Ty
+fn inst_type(words: &WordNumbers<'_>, types: &[Ty], inst: &RawInst) -> Ty
     ensures { result ≡ spec.type_after (renaming words.now) types.now inst.now }
 {
     match inst.suffix {
         Some(ty) => ty,
         None => match gives_type(&inst.operands) {
             Some(name) => type_at(types, words.value(name)),
+            None => Ty::I64,
+        },
+    }
+}
+
+/// The type of a function's value, and `i8` where it has none.
+fn find_type(func: &Func, value: Value) -> Ty
+    ensures { result ≡ known (type_in func.now.function.types value) }
+{
+    if (value.number() as usize) < func.values() {
+        func.ty(value)
+    } else {
+        Ty::I8
+    }
+}
+
+/// The type of an instruction in a function that has its values.
+pub(crate) fn find_inst_type(words: &WordNumbers<'_>, func: &Func, inst: &RawInst) -> Ty
+    ensures { result ≡ known (type_for (type_in func.now.function.types) (renaming words.now) inst.now) }
+{
+    match inst.suffix {
+        Some(ty) => ty,
+        None => match gives_type(&inst.operands) {
+            Some(name) => find_type(func, words.value(name)),
             None => Ty::I64,
         },
     }

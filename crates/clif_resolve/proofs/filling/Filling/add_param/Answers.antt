@@ -16,35 +16,32 @@ none = record { value = record { number = 0; spot = 0 }; ty = I8 }
 pub add_param-requires-clause-there : goal.add_param-requires-clause-there
 add_param-requires-clause-there c =
     subst (λ (f : Function). In c.args.number (block_numbers f.blocks)) (sym c.requires.before)
-    (stands c.args.self.now.raw.now (renaming c.args.self.now.words.now) c.args.self.now.types.now c.args.number c.args.block.now c.requires.at c.args.index 0)
+    (stands c.args.self.now.raw.now (renaming c.args.self.now.words.now) c.args.number c.args.block.now c.requires.at c.args.index 0)
 
 pub add_param-requires-clause-declared : goal.add_param-requires-clause-declared
 add_param-requires-clause-declared c =
     let raw = c.args.self.now.raw.now in
     let at = renaming c.args.self.now.words.now in
-    let types = c.args.self.now.types.now in
     let here = read_copy c.as_slice.result.now c.args.block.now.params c.args.index none c.as_slice.ensures c.requires.there in
     subst (λ (f : Function). c.value.result < length f.types) (sym c.requires.before)
-    (subst (λ (v : ℕ). v < length (meant raw at types).types) (sym c.value.ensures)
-    (param_declared raw at types c.args.number c.args.block.now c.requires.at c.requires.ready c.args.index (get_or c.as_slice.result.now c.args.index none) here))
+    (subst (λ (v : ℕ). v < length (meant raw at).types) (sym c.value.ensures)
+    (param_declared raw at c.args.number c.args.block.now c.requires.at c.requires.ready c.args.index (get_or c.as_slice.result.now c.args.index none) here))
 
 pub add_param-requires-clause-undefined : goal.add_param-requires-clause-undefined
 add_param-requires-clause-undefined c = λ i. (
     let raw = c.args.self.now.raw.now in
     let at = renaming c.args.self.now.words.now in
-    let types = c.args.self.now.types.now in
     let here = read_copy c.as_slice.result.now c.args.block.now.params c.args.index none c.as_slice.ensures c.requires.there in
-    param_fresh raw at types c.args.number c.args.block.now c.requires.at c.requires.ready c.args.index (get_or c.as_slice.result.now c.args.index none) here
-    (subst (λ (v : ℕ). In v (definitions (opened raw at types c.args.number c.args.index 0).blocks)) c.value.ensures
+    param_fresh raw at c.args.number c.args.block.now c.requires.at c.requires.ready c.args.index (get_or c.as_slice.result.now c.args.index none) here
+    (subst (λ (v : ℕ). In v (definitions (opened raw at c.args.number c.args.index 0).blocks)) c.value.ensures
     (subst (λ (f : Function). In c.value.result (definitions f.blocks)) c.requires.before i)))
 
 pub returns : goal.returns
 returns c =
     let raw = c.args.self.now.raw.now in
     let at = renaming c.args.self.now.words.now in
-    let types = c.args.self.now.types.now in
     let here = read_copy c.as_slice.result.now c.args.block.now.params c.args.index none c.as_slice.ensures c.requires.there in
     c.in_ok-add_param.ensures.ok
     ∙ ap (λ (f : Function). record f { blocks = at_block c.args.number (put_param c.value.result) f.blocks }) c.requires.before
-    ∙ ap (λ (v : ℕ). record (meant raw at types) { blocks = at_block c.args.number (put_param v) (opened raw at types c.args.number c.args.index 0).blocks }) c.value.ensures
-    ∙ param_step raw at types c.args.number c.args.block.now c.requires.at c.requires.ready c.args.index (get_or c.as_slice.result.now c.args.index none) here
+    ∙ ap (λ (v : ℕ). record (meant raw at) { blocks = at_block c.args.number (put_param v) (opened raw at c.args.number c.args.index 0).blocks }) c.value.ensures
+    ∙ param_step raw at c.args.number c.args.block.now c.requires.at c.requires.ready c.args.index (get_or c.as_slice.result.now c.args.index none) here

@@ -8,6 +8,5 @@ pub returns : goal.returns
 returns c =
     let raw = c.args.self.now.raw.now in
     let at = renaming c.args.self.now.words.now in
-    let types = c.args.self.now.types.now in
     let e : c.loop-place.place ≡ length c.args.self.now.raw.now.blocks = omega (arith, ap length c.as_slice-place-end.ensures) in
-    c.loop-place.invariant ∙ ap (filled raw at types) e ∙ filled_all raw at types
+    c.loop-place.invariant ∙ ap (filled raw at) e ∙ filled_all raw at

@@ -9,10 +9,9 @@ pub add_params-requires-clause-before : goal.add_params-requires-clause-before
 add_params-requires-clause-before c =
     let raw = c.args.self.now.raw.now in
     let at = renaming c.args.self.now.words.now in
-    let types = c.args.self.now.types.now in
     let here = read_item c.as_slice.result.now c.args.self.now.raw.now.blocks c.args.place c.index-as_slice-place.result c.as_slice.ensures c.requires.there c.index-as_slice-place.is in
     let e : c.new-number.result ≡ c.args.place = omega arith in
-    c.requires.before ∙ sym (opened_begins raw at types c.args.place c.index-as_slice-place.result here) ∙ ap (λ (n : ℕ). opened raw at types n 0 0) (sym e)
+    c.requires.before ∙ sym (opened_begins raw at c.args.place c.index-as_slice-place.result here) ∙ ap (λ (n : ℕ). opened raw at n 0 0) (sym e)
 
 pub add_lines-requires-clause-at : goal.add_lines-requires-clause-at
 add_lines-requires-clause-at c =
@@ -24,9 +23,8 @@ pub returns : goal.returns
 returns c =
     let raw = c.args.self.now.raw.now in
     let at = renaming c.args.self.now.words.now in
-    let types = c.args.self.now.types.now in
     let here = read_item c.as_slice.result.now c.args.self.now.raw.now.blocks c.args.place c.index-as_slice-place.result c.as_slice.ensures c.requires.there c.index-as_slice-place.is in
     let e : c.new-number.result ≡ c.args.place = omega arith in
     c.in_ok-add_lines.ensures
-    ∙ ap (λ (n : ℕ). opened raw at types n (length c.index-as_slice-place.result.params) (length c.index-as_slice-place.result.lines)) e
-    ∙ opened_ends raw at types c.args.place c.index-as_slice-place.result here
+    ∙ ap (λ (n : ℕ). opened raw at n (length c.index-as_slice-place.result.params) (length c.index-as_slice-place.result.lines)) e
+    ∙ opened_ends raw at c.args.place c.index-as_slice-place.result here

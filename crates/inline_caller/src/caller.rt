@@ -20,6 +20,8 @@ pub struct Caller {
     func: Func,
     block_count: u32,
     index: Index,
+    /// Whether the index is the function's: not so once memory was out in the middle of a splice.
+    indexed: bool,
 }
 
 impl Model for Caller {
@@ -45,6 +47,7 @@ impl Caller {
             func: func.copy()?,
             block_count,
             index,
+            indexed: true,
         })
     }
 
@@ -69,53 +72,60 @@ impl Caller {
         self.block_count
     }
 
-    /// What the caller takes over from a callee. Time is the length of the callee's declarations, times the logarithm
-    /// of the number of the caller's.
+    /// What the caller takes over from a callee. Only `AllocError` refuses. Time is the length of the callee's
+    /// declarations, times the logarithm of the number of the caller's.
     pub fn plan(&self, alloc: Global, callee: &Func) -> Result<Import, AllocError>
         requires few_sigs { length self.now.sigs + length callee.now.function.sigs < 2 ^ 32 - 1 }
         requires few_callees { length self.now.callees + length callee.now.function.callees < 2 ^ 32 - 1 }
         ensures { IfOk result (λ i. IsImportOf self.now callee.now.function i) }
     {
+        if !self.indexed {
+            return Err(AllocError);
+        }
         plan_import(alloc, &self.index, &self.func, callee)
     }
 
-    /// Replaces the call at the place by the callee's body, and counts a step. After `AllocError` the caller is gone,
-    /// and no step was counted. Time is the size of what is put in, times the logarithm of the number of the caller's
-    /// declarations.
+    /// Replaces the call at the place by the callee's body, and counts a step. After `AllocError` the function is as
+    /// before, no step was counted, and `plan` and `splice` answer `AllocError` from then on. Time is the size of what
+    /// is put in, times the logarithm of the number of the caller's declarations.
     pub fn splice<L: Ledger>(
-        self,
+        &mut self,
         alloc: Global,
         site: Point,
         callee: &Func,
         import: Import,
         steps: &mut Steps<L>,
-    ) -> Result<Caller, AllocError>
-        requires imported { IsImportOf self callee.now.function import }
-        requires can { CanReplace self callee.now.function site }
-        ensures ok { IfOk result (λ c. IsSplice self callee.now.function site c) }
+    ) -> Result<(), AllocError>
+        requires imported { IsImportOf self.old callee.now.function import }
+        requires can { CanReplace self.old callee.now.function site }
+        ensures ok { OnOk result (IsSplice self.old callee.now.function site self.new) }
+        ensures err { OnErr result (self.new ≡ self.old) }
         ensures counted { OnOk result (steps.new ≡ steps.old + 1) }
         ensures uncounted { OnErr result (steps.new ≡ steps.old) }
     {
-        let Caller {
-            mut func,
-            block_count,
-            mut index,
-        } = self;
-        let _ = func.values();
+        if !self.indexed {
+            return Err(AllocError);
+        }
+        let _ = self.func.values();
+        self.indexed = false;
         extend_index(
             alloc,
-            &mut index,
-            func.sigs().len() as u32,
-            func.callees().len() as u32,
+            &mut self.index,
+            self.func.sigs().len() as u32,
+            self.func.callees().len() as u32,
             import.sigs.added.as_slice(),
             import.callees.added.as_slice(),
         )?;
-        let block_count = put_callee(alloc, &mut func, block_count, import, site, callee)?;
+        self.block_count = put_callee(
+            alloc,
+            &mut self.func,
+            self.block_count,
+            import,
+            site,
+            callee,
+        )?;
+        self.indexed = true;
         steps.tick();
-        Ok(Caller {
-            func,
-            block_count,
-            index,
-        })
+        Ok(())
     }
 }

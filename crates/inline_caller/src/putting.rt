@@ -1,5 +1,5 @@
 //! A callee's body put in the place of a call, with the number of blocks kept.
-ghost use Rattle.std.specs.Prelude.{◌≡◌, length, IfOk, OnOk};
+ghost use Rattle.std.specs.Prelude.{◌≡◌, length, IfOk, OnOk, OnErr};
 ghost use Rattle.ir_core.specs.Module.{Function};
 ghost use Rattle.body_import.specs.declared.declarations.Import.{Import};
 ghost use Rattle.body_import.specs.Imports.{IsImportOf};
@@ -26,6 +26,7 @@ fn put_within(
     requires ready { IsReady func.old.function site body }
     ensures spliced { OnOk result ((g : Function) (i : Import) → IsPrepared func.old.function g site i body
         → IsSplice func.old.function g site func.new.function) }
+    ensures same { OnErr result (func.new.function ≡ func.old.function) }
     ensures counted { IfOk result (λ count. (g : Function) (i : Import) → IsPrepared func.old.function g site i body
         → count ≡ length func.new.function.blocks) }
 {
@@ -48,6 +49,7 @@ fn put_last(
     requires ready { IsLastReady func.old.function site body }
     ensures spliced { OnOk result ((g : Function) (i : Import) → IsLastPrepared func.old.function g site i body
         → IsSplice func.old.function g site func.new.function) }
+    ensures same { OnErr result (func.new.function ≡ func.old.function) }
     ensures counted { IfOk result (λ count. (g : Function) (i : Import) → IsLastPrepared func.old.function g site i body
         → count ≡ length func.new.function.blocks) }
 {
@@ -71,6 +73,7 @@ pub(crate) fn put_callee(
     requires imported { IsImportOf func.old.function callee.now.function import }
     requires can { CanReplace func.old.function callee.now.function site }
     ensures spliced { OnOk result (IsSplice func.old.function callee.now.function site func.new.function) }
+    ensures same { OnErr result (func.new.function ≡ func.old.function) }
     ensures counted { IfOk result (λ count. count ≡ length func.new.function.blocks) }
 {
     let block = site.block;

@@ -48,7 +48,7 @@ pub fn finish_body<B: Bodies, L: Ledger>(
         return Err(AllocError);
     }
     let targets = targets(alloc, functions, order.piece.as_slice(), func, own)?;
-    let progress = Progress {
+    let mut progress = Progress {
         caller: Caller::new(alloc, own)?,
         size,
         at: Point {
@@ -57,13 +57,13 @@ pub fn finish_body<B: Bodies, L: Ledger>(
         },
         inlined: 0,
     };
-    let progress = finish_blocks(
+    finish_blocks(
         alloc,
         own,
         targets.as_slice(),
         bodies,
         policy,
-        progress,
+        &mut progress,
         steps,
     )?;
     steps.tick();

@@ -1,5 +1,5 @@
 //! The loop over a function's own lines.
-ghost use Rattle.std.specs.Prelude.{◌≡◌, ◌+◌, ◌≤◌, ◌∷◌, [], length, map, IfOk};
+ghost use Rattle.std.specs.Prelude.{◌≡◌, ◌+◌, ◌≤◌, ◌∷◌, [], length, map, OnOk};
 ghost use Rattle.ir_core.specs.Edits.{IsPoint};
 ghost use Rattle.ir_core.specs.Lookup.{block_numbers};
 ghost use Rattle.ir_core.specs.Lists.{In};
@@ -33,26 +33,12 @@ pub(crate) struct Progress {
 }
 
 /// Behind a line at which nothing is inlined.
-fn pass_line(progress: Progress) -> Progress
-    requires { IsPoint progress.caller progress.at }
-    ensures { result ≡ passed_line progress }
+fn pass_line(progress: &mut Progress)
+    requires { IsPoint progress.old.caller progress.old.at }
+    ensures { progress.new ≡ passed_line progress.old }
 {
-    let Progress {
-        caller,
-        size,
-        at,
-        inlined,
-    } = progress;
-    let _count = caller.func().values();
-    Progress {
-        caller,
-        size,
-        at: Point {
-            block: at.block,
-            index: at.index + 1,
-        },
-        inlined,
-    }
+    let _count = progress.caller.func().values();
+    progress.at.index += 1;
 }
 
 /// The number of the block behind a body that comes in.
@@ -75,24 +61,27 @@ fn finish_line<B: Bodies, L: Ledger>(
     block: Block,
     line: &InstData,
     after: &[InstData],
-    progress: Progress,
+    progress: &mut Progress,
     steps: &mut Steps<L>,
-) -> Result<Progress, AllocError>
+) -> Result<(), AllocError>
     requires ready { IsReady (policy_of policy) (B.functions bodies.now) own.now.function }
     requires policy { B.policy bodies.now ≡ policy_of policy }
     requires targets { targets.now ≡ targets_in (B.functions bodies.now) own.now.function }
     requires has { HasCallees (B.functions bodies.now) own.now.function (B.has bodies.now) }
     requires own { IsOwnLine own.now.function block (line_of line.now) }
     requires midway { IsMidway (finishing (policy_of policy) (B.functions bodies.now) own.now.function)
-        (left_in own.now.function block (map line_of (line.now ∷ after.now))) progress }
-    ensures behind { IfOk result (IsBehind (finishing (policy_of policy) (B.functions bodies.now) own.now.function)
-        (left_in own.now.function block (map line_of after.now))) }
-    ensures counted { IfOk result (λ p. steps.new + progress.inlined ≡ steps.old + p.inlined) }
+        (left_in own.now.function block (map line_of (line.now ∷ after.now))) progress.old }
+    ensures behind { OnOk result (IsBehind (finishing (policy_of policy) (B.functions bodies.now) own.now.function)
+        (left_in own.now.function block (map line_of after.now)) progress.new) }
+    ensures counted { OnOk result (steps.new + progress.old.inlined ≡ steps.old + progress.new.inlined) }
     ensures rises { steps.old ≤ steps.new }
 {
     let callee = match callee_number(targets, line) {
         Some(callee) => callee,
-        None => return Ok(pass_line(progress)),
+        None => {
+            pass_line(progress);
+            return Ok(());
+        }
     };
     let body = bodies.body(callee);
     let counts = bodies.counts(callee);
@@ -109,30 +98,27 @@ fn finish_line<B: Bodies, L: Ledger>(
     )?;
     let taken = match decided {
         Some(taken) => taken,
-        None => return Ok(pass_line(progress)),
+        None => {
+            pass_line(progress);
+            return Ok(());
+        }
     };
-    let Progress {
-        caller,
-        size: _,
-        at,
-        inlined,
-    } = progress;
     let behind = Point {
-        block: block_behind(&caller),
+        block: block_behind(&progress.caller),
         index: 0,
     };
     splice_bounds::laws::plain_call_has_numbers();
     splice_bounds::laws::tail_call_has_numbers();
     splice_bounds::laws::try_call_has_numbers();
-    let caller = caller.splice(alloc, at, body, taken.import, steps)?;
+    progress
+        .caller
+        .splice(alloc, progress.at, body, taken.import, steps)?;
     let _size = own.values();
-    let _count = caller.func().values();
-    Ok(Progress {
-        caller,
-        size: taken.size,
-        at: behind,
-        inlined: inlined + 1,
-    })
+    let _count = progress.caller.func().values();
+    progress.size = taken.size;
+    progress.at = behind;
+    progress.inlined += 1;
+    Ok(())
 }
 
 /// Looks at the lines of one of the function's own blocks.
@@ -143,41 +129,30 @@ fn finish_block<B: Bodies, L: Ledger>(
     bodies: &B,
     policy: Policy,
     block: Block,
-    progress: Progress,
+    progress: &mut Progress,
     steps: &mut Steps<L>,
-) -> Result<Progress, AllocError>
+) -> Result<(), AllocError>
     requires ready { IsReady (policy_of policy) (B.functions bodies.now) own.now.function }
     requires policy { B.policy bodies.now ≡ policy_of policy }
     requires targets { targets.now ≡ targets_in (B.functions bodies.now) own.now.function }
     requires has { HasCallees (B.functions bodies.now) own.now.function (B.has bodies.now) }
     requires there { In block (block_numbers own.now.function.blocks) }
     requires between { IsBetween (finishing (policy_of policy) (B.functions bodies.now) own.now.function)
-        (from_block block own.now.function.blocks) progress }
-    ensures between { IfOk result (IsBetween (finishing (policy_of policy) (B.functions bodies.now) own.now.function)
-        (behind_block block own.now.function.blocks)) }
-    ensures counted { IfOk result (λ p. steps.new + progress.inlined ≡ steps.old + p.inlined) }
+        (from_block block own.now.function.blocks) progress.old }
+    ensures between { OnOk result (IsBetween (finishing (policy_of policy) (B.functions bodies.now) own.now.function)
+        (behind_block block own.now.function.blocks) progress.new) }
+    ensures counted { OnOk result (steps.new + progress.old.inlined ≡ steps.old + progress.new.inlined) }
     ensures rises { steps.old ≤ steps.new }
 {
-    let Progress {
-        caller,
-        size,
-        at: _,
-        inlined,
-    } = progress;
-    let mut progress = Progress {
-        caller,
-        size,
-        at: Point { block, index: 0 },
-        inlined,
-    };
+    progress.at = Point { block, index: 0 };
     let mut rest = own.inst_slice(block);
     'lines: while let Some((line, after)) = rest.split_first() {
-        progress = finish_line(
+        finish_line(
             alloc, own, targets, bodies, policy, block, line, after, progress, steps,
         )?;
         rest = after;
     }
-    Ok(progress)
+    Ok(())
 }
 
 /// Looks at all of the function's own lines.
@@ -187,23 +162,22 @@ pub(crate) fn finish_blocks<B: Bodies, L: Ledger>(
     targets: &[Option<usize>],
     bodies: &B,
     policy: Policy,
-    progress: Progress,
+    progress: &mut Progress,
     steps: &mut Steps<L>,
-) -> Result<Progress, AllocError>
+) -> Result<(), AllocError>
     requires ready { IsReady (policy_of policy) (B.functions bodies.now) own.now.function }
     requires policy { B.policy bodies.now ≡ policy_of policy }
     requires targets { targets.now ≡ targets_in (B.functions bodies.now) own.now.function }
     requires has { HasCallees (B.functions bodies.now) own.now.function (B.has bodies.now) }
     requires between { IsBetween (finishing (policy_of policy) (B.functions bodies.now) own.now.function)
-        own.now.function.blocks progress }
-    ensures between { IfOk result
-        (IsBetween (finishing (policy_of policy) (B.functions bodies.now) own.now.function) []) }
-    ensures counted { IfOk result (λ p. steps.new + progress.inlined ≡ steps.old + p.inlined) }
+        own.now.function.blocks progress.old }
+    ensures between { OnOk result
+        (IsBetween (finishing (policy_of policy) (B.functions bodies.now) own.now.function) [] progress.new) }
+    ensures counted { OnOk result (steps.new + progress.old.inlined ≡ steps.old + progress.new.inlined) }
     ensures rises { steps.old ≤ steps.new }
 {
-    let mut progress = progress;
     for block in own.blocks() {
-        progress = finish_block(alloc, own, targets, bodies, policy, block, progress, steps)?;
+        finish_block(alloc, own, targets, bodies, policy, block, progress, steps)?;
     }
-    Ok(progress)
+    Ok(())
 }

@@ -71,8 +71,8 @@ returns-clause-built g c =
     let whole =
     ready c.args.policy m n c.args.func f c.requires.limited (c.module-functions.ensures.same ∙ sym c.requires.functions)
     c.module-functions.ensures.functions c.module-functions.ensures.accepted c.func-own.ensures.at in
-    let progress : Progress = c.in_ok-progress.progress in
-    let ends = ends_finished p m f whole progress.caller progress.inlined c.in_ok-progress.ensures.between.between in
+    let progress : Progress = c.finish_blocks.new.progress in
+    let ends = ends_finished p m f whole progress.caller progress.inlined c.in_ok-finish_blocks.ensures.between.between in
     let same : SameFunction (finished p m f) c.into_func-func.result.function = subst (SameFunction (finished p m f)) (sym c.into_func-func.ensures) ends.0 in
     let built : Built = record { func = c.into_func-func.result; inlined = progress.inlined; counts = c.count_within-counts.result } in
     let counts = same_counts p c.into_func-func.result.function (finished p m f) (same.1, same.0, sym same.2) c.count_within-counts.result c.count_within-counts.ensures in

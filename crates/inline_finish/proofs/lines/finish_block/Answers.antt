@@ -15,7 +15,7 @@ lines-init g c =
     let lines : List Line = map line_of c.inst_slice-rest.result.now in
     record {
       own = all_own f c.args.block lines c.inst_slice-rest.ensures;
-      behind = enters task f c.args.block lines c.args.progress c.requires.there c.inst_slice-rest.ensures c.requires.between;
+      behind = enters task f c.args.block lines c.args.progress.now c.requires.there c.inst_slice-rest.ensures c.requires.between;
       counted = refl;
       rises = omega arith;
     }

@@ -18,13 +18,13 @@ pub loop-block-preserved : goal.loop-block-preserved
 loop-block-preserved g c =
     let n = next c.args.own.now.function.blocks c.loop-block.invariant.rest c.loop-block.block-iterator c.in-Some.block c.next.new.self c.blocks-block-items.ensures.sound.blocks_differ c.loop-block.invariant.remaining c.in-Some.ensures.steps in
     let before = c.loop-block.invariant.counted in
-    let step = c.in_ok-progress.ensures.counted in
+    let step = c.in_ok-finish_block.ensures.counted in
     let low = c.loop-block.invariant.rises in
     let high = c.finish_block.ensures.rises in
     record {
       rest = behind_block c.in-Some.block c.args.own.now.function.blocks;
       remaining = n.remaining;
-      between = c.in_ok-progress.ensures.between;
+      between = c.in_ok-finish_block.ensures.between;
       counted = omega (arith, before, step);
       rises = omega (arith, low, high);
     }

@@ -28,7 +28,7 @@ pass_line-requires g c =
     let f : Function = c.args.own.now.function in
     let l : Line = line_of c.args.line.now in
     let left : Left = left_in f c.args.block (map line_of c.args.after.now) in
-    point_there (finishing p m f) l left.lines left.rest c.args.progress.caller c.args.progress.at c.args.progress.inlined c.requires.midway.midway
+    point_there (finishing p m f) l left.lines left.rest c.args.progress.now.caller c.args.progress.now.at c.args.progress.now.inlined c.requires.midway.midway
 
 pub returns-in-None-clause-behind : goal.returns-in-None-clause-behind
 returns-in-None-clause-behind g c =
@@ -37,13 +37,13 @@ returns-in-None-clause-behind g c =
     let f : Function = c.args.own.now.function in
     let l : Line = line_of c.args.line.now in
     let left : Left = left_in f c.args.block (map line_of c.args.after.now) in
-    let code : Function = c.args.progress.caller in
-    let at = c.args.progress.at in
-    let n = c.args.progress.inlined in
+    let code : Function = c.args.progress.now.caller in
+    let at = c.args.progress.now.at in
+    let n = c.args.progress.now.inlined in
     let mid = c.requires.midway.midway in
     let none = named m f l c.args.targets.now None c.requires.targets c.in-None.ensures in
     subst (IsBehind (finishing p m f) left) (sym c.pass_line.ensures)
-    (still (finishing p m f) l left.lines left.rest c.args.progress c.requires.midway (refused_none p m f c.requires.ready c.args.block l c.requires.own left code at n mid none))
+    (still (finishing p m f) l left.lines left.rest c.args.progress.now c.requires.midway (refused_none p m f c.requires.ready c.args.block l c.requires.own left code at n mid none))
 
 pub body-body-requires : goal.body-body-requires
 body-body-requires g c =
@@ -70,9 +70,9 @@ decide-requires-clause-site g c =
     let f : Function = c.args.own.now.function in
     let l : Line = line_of c.args.line.now in
     let left : Left = left_in f c.args.block (map line_of c.args.after.now) in
-    let code : Function = c.args.progress.caller in
-    let at = c.args.progress.at in
-    let n = c.args.progress.inlined in
+    let code : Function = c.args.progress.now.caller in
+    let at = c.args.progress.now.at in
+    let n = c.args.progress.now.inlined in
     let mid = c.requires.midway.midway in
     let h : Function = c.body-body.result.now.function in
     let is = named m f l c.args.targets.now (Some c.in-Some.callee) c.requires.targets c.in-Some.ensures in
@@ -96,7 +96,7 @@ pass_line-requires-in-None-decided g c =
     let f : Function = c.args.own.now.function in
     let l : Line = line_of c.args.line.now in
     let left : Left = left_in f c.args.block (map line_of c.args.after.now) in
-    point_there (finishing p m f) l left.lines left.rest c.args.progress.caller c.args.progress.at c.args.progress.inlined c.requires.midway.midway
+    point_there (finishing p m f) l left.lines left.rest c.args.progress.now.caller c.args.progress.now.at c.args.progress.now.inlined c.requires.midway.midway
 
 pub returns-in-None-decided-clause-behind : goal.returns-in-None-decided-clause-behind
 returns-in-None-decided-clause-behind g c =
@@ -105,9 +105,9 @@ returns-in-None-decided-clause-behind g c =
     let f : Function = c.args.own.now.function in
     let l : Line = line_of c.args.line.now in
     let left : Left = left_in f c.args.block (map line_of c.args.after.now) in
-    let code : Function = c.args.progress.caller in
-    let at = c.args.progress.at in
-    let n = c.args.progress.inlined in
+    let code : Function = c.args.progress.now.caller in
+    let at = c.args.progress.now.at in
+    let n = c.args.progress.now.inlined in
     let mid = c.requires.midway.midway in
     let h : Function = c.body-body.result.now.function in
     let is = named m f l c.args.targets.now (Some c.in-Some.callee) c.requires.targets c.in-Some.ensures in
@@ -115,7 +115,7 @@ returns-in-None-decided-clause-behind g c =
     let there = body_there p m f c.requires.ready c.args.block l c.requires.own left code at n mid c.in-Some.callee h is body in
     let decided = subst (IsDecided p code h at l) c.in-None-decided.is c.in_ok-decided.ensures in
     subst (IsBehind (finishing p m f) left) (sym c.pass_line-in-None-decided.ensures)
-    (still (finishing p m f) l left.lines left.rest c.args.progress c.requires.midway
+    (still (finishing p m f) l left.lines left.rest c.args.progress.now c.requires.midway
     (λ s. refused_some p m f c.requires.ready c.args.block l c.requires.own left code at n mid mid.whole h there c.splice_size_under.ensures decided))
 
 pub splice-requires-clause-can : goal.splice-requires-clause-can
@@ -125,9 +125,9 @@ splice-requires-clause-can g c =
     let f : Function = c.args.own.now.function in
     let l : Line = line_of c.args.line.now in
     let left : Left = left_in f c.args.block (map line_of c.args.after.now) in
-    let code : Function = c.args.progress.caller in
-    let at = c.args.progress.at in
-    let n = c.args.progress.inlined in
+    let code : Function = c.args.progress.now.caller in
+    let at = c.args.progress.now.at in
+    let n = c.args.progress.now.inlined in
     let mid = c.requires.midway.midway in
     let h : Function = c.body-body.result.now.function in
     let is = named m f l c.args.targets.now (Some c.in-Some.callee) c.requires.targets c.in-Some.ensures in
@@ -137,16 +137,16 @@ splice-requires-clause-can g c =
     can_replace p m f c.requires.ready c.args.block l c.requires.own left code at n mid mid.whole h there c.splice_size_under.ensures c.in-Some-decided.taken decided
     c.plain_call_has_numbers.ensures c.tail_call_has_numbers.ensures c.try_call_has_numbers.ensures
 
-pub overflow_add-result : goal.overflow_add-result
-overflow_add-result g c =
+pub overflow_add-progress : goal.overflow_add-progress
+overflow_add-progress g c =
     let p : Policy = policy_of c.args.policy in
     let m : Module = g.B.Bodies.functions c.args.bodies.now in
     let f : Function = c.args.own.now.function in
     let l : Line = line_of c.args.line.now in
     let left : Left = left_in f c.args.block (map line_of c.args.after.now) in
-    let code : Function = c.args.progress.caller in
-    let at = c.args.progress.at in
-    let n = c.args.progress.inlined in
+    let code : Function = c.args.progress.now.caller in
+    let at = c.args.progress.now.at in
+    let n = c.args.progress.now.inlined in
     let mid = c.requires.midway.midway in
     let h : Function = c.body-body.result.now.function in
     let is = named m f l c.args.targets.now (Some c.in-Some.callee) c.requires.targets c.in-Some.ensures in
@@ -158,9 +158,9 @@ overflow_add-result g c =
     c.plain_call_has_numbers.ensures c.tail_call_has_numbers.ensures c.try_call_has_numbers.ensures in
     let after = subst IsSound c.func.ensures c.values-count.ensures.sound in
     let behind = taken p m f c.requires.ready c.args.block l c.requires.own left code at n mid mid.whole h there c.splice_size_under.ensures c.in-Some-decided.taken decided
-    can c.block_behind.ensures.sound c.in_ok-caller.caller c.in_ok-caller.ensures.ok after in
+    can c.block_behind.ensures.sound c.splice.new.self c.in_ok-splice.ensures.ok after in
     let few : n + 1 < 2 ^ 32 =
-    count_fits (finishing p m f) left c.in_ok-caller.caller (record { block = length code.blocks + 1; index = 0 }) (n + 1) behind c.values-size.ensures.sound in
+    count_fits (finishing p m f) left c.splice.new.self (record { block = length code.blocks + 1; index = 0 }) (n + 1) behind c.values-size.ensures.sound in
     omega (arith, few)
 
 pub returns-clause-behind : goal.returns-clause-behind
@@ -170,9 +170,9 @@ returns-clause-behind g c =
     let f : Function = c.args.own.now.function in
     let l : Line = line_of c.args.line.now in
     let left : Left = left_in f c.args.block (map line_of c.args.after.now) in
-    let code : Function = c.args.progress.caller in
-    let at = c.args.progress.at in
-    let n = c.args.progress.inlined in
+    let code : Function = c.args.progress.now.caller in
+    let at = c.args.progress.now.at in
+    let n = c.args.progress.now.inlined in
     let mid = c.requires.midway.midway in
     let h : Function = c.body-body.result.now.function in
     let is = named m f l c.args.targets.now (Some c.in-Some.callee) c.requires.targets c.in-Some.ensures in
@@ -184,10 +184,10 @@ returns-clause-behind g c =
     c.plain_call_has_numbers.ensures c.tail_call_has_numbers.ensures c.try_call_has_numbers.ensures in
     let after = subst IsSound c.func.ensures c.values-count.ensures.sound in
     let behind = taken p m f c.requires.ready c.args.block l c.requires.own left code at n mid mid.whole h there c.splice_size_under.ensures c.in-Some-decided.taken decided
-    can c.block_behind.ensures.sound c.in_ok-caller.caller c.in_ok-caller.ensures.ok after in
+    can c.block_behind.ensures.sound c.splice.new.self c.in_ok-splice.ensures.ok after in
     let new = new_is p m f c.requires.ready c.args.block l c.requires.own left code at n mid mid.whole h there c.splice_size_under.ensures c.in-Some-decided.taken decided
-    can c.block_behind.ensures.sound c.in_ok-caller.caller c.in_ok-caller.ensures.ok after in
+    can c.block_behind.ensures.sound c.splice.new.self c.in_ok-splice.ensures.ok after in
     record {
-      behind = subst (λ b. Behind (finishing p m f) left c.in_ok-caller.caller (record { block = b; index = 0 }) (n + 1)) (sym c.block_behind.ensures.number) behind;
-      size = decided.2 c.in_ok-caller.ensures.ok.naming ∙ ap size_of (sym new);
+      behind = subst (λ b. Behind (finishing p m f) left c.splice.new.self (record { block = b; index = 0 }) (n + 1)) (sym c.block_behind.ensures.number) behind;
+      size = decided.2 c.in_ok-splice.ensures.ok.naming ∙ ap size_of (sym new);
     }

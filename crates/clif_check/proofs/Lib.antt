@@ -1,3 +1,4 @@
 pub mod Standing
 pub mod Stages
 pub mod MeantLaws
+pub mod HeadLaws

@@ -1,11 +1,11 @@
 -- What the functions of a text mean, one stretch behind another.
-use Rattle.std.proofs.Common.{◌≡◌, ◌≢◌, ℕ, zero, suc, ◌<◌, ◌≤◌, Bool, true, false, List, [], ◌∷◌, ◌++◌, length, map, slice_get, Option, None, Some, Ok, sym, ap, ap₂, subst, ◌∙◌, arith, inl, inr}
+use Rattle.std.proofs.Common.{◌≡◌, ◌≢◌, ℕ, zero, suc, ◌<◌, ◌≤◌, Bool, true, false, List, [], ◌∷◌, ◌++◌, length, map, slice_get, Option, None, Some, Ok, refl, sym, ap, ap₂, subst, ◌∙◌, arith, inl, inr}
 use Rattle.std.specs.Prelude.{if◌then◌else◌, IfSome}
 use Rattle.std.proofs.lemmas.List.{map-append}
 use Rattle.grammar.specs.Rules.{Lexeme}
 use Rattle.ir_core.specs.declared.names.FuncName.{FuncName}
 use Rattle.ir_core.specs.declared.names.FuncName.TheVariants as name
-use Rattle.ir_core.specs.Edits.{Body}
+use Rattle.ir_core.specs.Edits.{Body, head_of}
 use Rattle.ir_core.specs.Lists.{Each}
 use Rattle.ir_core.specs.Lookup.{find_function, same_name}
 use Rattle.ir_core.specs.Module.{Function, Module}
@@ -34,7 +34,10 @@ use Rattle.clif_meaning.specs.Instructions.{natural}
 use Rattle.clif_meaning.specs.Meaning.{name_of, FunctionMeans, FunctionsMean, Means, HasBlocks}
 use Rattle.clif_meaning.specs.Reads.{Reads}
 use Rattle.clif_meaning.proofs.Lists.{each_got}
-use Rattle.clif_check.specs.Stretches.{AreMeant, MeanFunctions}
+use Rattle.clif_check.specs.declared.parts.Part.{Part}
+use Rattle.clif_check.specs.declared.parts.Part.TheVariants as part
+use Rattle.clif_check.specs.Heads.{KeepsOwnRules}
+use Rattle.clif_check.specs.Stretches.{AreMeant, AreHeads, AreKept, KeptOfRange, KeptOfText}
 
 -- ---- each function of the grammar has a block
 
@@ -69,20 +72,38 @@ meant_join rs ss fs gs f g = record {
   whole = each_join (λ (b : Body). IsWhole b.function) fs gs f.whole g.whole;
 }
 
+-- ---- what stays of functions
+
+pub heads_join : (fs gs hs is : List Body) → AreHeads fs hs → AreHeads gs is → AreHeads (fs ++ gs) (hs ++ is)
+heads_join fs gs hs is h i = record {
+  kept = each_join (λ (b : Body). KeepsOwnRules b.function) fs gs h.kept i.kept;
+  headed =
+      map-append (λ (b : Body). b.function) hs is
+      ∙ (ap₂ (λ (ms ns : List Function). ms ++ ns) h.headed i.headed ∙ sym (map-append (λ (b : Body). head_of b.function) fs gs));
+}
+
+pub kept_none : (p : Part) → AreKept p [] []
+kept_none part.Whole = none_meant
+kept_none part.Head = ([], none_meant, record { kept = tt; headed = refl })
+
+pub kept_join : (p : Part) (rs ss : List RawFunction) (fs gs : List Body) → AreKept p rs fs → AreKept p ss gs → AreKept p (rs ++ ss) (fs ++ gs)
+kept_join part.Whole rs ss fs gs f g = meant_join rs ss fs gs f g
+kept_join part.Head rs ss hs is (fs, meant, heads) (gs, were, others) = (fs ++ gs, meant_join rs ss fs gs meant were, heads_join fs gs hs is heads others)
+
 -- ---- stretches
 
-pub meant_follow : (text : List ℕ) (a b : ℕ) (rs : List RawFunction) (fs : List Body) → IsCut text a → AreFunctions text a b rs → AreMeant rs fs → Follow (MeanFunctions text) a b fs
-meant_follow text a b rs fs cut stand meant start before (ss, stood, were) =
-    (ss ++ rs, range_follows text a b rs cut stand start ss stood, meant_join ss rs before fs were meant)
+pub kept_follow : (p : Part) (text : List ℕ) (a b : ℕ) (rs : List RawFunction) (fs : List Body) → IsCut text a → AreFunctions text a b rs → AreKept p rs fs → Follow (KeptOfRange p text) a b fs
+kept_follow p text a b rs fs cut stand kept start before (ss, stood, were) =
+    (ss ++ rs, range_follows text a b rs cut stand start ss stood, kept_join p ss rs before fs were kept)
 
--- the raw module of a text, what its functions mean, and that these are all that were found
-pub text_meant : (text : List ℕ) (at : ℕ) (front : RawModule) (first rest all : List Body) → IsCut text at → IsFront text at front → AreMeant front.functions first
-    → Follow (MeanFunctions text) at (length text) rest → all ≡ first ++ rest → (raw : RawModule) × IsModuleText text raw × AreMeant raw.functions all
-text_meant text at front first rest all cut is meant follow joined =
-    let (more, stand, were) = follow at [] ([], no_functions text at cut, none_meant) in (
+-- the raw module of a text, and what stays of its functions
+pub text_kept : (p : Part) (text : List ℕ) (at : ℕ) (front : RawModule) (first rest all : List Body) → IsCut text at → IsFront text at front → AreKept p front.functions first
+    → Follow (KeptOfRange p text) at (length text) rest → all ≡ first ++ rest → KeptOfText p text all
+text_kept p text at front first rest all cut is kept follow joined =
+    let (more, stand, were) = follow at [] ([], no_functions text at cut, kept_none p) in (
       with_functions front more,
       whole_text text at front more cut is stand,
-      subst (AreMeant (front.functions ++ more)) (sym joined) (meant_join front.functions more first rest meant were),
+      subst (AreKept p (front.functions ++ more)) (sym joined) (kept_join p front.functions more first rest kept were),
     )
 
 -- ---- names

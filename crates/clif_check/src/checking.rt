@@ -38,6 +38,14 @@ pub fn check_text<R: Threads + Sync>(
             return Ok(checked);
         }
     }
+    check_text_alone(alloc, text)
+}
+
+/// As `check_text`, by the calling thread alone.
+pub(crate) fn check_text_alone(alloc: Global, text: &[u8]) -> Result<Checked, TextErr>
+    ensures accepted { IfOk result (λ m. IsAccepted text.now m) }
+    ensures fault { IfErr result (λ e. IsFault text.now e) }
+{
     match read_text_alone(alloc, text) {
         Ok(raw) => check_raw(alloc, &raw),
         Err(err) => Err(err),

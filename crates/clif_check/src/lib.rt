@@ -2,8 +2,11 @@
 #![tactic(auto)]
 
 mod checking;
+mod heads;
 pub mod laws;
+mod parts;
 mod stretches;
 
 pub use checking::{check_raw, check_text};
+pub use heads::check_heads;
 pub use stretches::read_module;

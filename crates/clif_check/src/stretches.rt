@@ -1,17 +1,15 @@
-//! Modules read stretch by stretch: of the raw functions only one for each worker is there at a time.
-ghost use Rattle.std.specs.Prelude.{◌≡◌, ◌≢◌, ◌≤◌, ◌++◌, [], length, map, IfSome};
+//! Texts read stretch by stretch: of the raw functions only one for each worker is there at a time.
+ghost use Rattle.std.specs.Prelude.{◌≡◌, ◌≢◌, ◌≤◌, ◌++◌, [], length, IfSome};
 ghost use Rattle.ir_core.specs.Lists.{Each};
-ghost use Rattle.ir_core.specs.Sound.{IsWhole};
-ghost use Rattle.ir_core.specs.WellFormed.{DifferentNames};
 ghost use Rattle.read_workers.specs.Ranges.{IsTextRange};
 ghost use Rattle.clif_names.specs.Sizes.{most_functions};
 ghost use Rattle.clif_meaning.specs.Reads.{Reads};
-ghost use Rattle.clif_check.specs.Stretches.{AreMeant, MeanFunctions, MeanTokens};
+ghost use Rattle.clif_check.specs.Stretches.{AreKept, KeptOfRange, KeptOfText, KeptOfTokens};
 
+use crate::parts::{Part, keep_function};
 use clif_lex::tokens_between;
 use clif_names::MOST_FUNCTIONS;
 use clif_read::{RawFunction, read_function};
-use clif_resolve::meant_function;
 use clif_words::Class;
 use ir_core::{Func, Module};
 use range_workers::{Ranges, read_by_workers};
@@ -20,16 +18,14 @@ use std::alloc::Global;
 use std::thread::Threads;
 use token_reader::Reader;
 
-/// What these functions mean. `None` where one has a fault of names or numbers, or memory runs out.
-fn meant_functions(alloc: Global, raws: &[RawFunction]) -> Option<Vec<Func>>
+/// What stays of these functions. `None` where nothing stays of one.
+fn keep_functions(alloc: Global, raws: &[RawFunction], part: Part) -> Option<Vec<Func>>
     requires { Each (λ r. r.blocks ≢ []) raws.now }
-    ensures { IfSome result (λ functions. AreMeant raws.now functions.items) }
+    ensures { IfSome result (λ kept. AreKept part raws.now kept.items) }
 {
     let mut functions = Vec::new(alloc);
     for raw in raws {
-        let Ok(Some(func)) = meant_function(alloc, raw) else {
-            return None;
-        };
+        let func = keep_function(alloc, raw, part)?;
         if functions.push(func).is_err() {
             return None;
         }
@@ -37,20 +33,17 @@ fn meant_functions(alloc: Global, raws: &[RawFunction]) -> Option<Vec<Func>>
     Some(functions)
 }
 
-/// What the functions of all the tokens that are left mean. Each raw function is let go before the next is read, whose
-/// lists then take its memory. `None` where anything else stands there, where one has a fault of names or numbers, or
-/// memory runs out.
-fn read_functions(alloc: Global, reader: &mut Reader<'_>) -> Option<Vec<Func>>
-    ensures { IfSome result (λ functions. MeanTokens reader.old functions.items) }
+/// What stays of the functions of all the tokens that are left. Each raw function is let go before the next is read,
+/// whose lists then take its memory. `None` where anything else stands there, or nothing stays of one.
+fn read_functions(alloc: Global, reader: &mut Reader<'_>, part: Part) -> Option<Vec<Func>>
+    ensures { IfSome result (λ kept. KeptOfTokens part reader.old kept.items) }
 {
     let mut functions = Vec::new(alloc);
     'functions: while reader.next_is(Class::Function) {
         let Ok(raw) = read_function(alloc, reader) else {
             return None;
         };
-        let Ok(Some(func)) = meant_function(alloc, &raw) else {
-            return None;
-        };
+        let func = keep_function(alloc, &raw, part)?;
         if functions.push(func).is_err() {
             return None;
         }
@@ -61,16 +54,17 @@ fn read_functions(alloc: Global, reader: &mut Reader<'_>) -> Option<Vec<Func>>
     Some(functions)
 }
 
-/// A text whose functions are read range by range, and what they mean.
+/// A text whose functions are read range by range, and what stays of each.
 #[derive(Drop)]
 struct TextRanges<'t> {
     text: &'t [u8],
+    part: Part,
 }
 
 impl<'t> Ranges<Func> for TextRanges<'t> {
     ghost range = { λ ranges from to. IsTextRange ranges.text.now from to };
 
-    ghost stand = { λ ranges from to functions. MeanFunctions ranges.text.now from to functions };
+    ghost stand = { λ ranges from to kept. KeptOfRange ranges.part ranges.text.now from to kept };
 
     fn find_stretch_end(&self, from: usize, end: usize, size: usize) -> usize {
         find_stretch_end(self.text, from, end, size)
@@ -81,60 +75,50 @@ impl<'t> Ranges<Func> for TextRanges<'t> {
             return None;
         };
         let mut reader = Reader::new(self.text, &tokens, 0);
-        read_functions(alloc, &mut reader)
+        read_functions(alloc, &mut reader, self.part)
     }
 
     ghost ordered = { λ ranges from to range. range.ordered };
 }
 
-/// After so many functions the memory of their places in a list is given back.
-const GIVEN_BACK: usize = 4_096;
-
-/// Gives back the memory of places without a function, now and then.
-fn give_back(functions: &mut Vec<Func>)
-    ensures { functions.new.items ≡ functions.old.items }
+/// The functions of both lists, one list behind the other. The second, which may be long, is kept as it is.
+fn join_functions(first: Vec<Func>, rest: Vec<Func>) -> Option<Vec<Func>>
+    ensures { IfSome result (λ all. all.items ≡ first.items ++ rest.items) }
 {
-    if functions.len() % GIVEN_BACK == 0 {
-        functions.shrink_to_fit();
-    }
-}
-
-/// The module with these functions behind its own. `None` where two functions have one name, or memory runs out.
-fn push_all(before: Module, functions: Vec<Func>) -> Option<Module>
-    requires whole { Each (λ func. IsWhole func.function) functions.items }
-    requires apart { DifferentNames before }
-    ensures functions { IfSome result (λ m. m ≡ before ++ map (λ func. func.function) functions.items) }
-    ensures names { IfSome result (λ m. DifferentNames m) }
-{
-    let mut left = functions;
-    left.reverse();
-    let mut module = before;
-    'functions: while let Some(func) = left.pop() {
-        if module.find(func.name()).is_some() || module.push(func).is_err() {
-            return None;
-        }
-        give_back(&mut left);
-    }
-    Some(module)
-}
-
-/// The module that has the functions of both lists. `None` where there are too many or two have one name, or memory
-/// runs out.
-fn module_of(alloc: Global, first: Vec<Func>, rest: Vec<Func>) -> Option<Module>
-    requires { Each (λ func. IsWhole func.function) (first.items ++ rest.items) }
-    ensures functions { IfSome result (λ m. m ≡ map (λ func. func.function) (first.items ++ rest.items)) }
-    ensures names { IfSome result (λ m. DifferentNames m) }
-    ensures few { IfSome result (λ m. length m ≤ most_functions) }
-{
-    let count = first.len().saturating_add(rest.len());
-    if count > MOST_FUNCTIONS {
+    let mut front = first;
+    let mut all = rest;
+    let count = front.len();
+    if all.append(&mut front).is_err() {
         return None;
     }
-    let mut module = Module::new(alloc);
-    if module.reserve(count).is_err() {
+    all.rotate_right(count);
+    Some(all)
+}
+
+/// What stays of the functions of a text, read by so many workers at once, by stretches of this size. `None` where the
+/// text has a fault of its tokens, its syntax or its numbers, where it cannot be read so, where nothing stays of a
+/// function, or memory runs out.
+pub(crate) fn read_parts<R: Threads + Sync>(
+    rt: &R,
+    alloc: Global,
+    text: &[u8],
+    workers: usize,
+    size: usize,
+    part: Part,
+) -> Option<Vec<Func>>
+    ensures kept { IfSome result (λ kept. KeptOfText part text.now kept.items) }
+    ensures few { IfSome result (λ kept. length kept.items ≤ most_functions) }
+{
+    let end = find_front_end(text, 0);
+    let front = read_front(alloc, text, end)?;
+    let first = keep_functions(alloc, front.functions.as_slice(), part)?;
+    let ranges = TextRanges { text, part };
+    let rest = read_by_workers(rt, alloc, &ranges, end, text.len(), workers, size)?;
+    let all = join_functions(first, rest)?;
+    if all.len() > MOST_FUNCTIONS {
         return None;
     }
-    push_all(push_all(module, first)?, rest)
+    Some(all)
 }
 
 /// The module that a text means, read by so many workers at once, by stretches of this size. `None` where the text has
@@ -148,10 +132,9 @@ pub fn read_module<R: Threads + Sync>(
 ) -> Option<Module>
     ensures { IfSome result (Reads text.now) }
 {
-    let end = find_front_end(text, size);
-    let front = read_front(alloc, text, end)?;
-    let first = meant_functions(alloc, front.functions.as_slice())?;
-    let ranges = TextRanges { text };
-    let rest = read_by_workers(rt, alloc, &ranges, end, text.len(), workers, size)?;
-    module_of(alloc, first, rest)
+    let functions = read_parts(rt, alloc, text, workers, size, Part::Whole)?;
+    match Module::of_functions(alloc, functions) {
+        Ok(made) => made,
+        Err(_) => None,
+    }
 }

@@ -115,5 +115,8 @@ module _ (Takes : List ℕ → Module → Type 0) (Refuses : List ℕ → TextKi
 -- ---- the commands
 
 -- what `check` writes: how many functions there are
+abbrev pub line_of_count : ℕ → List ℕ
+line_of_count count = codes "ok " ++ decimal count ++ codes "\n"
+
 abbrev pub count_line : Module → List ℕ
-count_line m = codes "ok " ++ decimal (length m) ++ codes "\n"
+count_line m = line_of_count (length m)

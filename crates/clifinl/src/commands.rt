@@ -4,7 +4,7 @@ ghost use Rattle.clif_check.specs.Faults.{IsAccepted};
 ghost use Rattle.ir_text.specs.Text.{text_of};
 ghost use Rattle.clifinl.specs.Runs.{IsFirstFault, IsRun, count_line, outside};
 
-use crate::reading::read_module;
+use crate::reading::{read_heads, read_module};
 use crate::status::Status;
 use crate::writing::{write_count, write_text};
 use clk_flow::{Sink, Source};
@@ -28,11 +28,11 @@ pub(crate) fn check<R: Threads + Wait + Sync, I: Source, O: Sink>(
         (outside (I.left input.new) (I.faults input.new) (O.written out.new) (O.faults out.new)) result }
     ensures nothing { (out.new ≡ out.old) ⊎ ((result ≡ Status.Done) ⊎ (result ≡ Status.WriteFault)) }
 {
-    match read_module(rt, alloc, WORKERS, input) {
-        Ok(checked) => {
-            let status = write_count(checked.module(), out);
+    match read_heads(rt, alloc, WORKERS, input) {
+        Ok(heads) => {
+            let status = write_count(heads.funcs().len(), out);
             // The program ends here: its memory goes with it, and not part by part before.
-            forget(checked);
+            forget(heads);
             status
         }
         Err(status) => status,

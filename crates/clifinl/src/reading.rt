@@ -1,13 +1,15 @@
 //! Reading what a command works on.
-ghost use Rattle.std.specs.Prelude.{◌≡◌, ◌≤◌, IfErr, IfOk, length};
-ghost use Rattle.clif_check.specs.Faults.{IsAccepted};
+ghost use Rattle.std.specs.Prelude.{◌≡◌, ◌≤◌, ℕ, List, Option, IfErr, IfOk, length};
+ghost use Rattle.clif_check.specs.Faults.{IsAccepted, IsFault};
+ghost use Rattle.clif_check.specs.Heads.{IsAcceptedHeads};
 ghost use Rattle.clifinl.specs.Runs.{IsFirstFault, IsPlaceOf, NoText, ReadsWhole, Stopped, Took};
 
 use crate::status::{Refusal, Status};
-use clif_check::check_text;
+use clif_check::{check_heads, check_text};
 use clif_lex::{Place, TextErr, place};
 use clk_flow::{ReadErr, Source, read_whole};
 use ir_check::Checked;
+use ir_core::Heads;
 use std::alloc::Global;
 use std::sync::Wait;
 use std::thread::Threads;
@@ -54,11 +56,47 @@ pub(crate) fn read_module<R: Threads + Wait + Sync, I: Source>(
     };
     match check_text(rt, alloc, bytes.as_slice(), workers) {
         Ok(checked) => Ok(checked),
-        Err(TextErr::Fault { kind, spot }) => {
-            let place = place_of(bytes.as_slice(), spot);
-            Err(Status::Refused(Refusal::Text(kind, place)))
+        Err(err) => Err(refuse_text(bytes.as_slice(), err)),
+    }
+}
+
+/// The heads of the functions of the accepted module of the source's text, checked by so many workers.
+///
+/// # Errors
+///
+/// The status of a run that stops here.
+pub(crate) fn read_heads<R: Threads + Wait + Sync, I: Source>(
+    rt: &R,
+    alloc: Global,
+    workers: usize,
+    input: &mut I,
+) -> Result<Heads, Status>
+    ensures read { IfOk result (λ heads. Took IsAcceptedHeads (I.left input.old) (I.left input.new) heads) }
+    ensures stopped { IfErr result (λ status. Stopped IsFirstFault (I.left input.old) (I.left input.new)
+        (I.faults input.old) (I.faults input.new) status) }
+{
+    let bytes = match read_input(alloc, input) {
+        Ok(bytes) => bytes,
+        Err(status) => return Err(status),
+    };
+    match check_heads(rt, alloc, bytes.as_slice(), workers) {
+        Ok(heads) => Ok(heads),
+        Err(err) => Err(refuse_text(bytes.as_slice(), err)),
+    }
+}
+
+/// The status of a run whose text is not accepted, by the first fault of the text.
+fn refuse_text(text: &[u8], err: TextErr) -> Status
+    requires { length text.now ≤ 4294967294 }
+    ensures { (before after : Option (List ℕ)) (faults now : ℕ) → ReadsWhole before after text.now
+        → IsFault text.now err → Stopped IsFirstFault before after faults now result }
+{
+    match err {
+        TextErr::Fault { kind, spot } => {
+            let place = place_of(text, spot);
+            Status::Refused(Refusal::Text(kind, place))
         }
-        Err(TextErr::NoMemory) => Err(Status::NoMemory),
+        TextErr::NoMemory => Status::NoMemory,
     }
 }
 

@@ -4,7 +4,7 @@ ghost use Rattle.std.specs.Io.KnownBytes.{Appends};
 ghost use Rattle.clk_flow.specs.Faults.{HasCause};
 ghost use Rattle.clk_flow.specs.Whole.{AppendsPrefix};
 ghost use Rattle.ir_text.specs.Text.{text_of};
-ghost use Rattle.clifinl.specs.Runs.{Wrote, count_line};
+ghost use Rattle.clifinl.specs.Runs.{Wrote, line_of_count};
 
 use crate::pieces::put_all;
 use crate::status::Status;
@@ -16,13 +16,13 @@ use std::alloc::Global;
 use std::sync::Wait;
 use std::thread::Threads;
 
-/// Writes how many functions a module has. It takes no memory.
-pub(crate) fn write_count<O: Sink>(module: &Module, out: &mut O) -> Status
-    ensures wrote { Wrote (count_line «module».now) (O.written out.old) (O.written out.new)
+/// Writes how many functions there are. It takes no memory.
+pub(crate) fn write_count<O: Sink>(count: usize, out: &mut O) -> Status
+    ensures wrote { Wrote (line_of_count count) (O.written out.old) (O.written out.new)
         (O.faults out.old) (O.faults out.new) result }
     ensures some { (result ≡ Status.Done) ⊎ (result ≡ Status.WriteFault) }
 {
-    match put_count(out, module.len()) {
+    match put_count(out, count) {
         Ok(()) => Status::Done,
         Err(_) => Status::WriteFault,
     }

@@ -1,6 +1,6 @@
 use Rattle.std.proofs.lemmas.Option.{IfSome_then}
 use Rattle.read_workers.proofs.RangeLaws.{stretch_read}
-use Rattle.clif_check.proofs.MeantLaws.{meant_follow}
+use Rattle.clif_check.proofs.MeantLaws.{kept_follow}
 use Rattle.clif_check.proofs.stretches.TextRangesRangesFunc.read_stretch.Goals as goal
 
 pub returns : goal.returns
@@ -8,6 +8,6 @@ returns c =
     let text = c.args.self.now.text.now in
     let range = c.requires in
     IfSome_then c.read_functions.result c.read_functions.ensures
-    (λ found means. let (raws, read, meant) = means in
+    (λ found keeps. let (raws, read, kept) = keeps in
     let stand = stretch_read text c.args.from c.args.end c.in-Ok.tokens c.new-reader.result raws range.ordered range.ends.0 c.in-Ok.ensures.tokens c.new-reader.ensures read in
-    meant_follow text c.args.from c.args.end raws found.items range.begins stand meant)
+    kept_follow c.args.self.now.part text c.args.from c.args.end raws found.items range.begins stand kept)

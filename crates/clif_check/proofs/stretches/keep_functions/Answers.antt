@@ -2,11 +2,14 @@ use Rattle.std.proofs.Common.{◌≡◌, ◌+◌, [], ◌∷◌, ◌++◌, lengt
 use Rattle.std.proofs.lemmas.List.{take_more}
 use Rattle.std.proofs.lemmas.Option.{slice_get_read}
 use Rattle.clif_meaning.proofs.Lists.{each_got}
-use Rattle.clif_check.proofs.MeantLaws.{one_meant, meant_join}
-use Rattle.clif_check.proofs.stretches.meant_functions.Goals as goal
+use Rattle.clif_check.proofs.MeantLaws.{kept_none, kept_join}
+use Rattle.clif_check.proofs.stretches.keep_functions.Goals as goal
 
-pub meant_function-requires : goal.meant_function-requires
-meant_function-requires c =
+pub loop-raw-init : goal.loop-raw-init
+loop-raw-init c = rw c.new-functions.ensures.items (kept_none c.args.part)
+
+pub keep_function-requires : goal.keep_function-requires
+keep_function-requires c =
     let raws = c.args.raws.now in
     each_got _ raws c.requires c.loop-raw.raw-index c.raw-item.result
     (slice_get_read raws (length raws) c.loop-raw.raw-index c.raw-item.result refl c.loop-raw-test.true c.raw-item.is)
@@ -16,10 +19,7 @@ loop-raw-preserved c =
     let raws = c.args.raws.now in
     let i = c.loop-raw.raw-index in
     let raw = c.raw-item.result in
-    let func = c.in-Ok-Some.func in
+    let func = c.in_ok-func.func in
     let next : take (i + 1) raws ≡ take i raws ++ raw ∷ [] = rw (take_more raws i raw c.loop-raw-test.true, ← c.raw-item.is) refl in
     let pushed : c.push.new.self.items ≡ c.loop-raw.functions.items ++ func ∷ [] = search rules in
-    rw (pushed, next)
-    (meant_join (take i raws) (raw ∷ []) c.loop-raw.functions.items (func ∷ []) c.loop-raw.invariant
-    (one_meant raw func (rw c.in-Ok-Some.field-0-is at c.in-Ok-Some.ensures.free) (rw c.in-Ok-Some.field-0-is at c.in-Ok-Some.ensures.meant)
-    (rw c.in-Ok-Some.field-0-is at c.in-Ok-Some.ensures.whole)))
+    rw (pushed, next) (kept_join c.args.part (take i raws) (raw ∷ []) c.loop-raw.functions.items (func ∷ []) c.loop-raw.invariant c.in_ok-func.ensures)

@@ -1,7 +1,6 @@
 -- How the runs of `inline` end.
-use Rattle.std.proofs.Common.{◌≡◌, ◌≤◌, List, ℕ, subst}
+use Rattle.std.proofs.Common.{◌≤◌, subst}
 use Rattle.clif_check.specs.Faults.{IsAccepted}
-use Rattle.ir_core.specs.Module.{Module}
 use Rattle.inlined_reads.specs.Laws.{InlinedIsKept, inlined_text}
 use Rattle.settings.specs.Settings.{InlineSettings}
 use Rattle.clifinl.specs.declared.status.Status.{Status}

@@ -7,7 +7,7 @@ use Rattle.std.proofs.lemmas.Option.{slice_get_within}
 use Rattle.ir_core.specs.declared.declarations.Callee.{Callee}
 use Rattle.ir_core.specs.declared.names.FuncName.{FuncName}
 use Rattle.ir_core.specs.declared.places.Item.TheVariants as item
-use Rattle.ir_core.specs.Edits.{Body, head_of}
+use Rattle.ir_core.specs.Edits.{head_of}
 use Rattle.ir_core.specs.Lists.{In, Each}
 use Rattle.ir_core.specs.Lookup.{find_function, same_name}
 use Rattle.ir_core.specs.Module.{Function, Module}
@@ -16,10 +16,9 @@ use Rattle.ir_semantics.specs.Accepted.{no_terminator, entry_target, count_misma
 use Rattle.ir_semantics.specs.Accepted.{signature_mismatch, slot_range, tag_place, not_available, RulesHold, Accepted}
 use Rattle.ir_semantics.specs.CallRules.{Declared}
 use Rattle.ir_semantics.proofs.SafetyTypes.{some_same}
-use Rattle.body_import.proofs.FirstPlaces.{get_mapped}
 use Rattle.clif_meaning.proofs.Lists.{each_got}
 use Rattle.range_workers.specs.Follow.{Follow}
-use Rattle.clif_check.specs.Heads.{KeepsOwnRules, DeclareWithin, DeclaresAt}
+use Rattle.clif_check.specs.Declarations.{KeepsOwnRules, DeclareWithin, DeclaresAt}
 
 -- ---- one function
 
@@ -69,11 +68,8 @@ pub declared_by : (m : Module) (f : Function) (c : Callee) (g : Function) → fi
 declared_by m f c g found states h e = states ∙ ap (λ (x : Function). Some x.sig) (some_same (sym found ∙ e))
 
 -- what is declared by the function at a place
-pub declares_there : (m : Module) (bs : List Body) (place : ℕ) (b : Body) → map (λ (x : Body). x.function) bs ≡ m → slice_get bs place ≡ Some b
-    → Each (Declared m b.function) b.function.callees → DeclaresAt m place
-declares_there m bs place b are at all f e =
-    subst (λ (g : Function). Each (Declared m g) g.callees)
-    (some_same (sym (get_mapped (λ (x : Body). x.function) bs place b at) ∙ (ap (λ (fs : List Function). slice_get fs place) are ∙ e))) all
+pub declares_there : (m : Module) (place : ℕ) (f : Function) → slice_get m place ≡ Some f → Each (Declared m f) f.callees → DeclaresAt m place
+declares_there m place f at all g e = subst (λ (h : Function). Each (Declared m h) h.callees) (some_same (sym at ∙ e)) all
 
 -- ---- a module
 
@@ -92,27 +88,21 @@ each_of : (P : Function → Type 0) (fs : List Function) → ((i : ℕ) (f : Fun
 each_of P [] all = tt
 each_of P (f ∷ fs) all = (all 0 f refl, each_of P fs (λ i g e. all (suc i) g e))
 
+-- what is declared within the whole list is declared by each
+each_declares : (m : Module) → DeclareWithin m 0 (length m) → Each (λ (f : Function). Each (Declared m f) f.callees) m
+each_declares m declared =
+    each_of (λ (f : Function). Each (Declared m f) f.callees) m (λ i f e. declared i (omega arith) (slice_get_within m i f e) f e)
+
 pub accepted_by_heads : (m : Module) → Each KeepsOwnRules m → DeclareWithin (map head_of m) 0 (length (map head_of m)) → Accepted m
 accepted_by_heads m own declared f there =
+    rules_of_both m f (in_each KeepsOwnRules m f own there) (declared_at m m f (each_declares (map head_of m) declared) there)
+
+pub accepted_by_functions : (m : Module) → Each KeepsOwnRules m → DeclareWithin m 0 (length m) → Accepted m
+accepted_by_functions m own declared f there =
     rules_of_both m f (in_each KeepsOwnRules m f own there)
-    (declared_at m m f (each_of (λ (h : Function). Each (Declared (map head_of m) h) h.callees) (map head_of m)
-    (λ i h e. declared i (omega arith) (slice_get_within (map head_of m) i h e) h e)) there)
+    (in_each (λ (g : Function). Each (Declared m g) g.callees) m f (each_declares m declared) there)
 
 -- what workers find where they find something
 pub all_declare : {A T : Type 0} (found : Option A) (items : A → List T) (m : Module) (count : ℕ) → count ≡ length m → IfSome found (λ x. Follow (λ from to _. DeclareWithin m from to) 0 count (items x)) → is_some found ≡ true → DeclareWithin m 0 (length m)
 all_declare None items m count whole stand seen = absurd cc
 all_declare (Some x) items m count whole stand seen = subst (DeclareWithin m 0) whole (stand 0 [] (λ i low high. absurd (omega (arith, low, high))))
-
--- ---- functions as bodies
-
-pub headed_twice : (bs : List Body) → map (λ (b : Body). head_of b.function) bs ≡ map head_of (map (λ (b : Body). b.function) bs)
-headed_twice [] = refl
-headed_twice (b ∷ bs) = ap (λ (fs : List Function). head_of b.function ∷ fs) (headed_twice bs)
-
-pub twice_headed : (m : Module) → map head_of (map head_of m) ≡ map head_of m
-twice_headed [] = refl
-twice_headed (f ∷ m) = ap (λ (fs : List Function). head_of f ∷ fs) (twice_headed m)
-
-pub each_kept : (bs : List Body) → Each (λ (b : Body). KeepsOwnRules b.function) bs → Each KeepsOwnRules (map (λ (b : Body). b.function) bs)
-each_kept [] all = tt
-each_kept (b ∷ bs) all = (all.0, each_kept bs all.1)

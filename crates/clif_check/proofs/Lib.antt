@@ -2,3 +2,4 @@ pub mod Standing
 pub mod Stages
 pub mod MeantLaws
 pub mod HeadLaws
+pub mod PartLaws

@@ -1,11 +1,11 @@
 -- What the functions of a text mean, one stretch behind another.
-use Rattle.std.proofs.Common.{◌≡◌, ◌≢◌, ℕ, zero, suc, ◌<◌, ◌≤◌, Bool, true, false, List, [], ◌∷◌, ◌++◌, length, map, slice_get, Option, None, Some, Ok, refl, sym, ap, ap₂, subst, ◌∙◌, arith, inl, inr}
+use Rattle.std.proofs.Common.{◌≡◌, ◌≢◌, ℕ, zero, suc, ◌<◌, ◌≤◌, Bool, true, false, List, [], ◌∷◌, ◌++◌, length, slice_get, Option, None, Some, Ok, refl, sym, ap, ap₂, subst, ◌∙◌, arith, inl, inr}
 use Rattle.std.specs.Prelude.{if◌then◌else◌, IfSome}
 use Rattle.std.proofs.lemmas.List.{map-append}
 use Rattle.grammar.specs.Rules.{Lexeme}
 use Rattle.ir_core.specs.declared.names.FuncName.{FuncName}
 use Rattle.ir_core.specs.declared.names.FuncName.TheVariants as name
-use Rattle.ir_core.specs.Edits.{Body, head_of}
+use Rattle.ir_core.specs.Edits.{Body}
 use Rattle.ir_core.specs.Lists.{Each}
 use Rattle.ir_core.specs.Lookup.{find_function, same_name}
 use Rattle.ir_core.specs.Module.{Function, Module}
@@ -31,13 +31,12 @@ use Rattle.clif_names.specs.Faults.{NoFault, ListFault, SameName}
 use Rattle.clif_names.specs.FunctionNames.{NoFunctionFault}
 use Rattle.clif_names.specs.Sizes.{most_functions}
 use Rattle.clif_meaning.specs.Instructions.{natural}
-use Rattle.clif_meaning.specs.Meaning.{name_of, FunctionMeans, FunctionsMean, Means, HasBlocks}
+use Rattle.clif_meaning.specs.Meaning.{name_of, FunctionMeans, FunctionsMean, HasBlocks}
 use Rattle.clif_meaning.specs.Reads.{Reads}
 use Rattle.clif_meaning.proofs.Lists.{each_got}
 use Rattle.clif_check.specs.declared.parts.Part.{Part}
-use Rattle.clif_check.specs.declared.parts.Part.TheVariants as part
-use Rattle.clif_check.specs.Heads.{KeepsOwnRules}
-use Rattle.clif_check.specs.Stretches.{AreMeant, AreHeads, AreKept, KeptOfRange, KeptOfText}
+use Rattle.clif_check.specs.Declarations.{KeepsOwnRules}
+use Rattle.clif_check.specs.Stretches.{AreMeant, AreKept, KeptOfRange, KeptOfText, part_of}
 
 -- ---- each function of the grammar has a block
 
@@ -58,37 +57,34 @@ means_join [] ss (x ∷ fs) gs f g = absurd f
 means_join (r ∷ rs) ss [] gs f g = absurd f
 means_join (r ∷ rs) ss (x ∷ fs) gs f g = (f.0, means_join rs ss fs gs f.1 g)
 
-pub none_meant : AreMeant [] []
-none_meant = record { free = tt; mean = tt; whole = tt }
-
-pub one_meant : (r : RawFunction) (b : Body) → NoFunctionFault r → FunctionMeans r b.function → IsWhole b.function → AreMeant (r ∷ []) (b ∷ [])
-one_meant r b free means whole = record { free = (free, tt); mean = (means, tt); whole = (whole, tt) }
-
-pub meant_join : (rs ss : List RawFunction) (fs gs : List Body) → AreMeant rs fs → AreMeant ss gs → AreMeant (rs ++ ss) (fs ++ gs)
+meant_join : (rs ss : List RawFunction) (fs gs : List Function) → AreMeant rs fs → AreMeant ss gs → AreMeant (rs ++ ss) (fs ++ gs)
 meant_join rs ss fs gs f g = record {
   free = each_join NoFunctionFault rs ss f.free g.free;
-  mean = subst (FunctionsMean (rs ++ ss)) (sym (map-append (λ (b : Body). b.function) fs gs))
-      (means_join rs ss (map (λ (b : Body). b.function) fs) (map (λ (b : Body). b.function) gs) f.mean g.mean);
-  whole = each_join (λ (b : Body). IsWhole b.function) fs gs f.whole g.whole;
+  mean = means_join rs ss fs gs f.mean g.mean;
+  whole = each_join IsWhole fs gs f.whole g.whole;
+  own = each_join KeepsOwnRules fs gs f.own g.own;
 }
 
 -- ---- what stays of functions
 
-pub heads_join : (fs gs hs is : List Body) → AreHeads fs hs → AreHeads gs is → AreHeads (fs ++ gs) (hs ++ is)
-heads_join fs gs hs is h i = record {
-  kept = each_join (λ (b : Body). KeepsOwnRules b.function) fs gs h.kept i.kept;
-  headed =
-      map-append (λ (b : Body). b.function) hs is
-      ∙ (ap₂ (λ (ms ns : List Function). ms ++ ns) h.headed i.headed ∙ sym (map-append (λ (b : Body). head_of b.function) fs gs));
-}
-
 pub kept_none : (p : Part) → AreKept p [] []
-kept_none part.Whole = none_meant
-kept_none part.Head = ([], none_meant, record { kept = tt; headed = refl })
+kept_none p = ([], record { free = tt; mean = tt; whole = tt; own = tt }, refl)
 
-pub kept_join : (p : Part) (rs ss : List RawFunction) (fs gs : List Body) → AreKept p rs fs → AreKept p ss gs → AreKept p (rs ++ ss) (fs ++ gs)
-kept_join part.Whole rs ss fs gs f g = meant_join rs ss fs gs f g
-kept_join part.Head rs ss hs is (fs, meant, heads) (gs, were, others) = (fs ++ gs, meant_join rs ss fs gs meant were, heads_join fs gs hs is heads others)
+kept_one : (p : Part) (r : RawFunction) (f : Function) (kept : Body) → NoFunctionFault r → FunctionMeans r f → IsWhole f → KeepsOwnRules f → kept.function ≡ part_of p f → AreKept p (r ∷ []) (kept ∷ [])
+kept_one p r f kept free means whole own is =
+    (f ∷ [], record { free = (free, tt); mean = (means, tt); whole = (whole, tt); own = (own, tt) }, ap (λ (g : Function). g ∷ []) is)
+
+pub kept_found : (p : Part) (r : RawFunction) (f : Function) (found : Option Body) → NoFunctionFault r → FunctionMeans r f → IsWhole f
+    → IfSome found (λ kept. KeepsOwnRules f) → IfSome found (λ kept. kept.function ≡ part_of p f) → IfSome found (λ kept. AreKept p (r ∷ []) (kept ∷ []))
+kept_found p r f None free means whole own is = tt
+kept_found p r f (Some kept) free means whole own is = kept_one p r f kept free means whole own is
+
+pub kept_join : (p : Part) (rs ss : List RawFunction) (ks ls : List Body) → AreKept p rs ks → AreKept p ss ls → AreKept p (rs ++ ss) (ks ++ ls)
+kept_join p rs ss ks ls (fs, meant, parts) (gs, were, others) = (
+  fs ++ gs,
+  meant_join rs ss fs gs meant were,
+  map-append (λ (b : Body). b.function) ks ls ∙ (ap₂ (λ (ms ns : List Function). ms ++ ns) parts others ∙ sym (map-append (part_of p) fs gs)),
+)
 
 -- ---- stretches
 
@@ -148,23 +144,15 @@ means_within (s ∷ rs) (f ∷ fs) (suc i) r h at = let less = means_within rs f
 
 -- ---- a text whose functions are meant, and are a module
 
-module _ (raw : RawModule) (fs : List Body) (meant : AreMeant raw.functions fs) (m : Module) (is : m ≡ map (λ b. b.function) fs) (apart : DifferentNames m) (few : length m ≤ most_functions) where
-  means : Means raw m
-  means = subst (FunctionsMean raw.functions) (sym is) meant.mean
-
+module _ (raw : RawModule) (m : Module) (meant : AreMeant raw.functions m) (apart : DifferentNames m) (few : length m ≤ most_functions) where
   no_list_fault : (kind : TextKind) (spot : ℕ) → ListFault raw.functions kind spot → ⊥
-  no_list_fault Duplicate spot (i, j, r, s, at, e, lt, before, same) = names_apart raw.functions m i j r s means apart at lt before same
-  no_list_fault TooLarge spot (i, r, at, e, many) = let less = means_within raw.functions m i r means at in absurd (omega (arith, less, many, few))
+  no_list_fault Duplicate spot (i, j, r, s, at, e, lt, before, same) = names_apart raw.functions m i j r s meant.mean apart at lt before same
+  no_list_fault TooLarge spot (i, r, at, e, many) = let less = means_within raw.functions m i r meant.mean at in absurd (omega (arith, less, many, few))
   no_list_fault kind spot h = absurd h
 
   free : NoFault raw
   free kind spot (inl h) = no_list_fault kind spot h
   free kind spot (inr (i, r, at, h)) = each_got NoFunctionFault raw.functions meant.free i r at kind spot h
 
-  reads_by : (text : List ℕ) → IsModuleText text raw → Reads text m
-  reads_by text read = (raw, read, free, means)
-
-pub module_read : (text : List ℕ) (raw : RawModule) (fs : List Body) (found : Option Module) → IsModuleText text raw → AreMeant raw.functions fs
-    → IfSome found (λ m. m ≡ map (λ (b : Body). b.function) fs) → IfSome found DifferentNames → IfSome found (λ m. length m ≤ most_functions) → IfSome found (Reads text)
-module_read text raw fs None read meant is apart few = tt
-module_read text raw fs (Some m) read meant is apart few = reads_by raw fs meant m is apart few text read
+pub module_read : (text : List ℕ) (raw : RawModule) (m : Module) → IsModuleText text raw → AreMeant raw.functions m → DifferentNames m → length m ≤ most_functions → Reads text m
+module_read text raw m read meant apart few = (raw, read, free raw m meant apart few, meant.mean)

@@ -1,3 +1,4 @@
+pub mod Declarations
 pub mod Faults
 pub mod Heads
 pub mod Laws

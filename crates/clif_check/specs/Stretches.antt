@@ -2,6 +2,7 @@
 use Rattle.std.specs.Prelude.{◌≡◌, ℕ, List, map}
 use Rattle.ir_core.specs.Edits.{Body, head_of}
 use Rattle.ir_core.specs.Lists.{Each}
+use Rattle.ir_core.specs.Module.{Function}
 use Rattle.ir_core.specs.Sound.{IsWhole}
 use Rattle.grammar.specs.Rules.{Lexeme}
 use Rattle.clif_read.specs.declared.raw.RawFunction.{RawFunction}
@@ -12,23 +13,24 @@ use Rattle.clif_names.specs.FunctionNames.{NoFunctionFault}
 use Rattle.clif_meaning.specs.Meaning.{FunctionsMean}
 use Rattle.clif_check.specs.declared.parts.Part.{Part}
 use Rattle.clif_check.specs.declared.parts.Part.TheVariants as part
-use Rattle.clif_check.specs.Heads.{KeepsOwnRules}
+use Rattle.clif_check.specs.Declarations.{KeepsOwnRules}
 
--- raw functions without a fault, and what each means
-pub record AreMeant (rs : List RawFunction) (functions : List Body) : Type 0 where
+-- raw functions without a fault, and what each means, which keeps every rule of its own
+pub record AreMeant (rs : List RawFunction) (functions : List Function) : Type 0 where
   pub free : Each NoFunctionFault rs
-  pub mean : FunctionsMean rs (map (λ b. b.function) functions)
-  pub whole : Each (λ b. IsWhole b.function) functions
+  pub mean : FunctionsMean rs functions
+  pub whole : Each IsWhole functions
+  pub own : Each KeepsOwnRules functions
 
--- functions that keep every rule of their own, and their heads
-pub record AreHeads (functions heads : List Body) : Type 0 where
-  pub kept : Each (λ b. KeepsOwnRules b.function) functions
-  pub headed : map (λ b. b.function) heads ≡ map (λ b. head_of b.function) functions
+-- what stays of a function: all of it, or its head
+abbrev pub part_of : Part → Function → Function
+part_of part.Whole = λ f. f
+part_of part.Head = head_of
 
 -- what stays of raw functions without a fault: what they mean, or the heads of that
 abbrev pub AreKept : Part → List RawFunction → List Body → Type 0
-AreKept part.Whole rs functions = AreMeant rs functions
-AreKept part.Head rs heads = (functions : List Body) × AreMeant rs functions × AreHeads functions heads
+AreKept p rs kept =
+    (functions : List Function) × AreMeant rs functions × (map (λ b. b.function) kept ≡ map (part_of p) functions)
 
 -- the tokens are functions of which these stay, and nothing else
 abbrev pub KeptOfTokens : Part → List Lexeme → List Body → Type 0

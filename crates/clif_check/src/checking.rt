@@ -7,18 +7,21 @@ ghost use Rattle.clif_meaning.specs.Meaning.{HasBlocks, Means};
 ghost use Rattle.ir_check.specs.Kinds.{rule_of};
 ghost use Rattle.ir_check.specs.Refusal.{IsRefusal};
 
-use crate::stretches::read_module;
-use check_workers::check_by_workers;
+use crate::declarations::declare_all;
+use crate::parts::Part;
+use crate::stretches::read_parts;
 use clif_lex::{TextErr, TextKind};
 use clif_read::{RawModule, read_text_alone};
 use clif_resolve::{Places, meaning};
 use ir_check::{CheckErr, CheckKind, Checked, Rejected, check};
+use ir_core::Module;
 use read_workers::STRETCH;
 use std::alloc::Global;
 use std::thread::Threads;
 
 /// The accepted module that a text is, read by so many workers. All stages take time linear in the text, but for
-/// logarithms. A long text is read stretch by stretch, and again by the calling thread alone where it has a fault.
+/// logarithms. Of a long text each function is checked as soon as it is read, and its callee declarations at the end;
+/// where the text is not accepted, it is read again by the calling thread alone.
 ///
 /// # Errors
 ///
@@ -52,8 +55,8 @@ pub(crate) fn check_text_alone(alloc: Global, text: &[u8]) -> Result<Checked, Te
     }
 }
 
-/// The accepted module that a text is, read stretch by stretch and checked by so many workers. `None` where it is none,
-/// or cannot be read so.
+/// The accepted module that a text is, read stretch by stretch and checked by so many workers at once. `None` where it
+/// is none, where it cannot be read so, or memory runs out.
 fn check_in_stretches<R: Threads + Sync>(
     rt: &R,
     alloc: Global,
@@ -62,11 +65,14 @@ fn check_in_stretches<R: Threads + Sync>(
 ) -> Option<Checked>
     ensures { IfSome result (λ m. IsAccepted text.now m) }
 {
-    let module = read_module(rt, alloc, text, workers, STRETCH)?;
-    match check_by_workers(rt, alloc, module, workers) {
-        Ok(checked) => Some(checked),
-        Err(_) => None,
+    let functions = read_parts(rt, alloc, text, workers, STRETCH, Part::Whole)?;
+    let Ok(Some(module)) = Module::of_functions(alloc, functions) else {
+        return None;
+    };
+    if !declare_all(rt, alloc, &module, workers) {
+        return None;
     }
+    Some(Checked::of_accepted(module))
 }
 
 /// The accepted module that a raw module means, each of whose functions has a block. Takes time linear in it, but for

@@ -2,6 +2,7 @@
 #![tactic(auto)]
 
 mod checking;
+mod declarations;
 mod heads;
 pub mod laws;
 mod parts;
@@ -9,4 +10,3 @@ mod stretches;
 
 pub use checking::{check_raw, check_text};
 pub use heads::check_heads;
-pub use stretches::read_module;

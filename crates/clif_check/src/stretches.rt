@@ -3,7 +3,6 @@ ghost use Rattle.std.specs.Prelude.{◌≡◌, ◌≢◌, ◌≤◌, ◌++◌, [
 ghost use Rattle.ir_core.specs.Lists.{Each};
 ghost use Rattle.read_workers.specs.Ranges.{IsTextRange};
 ghost use Rattle.clif_names.specs.Sizes.{most_functions};
-ghost use Rattle.clif_meaning.specs.Reads.{Reads};
 ghost use Rattle.clif_check.specs.Stretches.{AreKept, KeptOfRange, KeptOfText, KeptOfTokens};
 
 use crate::parts::{Part, keep_function};
@@ -11,7 +10,7 @@ use clif_lex::tokens_between;
 use clif_names::MOST_FUNCTIONS;
 use clif_read::{RawFunction, read_function};
 use clif_words::Class;
-use ir_core::{Func, Module};
+use ir_core::Func;
 use range_workers::{Ranges, read_by_workers};
 use read_workers::{find_front_end, find_stretch_end, read_front};
 use std::alloc::Global;
@@ -119,22 +118,4 @@ pub(crate) fn read_parts<R: Threads + Sync>(
         return None;
     }
     Some(all)
-}
-
-/// The module that a text means, read by so many workers at once, by stretches of this size. `None` where the text has
-/// a fault of its tokens, its syntax, its names or its numbers, where it cannot be read so, or memory runs out.
-pub fn read_module<R: Threads + Sync>(
-    rt: &R,
-    alloc: Global,
-    text: &[u8],
-    workers: usize,
-    size: usize,
-) -> Option<Module>
-    ensures { IfSome result (Reads text.now) }
-{
-    let functions = read_parts(rt, alloc, text, workers, size, Part::Whole)?;
-    match Module::of_functions(alloc, functions) {
-        Ok(made) => made,
-        Err(_) => None,
-    }
 }

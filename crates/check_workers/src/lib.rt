@@ -1,7 +1,0 @@
-//! The check of a module by several workers.
-#![tactic(auto)]
-
-mod checking;
-mod ranges;
-
-pub use checking::check_by_workers;

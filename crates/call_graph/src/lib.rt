@@ -12,5 +12,5 @@ mod stack;
 mod turns;
 
 pub use calls::Graph;
-pub use making::{callee_number, graph};
+pub use making::{callee_number, find_calls, graph};
 pub use ordering::{Order, pieces};

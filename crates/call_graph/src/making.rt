@@ -15,14 +15,16 @@ pub fn graph(alloc: Global, module: &Module) -> Result<Graph, AllocError>
     let mut seen = vec![in alloc; 0usize; module.len()]?;
     let mut calls = Vec::with_capacity(alloc, module.len())?;
     for i in 0..module.len() {
-        let called = func_calls(alloc, module, module.func(i), &mut seen, i + 1)?;
+        let called = find_calls(alloc, module, module.func(i), &mut seen, i + 1)?;
         calls.push(List::from_vec(called))?;
     }
     Ok(Graph { calls })
 }
 
-/// The functions that a function calls. No function is marked with the stamp yet.
-fn func_calls(
+/// The functions that a function calls, each once, in order of first use. `seen` has a mark for each function of the
+/// module, all below the stamp; those of the functions that are called become the stamp. Linear in the function, and in
+/// its declared names. Only `AllocError` refuses.
+pub fn find_calls(
     alloc: Global,
     module: &Module,
     func: &Func,

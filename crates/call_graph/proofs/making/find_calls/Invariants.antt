@@ -5,7 +5,7 @@ use Rattle.call_graph.specs.Reach.{called_names}
 use Rattle.call_graph.specs.Calls.{numbers_of, each_once, calls_in}
 use Rattle.call_graph.specs.Marks.{Marked}
 use Rattle.call_graph.proofs.Blocks.{blocks_at}
-use Rattle.call_graph.proofs.making.func_calls.Given as goal
+use Rattle.call_graph.proofs.making.find_calls.Given as goal
 
 abbrev pub invariant-loop-block : goal.invariant-loop-block
 invariant-loop-block l = record {

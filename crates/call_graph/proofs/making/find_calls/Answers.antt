@@ -5,7 +5,7 @@ use Rattle.call_graph.specs.Calls.{number_of, each_once}
 use Rattle.call_graph.specs.Marks.{targets_in}
 use Rattle.call_graph.proofs.Blocks.{first_in, rest_in}
 use Rattle.call_graph.proofs.Marking.{begun, none_marked, targets_in_range, block_more}
-use Rattle.call_graph.proofs.making.func_calls.Goals as goal
+use Rattle.call_graph.proofs.making.find_calls.Goals as goal
 
 pub loop-block-init : goal.loop-block-init
 loop-block-init c =

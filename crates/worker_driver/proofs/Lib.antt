@@ -7,3 +7,4 @@ pub mod ReadBodies
 pub mod Costs
 pub mod Putting
 pub mod Answering
+pub mod Gathered

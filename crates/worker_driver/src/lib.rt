@@ -4,14 +4,17 @@
 
 mod callees;
 mod drawing;
+mod finished;
+mod gathering;
 mod outcome;
 mod passing;
 mod plan;
 mod taking;
 mod workers;
 
+pub use finished::Finished;
 pub use outcome::Turn;
-pub use passing::pass_with;
+pub use passing::{finish_with, pass_with};
 pub use plan::Plan;
 pub use step_counter::Steps;
 pub use taking::turn;

@@ -2,9 +2,11 @@
 ghost use Rattle.std.specs.Prelude.{◌≡◌, IfOk};
 ghost use Rattle.worker_driver.specs.Plans.{IsPlanOf, IsListing, IsInverse};
 
-use call_graph::{Graph, Order, graph, pieces};
+use call_graph::{Graph, Order, pieces};
+use graph_workers::graph_by_workers;
 use ir_core::Module;
 use std::alloc::{AllocError, Global};
+use std::thread::Threads;
 
 /// The calls of a module's functions, their pieces, and the tickets: one for each function, in the order from callees
 /// to callers.
@@ -17,12 +19,17 @@ pub struct Plan {
 }
 
 impl Plan {
-    /// The plan of a module. Only `AllocError` refuses.
-    pub fn new(alloc: Global, module: &Module) -> Result<Plan, AllocError>
+    /// The plan of a module, whose calls so many workers find. Only `AllocError` refuses.
+    pub fn new<R: Threads + Sync>(
+        rt: &R,
+        alloc: Global,
+        module: &Module,
+        workers: usize,
+    ) -> Result<Plan, AllocError>
         ensures { IfOk result (λ plan. IsPlanOf «module».now plan) }
     {
         let _count = module.len();
-        let graph = graph(alloc, module)?;
+        let graph = graph_by_workers(rt, alloc, module, workers)?;
         let order = pieces(alloc, &graph)?;
         let tickets = places(alloc, order.list.as_slice())?;
         Ok(Plan {

@@ -4,8 +4,8 @@ ghost use Rattle.std.specs.Prelude.{◌≡◌, ◌≤◌, ◌<◌};
 ghost use Rattle.inline_finish.specs.Building.{IsLimited};
 
 use clif_check::check_text;
-use clif_numbers::numbering;
-use clif_print::print;
+use clif_numbers::{func_numbers, numbering};
+use clif_print::{print, put_function};
 use clk_flow::{Gate, MemSink, NoGate};
 use crossbeam_utils::Backoff;
 use inline_finish::{Passed, Policy};
@@ -17,7 +17,8 @@ use std::sync::Wait;
 use std::sync::atomic::{AtomicBool, Ordering};
 use std::sync::ledger::{Blank, Ledger};
 use std::thread::Threads;
-use worker_driver::{Steps, pass_with};
+use text_output::{MemoryOutput, Output};
+use worker_driver::{Finished, Steps, finish_with, pass_with};
 
 /// A function that calls none, which has ticket 0; a chain of calls, `%a`, `%b` and `%c`, which have the tickets 3, 2
 /// and 1; and two functions that call each other.
@@ -140,6 +141,48 @@ fn made<R: Threads + Wait + Sync, G: Gate>(
     made_by::<R, G, Brand>(rt, alloc, module, workers, gate, Blank::new(1))
 }
 
+/// The canonical text of finished bodies, which stay where they stand.
+fn text_of(alloc: Global, finished: &Finished) -> Option<Vec<u8>> {
+    let mut out = MemoryOutput::new(alloc);
+    for place in 0..finished.len() {
+        if place != 0 {
+            out.put(b"\n");
+        }
+        let func = finished.func(place);
+        let numbers = func_numbers(alloc, func).ok()?;
+        put_function(&mut out, func, &numbers);
+    }
+    out.finish().ok()
+}
+
+/// The canonical text of the finished bodies that so many workers hand on.
+fn handed_on_by<R: Threads + Wait + Sync, L: Ledger>(
+    rt: &R,
+    alloc: Global,
+    module: &Checked,
+    workers: usize,
+    blank: Blank,
+) -> Option<Vec<u8>>
+    requires workers { (1 ≤ workers) × (workers ≤ 64) }
+    requires blank { (blank.name ≡ L.name) × (blank.parts ≡ L.parts) × (0 < blank.parts) }
+{
+    let mut steps: Steps<L> = Steps::open(blank);
+    let finished = finish_with(rt, alloc, module, policy(), workers, &NoGate, &mut steps).ok()?;
+    text_of(alloc, &finished)
+}
+
+/// The same by a counter that is made here.
+fn handed_on<R: Threads + Wait + Sync>(
+    rt: &R,
+    alloc: Global,
+    module: &Checked,
+    workers: usize,
+) -> Option<Vec<u8>>
+    requires { (1 ≤ workers) × (workers ≤ 64) }
+{
+    handed_on_by::<R, Brand>(rt, alloc, module, workers, Blank::new(1))
+}
+
 /// What one thread makes of a module.
 fn made_alone_by<L: Ledger>(
     alloc: Global,
@@ -183,6 +226,24 @@ fn workers_make_what_one_thread_makes(rt: HostRuntime) {
         assert!(rt;
             made.is_some_and(|made| made.0 == text && made.1 == inlined),
             "{workers} held workers"
+        );
+    }
+}
+
+#[test]
+fn workers_hand_on_what_one_thread_makes(rt: HostRuntime) {
+    let alloc = rt.alloc();
+    let Ok(module) = check_text(&rt, alloc, TEXT.as_bytes(), 1) else {
+        panic!(&rt; "refused");
+    };
+    let Some((text, _inlined)) = made_alone(alloc, &module) else {
+        panic!(&rt; "no memory");
+    };
+    for workers in [1, 3, 64] {
+        let handed = handed_on(&rt, alloc, &module, workers);
+        assert!(rt;
+            handed.is_some_and(|handed| handed == text),
+            "{workers} workers"
         );
     }
 }

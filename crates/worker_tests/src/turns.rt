@@ -14,6 +14,7 @@ use std::collections::VecDeque;
 use std::marker::Brand;
 use std::sync::Wait;
 use std::sync::ledger::{Blank, Ledger};
+use std::thread::Threads;
 use step_counter::Steps;
 use worker_driver::{Plan, Turn, turn};
 
@@ -86,7 +87,7 @@ fn turn_of_last<R: Wait, L: Ledger>(
 }
 
 /// The same at a table for the functions of a module.
-fn turn_after_refusal<R: Wait>(
+fn turn_after_refusal<R: Threads + Wait + Sync>(
     rt: &R,
     alloc: Global,
     module: &Checked,
@@ -95,7 +96,7 @@ fn turn_after_refusal<R: Wait>(
     requires { IsLimited policy }
 {
     let functions = module.module();
-    let plan = Plan::new(alloc, functions)?;
+    let plan = Plan::new(rt, alloc, functions, 2)?;
     let (board, seats) = Board::new(alloc, functions, policy, 2)?;
     let blank = Blank::new(1);
     Ok(turn_of_last::<R, Brand>(rt, alloc, module, &plan, policy, &board, seats, blank))

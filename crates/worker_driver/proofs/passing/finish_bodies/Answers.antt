@@ -1,4 +1,5 @@
 use Rattle.std.proofs.Common.{◌≡◌, ℕ, ◌+◌, List, length, ◌∙◌, subst, arith}
+use Rattle.std.proofs.lemmas.Result.{on_ok_weaker}
 use Rattle.ir_core.specs.Module.{Module}
 use Rattle.ir_core.specs.WellFormed.{DifferentNames}
 use Rattle.inline_finish.specs.declared.bodies.Policy.{Policy}
@@ -9,7 +10,7 @@ use Rattle.publish_table.specs.Seats.{IsMade}
 use Rattle.worker_driver.specs.Turns.{inlined_at, cost_in}
 use Rattle.worker_driver.proofs.Closing.{many, all_idle, all_seats, answered, all_cost}
 use Rattle.worker_driver.proofs.Costs.{cost_all}
-use Rattle.worker_driver.proofs.passing.pass_with.Goals as goal
+use Rattle.worker_driver.proofs.passing.finish_bodies.Goals as goal
 
 pub drive-requires-clause-seats : goal.drive-requires-clause-seats
 drive-requires-clause-seats g c κs within =
@@ -26,13 +27,13 @@ close-cells-requires g c =
     all_seats m c.args.policy w b all made out (omega arith) (omega (arith, c.in_ok-board.seats.ok, c.in_ok-seats.seats.ok))
     (λ i d l. c.in_ok-seats.ensures.each i d (omega (arith, c.in_ok-board.seats.ok, l)))
 
-pub gather-requires-clause-cells : goal.gather-requires-clause-cells
-gather-requires-clause-cells g c =
+pub gather_bodies-requires-clause-cells : goal.gather_bodies-requires-clause-cells
+gather_bodies-requires-clause-cells g c =
     answered c.module-functions.result.now c.args.policy c.args.workers c.in_ok-board.board c.in_ok-board.seats.items c.in_ok-board.ensures
     c.in_ok-seats.seats.items c.close-cells.result.items c.close-cells.ensures
 
 pub returns-clause-steps : goal.returns-clause-steps
-returns-clause-steps g c =
+returns-clause-steps g c = on_ok_weaker c.gather_bodies.result (λ none.
     let m : Module = c.args.«module».now in let b : Board = c.in_ok-board.board in let all : List Seat = c.in_ok-board.seats.items in let w : ℕ = c.args.workers in
     let p : Policy = c.args.policy in
     let made : IsMade m p w b all = subst (λ (fs : Module). IsMade fs p w b all) c.module-functions.ensures.same c.in_ok-board.ensures in
@@ -40,6 +41,6 @@ returns-clause-steps g c =
     let long : length out ≡ length all = omega (arith, c.in_ok-board.seats.ok, c.in_ok-seats.seats.ok) in
     let names = subst (λ (fs : Module). DifferentNames fs) c.module-functions.ensures.same c.module-functions.ensures.functions.names in
     let cost : cost_in p m out ≡ _ = all_cost m p w b all made out cells long
-    (λ i d l. c.in_ok-seats.ensures.each i d (omega (arith, c.in_ok-board.seats.ok, l))) c.close-cells.ensures c.in_ok-passed.ensures.bodies (λ t. 1 + inlined_at p m t)
+    (λ i d l. c.in_ok-seats.ensures.each i d (omega (arith, c.in_ok-board.seats.ok, l))) c.close-cells.ensures none (λ t. 1 + inlined_at p m t)
     ∙ cost_all p m names in
-    let steps = c.in_ok-seats.ensures.steps in omega arith
+    let steps = c.in_ok-seats.ensures.steps in omega arith) c.gather_bodies.ensures.none_refused

@@ -7,11 +7,12 @@ ghost use Rattle.settings.specs.Shown.{inline_shown};
 ghost use Rattle.clifinl.specs.InlineCommand.{IsInlineRun, policy_of};
 ghost use Rattle.clifinl.specs.Runs.{Wrote, outside};
 
+use crate::bodies::Bodies;
 use crate::reading::read_module;
 use crate::status::Status;
 use crate::writing::write_text;
 use clk_flow::{Gate, Sink, Source};
-use inline_finish::{Passed, Policy};
+use inline_finish::Policy;
 use ir_check::Checked;
 use settings::InlineSettings;
 use std::alloc::{AllocError, Global};
@@ -20,7 +21,7 @@ use std::mem::forget;
 use std::sync::Wait;
 use std::sync::ledger::{Blank, Ledger};
 use std::thread::Threads;
-use worker_driver::{Steps, pass_with};
+use worker_driver::{Finished, Steps, finish_with};
 
 /// Reads a module and writes the canonical text of its finished bodies, where it is accepted. The workers share the job
 /// of reading, of the pass and of printing; what is written does not depend on their number. The gate is told of each
@@ -66,9 +67,12 @@ fn write_inlined<R: Threads + Wait + Sync, O: Sink, G: Gate>(
     inlined_reads::laws::inlined_text_is_one();
     let workers = options.workers;
     match pass_counted::<R, G, Brand>(rt, alloc, checked, options, gate, Blank::new(1)) {
-        Ok(passed) => {
-            let status = write_text(rt, alloc, passed.module.module(), workers, out);
-            forget(passed);
+        Ok(finished) => {
+            let bodies = Bodies {
+                finished: &finished,
+            };
+            let status = write_text(rt, alloc, &bodies, workers, out);
+            forget(finished);
             status
         }
         Err(_) => Status::NoMemory,
@@ -83,17 +87,17 @@ fn pass_counted<R: Threads + Wait + Sync, G: Gate, L: Ledger>(
     options: &InlineSettings,
     gate: &G,
     blank: Blank,
-) -> Result<Passed, AllocError>
+) -> Result<Finished, AllocError>
     requires blank { (blank.name ≡ L.name) × (blank.parts ≡ L.parts) × (0 < blank.parts) }
     ensures { IfOk result (λ r. SameUpToNumbering
-        (passed (policy_of (inline_shown options.now)) checked.now) r.«module») }
+        (passed (policy_of (inline_shown options.now)) checked.now) r) }
 {
     let mut steps: Steps<L> = Steps::open(blank);
     let policy = Policy {
         callee_size: options.callee_size,
         caller_size: options.caller_size,
     };
-    pass_with(
+    finish_with(
         rt,
         alloc,
         checked,

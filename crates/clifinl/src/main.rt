@@ -1,6 +1,7 @@
 //! The commands of `clifinl` over the standard streams.
 #![tactic(auto)]
 
+mod bodies;
 mod command;
 mod commands;
 mod generating;

@@ -9,9 +9,8 @@ ghost use Rattle.clifinl.specs.Runs.{Wrote, line_of_count};
 use crate::pieces::put_all;
 use crate::status::Status;
 use clk_flow::{Failed, Sink};
-use ir_core::Module;
 use itoa::Buffer;
-use print_workers::{PrintErr, print_with};
+use print_workers::{Functions, PrintErr, print_with};
 use std::alloc::Global;
 use std::sync::Wait;
 use std::thread::Threads;
@@ -47,20 +46,20 @@ fn put_count<K: Sink>(sink: &mut K, count: usize) -> Result<(), Failed>
     )
 }
 
-/// Writes the canonical text of a module by so many workers.
-pub(crate) fn write_text<R: Threads + Wait + Sync, O: Sink>(
+/// Writes the canonical text of functions by so many workers.
+pub(crate) fn write_text<R: Threads + Wait + Sync, F: Functions, O: Sink>(
     rt: &R,
     alloc: Global,
-    module: &Module,
+    functions: &F,
     workers: usize,
     out: &mut O,
 ) -> Status
     requires { 0 < workers }
-    ensures wrote { Wrote (text_of «module».now) (O.written out.old) (O.written out.new)
+    ensures wrote { Wrote (text_of (F.functions functions.now)) (O.written out.old) (O.written out.new)
         (O.faults out.old) (O.faults out.new) result }
     ensures nothing { (out.new ≡ out.old) ⊎ ((result ≡ Status.Done) ⊎ (result ≡ Status.WriteFault)) }
 {
-    match print_with(rt, alloc, module, workers, out) {
+    match print_with(rt, alloc, functions, workers, out) {
         Ok(()) => Status::Done,
         Err(PrintErr::Failed) => Status::WriteFault,
         Err(PrintErr::NoMemory) => Status::NoMemory,

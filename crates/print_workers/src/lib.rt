@@ -1,7 +1,9 @@
-//! The canonical text of a module, written in parts by several workers.
+//! The canonical text of functions, written in parts by several workers.
 #![tactic(auto)]
 
 mod cuts;
+mod functions;
 mod parts;
 
+pub use functions::Functions;
 pub use parts::{PrintErr, print_with};

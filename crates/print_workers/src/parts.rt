@@ -1,4 +1,4 @@
-//! The text of a module, written in parts by several workers.
+//! The text of functions, written in parts by several workers.
 ghost use Rattle.std.specs.Prelude.{◌≡◌, ℕ, ◌≤◌, ◌<◌, ◌+◌, IfErr, IfOk, OnErr, OnOk, Ok, length, map, flat_map};
 ghost use Rattle.std.specs.Prelude.{slice_index, slice_index_or};
 ghost use Rattle.std.specs.Io.KnownBytes.{Appends};
@@ -11,16 +11,17 @@ ghost use Rattle.print_workers.specs.Parts.{AreCuts, IsPart, PutsPart, before_fu
 ghost use Rattle.print_workers.specs.declared.parts.PrintErr.TheVariants as why;
 
 use crate::cuts::even_cuts;
+use crate::functions::Functions;
 use clif_numbers::func_numbers;
 use clif_print::put_function;
 use clk_flow::{Failed, Sink};
-use ir_core::{Func, Module};
+use ir_core::Func;
 use std::alloc::{AllocError, Global};
 use std::thread::{Threads, map_indices};
 use text_output::{MemoryOutput, Output, SinkOutput};
 use thiserror::Error;
 
-/// Why a module was not printed.
+/// Why the functions were not printed.
 #[derive(Clone, Copy, PartialEq, Eq, Debug, Error)]
 pub enum PrintErr {
     /// The sink failed.
@@ -31,25 +32,27 @@ pub enum PrintErr {
     NoMemory,
 }
 
-/// Appends the canonical text of the module. At most so many workers write it into memory, a part each, before the sink
-/// is given the first byte. `Failed` comes only where the sink's count of faults rose; a beginning of the text was
+/// Appends the canonical text of the functions. At most so many workers write it into memory, a part each, before the
+/// sink is given the first byte. `Failed` comes only where the sink's count of faults rose; a beginning of the text was
 /// appended then. After `NoMemory` the sink is as it was.
-pub fn print_with<R: Threads + Sync, K: Sink>(
+pub fn print_with<R: Threads + Sync, F: Functions, K: Sink>(
     rt: &R,
     alloc: Global,
-    module: &Module,
+    functions: &F,
     workers: usize,
     sink: &mut K,
 ) -> Result<(), PrintErr>
     requires { 0 < workers }
-    ensures whole { OnOk result (Appends (K.written sink.old) (K.written sink.new) (text_of «module».now)) }
+    ensures whole { OnOk result
+        (Appends (K.written sink.old) (K.written sink.new) (text_of (F.functions functions.now))) }
     ensures part { IfErr result
-        (λ e. e ≡ why.Failed → AppendsPrefix (K.written sink.old) (K.written sink.new) (text_of «module».now)) }
+        (λ e. e ≡ why.Failed
+        → AppendsPrefix (K.written sink.old) (K.written sink.new) (text_of (F.functions functions.now))) }
     ensures cause { IfErr result (λ e. e ≡ why.Failed → Rose (K.faults sink.old) (K.faults sink.new)) }
     ensures unwritten { IfErr result (λ e. e ≡ why.NoMemory → sink.new ≡ sink.old) }
     ensures later { K.faults sink.old ≤ K.faults sink.new }
 {
-    let Ok(texts) = part_texts(rt, alloc, module, workers) else {
+    let Ok(texts) = part_texts(rt, alloc, functions, workers) else {
         return Err(PrintErr::NoMemory);
     };
     match put_texts(sink, texts.as_slice()) {
@@ -82,49 +85,51 @@ fn put_all<O: Output>(out: &mut O, texts: &[Vec<u8>])
     }
 }
 
-/// The text of the module in parts, which at most so many workers write. Only `AllocError` refuses.
-fn part_texts<R: Threads + Sync>(
+/// The text of the functions in parts, which at most so many workers write. Only `AllocError` refuses.
+fn part_texts<R: Threads + Sync, F: Functions>(
     rt: &R,
     alloc: Global,
-    module: &Module,
+    functions: &F,
     workers: usize,
 ) -> Result<Vec<Vec<u8>>, AllocError>
     requires { 0 < workers }
-    ensures { IfOk result (λ texts. flat_map (λ text. text.items) texts.items ≡ text_of «module».now) }
+    ensures { IfOk result
+        (λ texts. flat_map (λ text. text.items) texts.items ≡ text_of (F.functions functions.now)) }
 {
-    if module.is_empty() {
+    if functions.len() == 0 {
         return Ok(Vec::new(alloc));
     }
-    let parts = workers.min(module.len());
-    let cuts = even_cuts(alloc, module, parts)?;
+    let parts = workers.min(functions.len());
+    let cuts = even_cuts(alloc, functions, parts)?;
     all_texts(
         alloc,
-        texts_between(rt, alloc, module, parts, cuts.as_slice())?,
+        texts_between(rt, alloc, functions, parts, cuts.as_slice())?,
     )
 }
 
-/// The parts of the module's text between its cuts, each by a worker, if there was memory for it.
-fn texts_between<R: Threads + Sync>(
+/// The parts of the functions' text between its cuts, each by a worker, if there was memory for it.
+fn texts_between<R: Threads + Sync, F: Functions>(
     rt: &R,
     alloc: Global,
-    module: &Module,
+    functions: &F,
     parts: usize,
     cuts: &[usize],
 ) -> Result<Vec<Result<Vec<u8>, AllocError>>, AllocError>
-    requires { AreCuts (length «module».now) parts cuts.now }
+    requires { AreCuts (length (F.functions functions.now)) parts cuts.now }
     ensures number { IfOk result (λ answers. length answers.items ≡ parts) }
     ensures each { IfOk result
         (λ answers. (i : ℕ) (d : _) → i < parts
         → IfOk (slice_index_or answers.items i d)
-        (λ text. IsPart «module».now (slice_index cuts.now i) (slice_index cuts.now (i + 1)) text.items)) }
+        (λ text. IsPart (F.functions functions.now) (slice_index cuts.now i)
+        (slice_index cuts.now (i + 1)) text.items)) }
 {
     let write = |i: usize| -> Result<Vec<u8>, AllocError>
         requires { (i + 1 < length cuts.now) × (slice_index cuts.now i ≤ slice_index cuts.now (i + 1))
-            × (slice_index cuts.now (i + 1) ≤ length «module».now) }
+            × (slice_index cuts.now (i + 1) ≤ length (F.functions functions.now)) }
         ensures { IfOk result
-            (λ text. IsPart «module».entry.now (slice_index cuts.entry.now i)
+            (λ text. IsPart (F.functions functions.entry.now) (slice_index cuts.entry.now i)
             (slice_index cuts.entry.now (i + 1)) text.items) }
-    { part_text(alloc, module, cuts[i], cuts[i + 1]) };
+    { part_text(alloc, functions, cuts[i], cuts[i + 1]) };
     map_indices(rt, alloc, parts, &write)
 }
 
@@ -142,30 +147,35 @@ fn all_texts(
     Ok(texts)
 }
 
-/// The part of the module's text from a function on and before another. Only `AllocError` refuses.
-fn part_text(alloc: Global, module: &Module, from: usize, end: usize) -> Result<Vec<u8>, AllocError>
-    requires { (from ≤ end) × (end ≤ length «module».now) }
-    ensures { IfOk result (λ text. IsPart «module».now from end text.items) }
+/// The part of the functions' text from a function on and before another. Only `AllocError` refuses.
+fn part_text<F: Functions>(
+    alloc: Global,
+    functions: &F,
+    from: usize,
+    end: usize,
+) -> Result<Vec<u8>, AllocError>
+    requires { (from ≤ end) × (end ≤ length (F.functions functions.now)) }
+    ensures { IfOk result (λ text. IsPart (F.functions functions.now) from end text.items) }
 {
     let mut out = MemoryOutput::new(alloc);
-    put_part(&mut out, alloc, module, from, end)?;
+    put_part(&mut out, alloc, functions, from, end)?;
     out.finish()
 }
 
-/// Puts the part of the module's text from a function on and before another. Only `AllocError` refuses.
-fn put_part<O: Output>(
+/// Puts the part of the functions' text from a function on and before another. Only `AllocError` refuses.
+fn put_part<O: Output, F: Functions>(
     out: &mut O,
     alloc: Global,
-    module: &Module,
+    functions: &F,
     from: usize,
     end: usize,
 ) -> Result<(), AllocError>
-    requires { (from ≤ end) × (end ≤ length «module».now) }
-    ensures { OnOk result (PutsPart O.holds out.old out.new «module».now from end) }
+    requires { (from ≤ end) × (end ≤ length (F.functions functions.now)) }
+    ensures { OnOk result (PutsPart O.holds out.old out.new (F.functions functions.now) from end) }
 {
     for i in from..end {
         put_before_function(out, i);
-        put_alone(out, alloc, module.func(i))?;
+        put_alone(out, alloc, functions.func(i))?;
     }
     Ok(())
 }

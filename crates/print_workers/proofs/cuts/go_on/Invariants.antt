@@ -2,10 +2,10 @@ use Rattle.std.proofs.Common.{◌≤◌, ◌-◌, length}
 use Rattle.print_workers.proofs.cuts.go_on.Given as goal
 
 abbrev pub invariant-functions : goal.invariant-functions
-invariant-functions l = record {
+invariant-functions g l = record {
   later : l.fn.from.func ≤ l.reached.func;
-  within : l.reached.func ≤ length l.module;
+  within : l.reached.func ≤ length (g.F.Functions.functions l.functions);
 }
 
 abbrev pub decreases-functions : goal.decreases-functions
-decreases-functions l = length l.module - l.reached.func
+decreases-functions g l = length (g.F.Functions.functions l.functions) - l.reached.func

@@ -57,7 +57,7 @@ means_join [] ss (x ∷ fs) gs f g = absurd f
 means_join (r ∷ rs) ss [] gs f g = absurd f
 means_join (r ∷ rs) ss (x ∷ fs) gs f g = (f.0, means_join rs ss fs gs f.1 g)
 
-meant_join : (rs ss : List RawFunction) (fs gs : List Function) → AreMeant rs fs → AreMeant ss gs → AreMeant (rs ++ ss) (fs ++ gs)
+pub meant_join : (rs ss : List RawFunction) (fs gs : List Function) → AreMeant rs fs → AreMeant ss gs → AreMeant (rs ++ ss) (fs ++ gs)
 meant_join rs ss fs gs f g = record {
   free = each_join NoFunctionFault rs ss f.free g.free;
   mean = means_join rs ss fs gs f.mean g.mean;

@@ -13,7 +13,7 @@ use std::alloc::Global;
 use std::thread::Threads;
 
 /// Functions of different names, of which each is found by its name.
-pub(crate) trait Named {
+pub trait Named {
     /// The functions, in order.
     ghost functions: { Self → definitions.Module };
 
@@ -139,8 +139,8 @@ impl<'n, N: Named + Sync> Ranges<()> for NamedRanges<'n, N> {
 const FUNCTIONS: usize = 1_024;
 
 /// Whether each callee declaration of these functions states the signature of the function that it names, if there is
-/// one; by so many workers.
-pub(crate) fn declare_all<R: Threads + Sync, N: Named + Sync>(
+/// one; by so many workers. Of the functions heads are enough. False also where memory runs out.
+pub fn declare_all<R: Threads + Sync, N: Named + Sync>(
     rt: &R,
     alloc: Global,
     all: &N,

@@ -1,5 +1,5 @@
 //! Laws of the definitions: functions without a body, each of which has its law as its contract.
-ghost use Rattle.clif_check.specs.Laws.{AcceptedHasNoFault, OneModule};
+ghost use Rattle.clif_check.specs.Laws.{AcceptedByHeads, AcceptedHasNoFault, OneModule};
 
 /// A text that is accepted has no fault.
 pub fn accepted_has_no_fault()
@@ -9,4 +9,9 @@ pub fn accepted_has_no_fault()
 /// A text is accepted as one module at most.
 pub fn one_module()
     ensures { OneModule }
+{}
+
+/// A text is accepted where its functions keep their own rules, and their heads declare what they call as it is.
+pub fn accepted_by_heads()
+    ensures { AcceptedByHeads }
 {}

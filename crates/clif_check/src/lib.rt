@@ -9,4 +9,5 @@ mod parts;
 mod stretches;
 
 pub use checking::{check_raw, check_text};
+pub use declarations::{Named, declare_all};
 pub use heads::check_heads;

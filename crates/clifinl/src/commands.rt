@@ -4,9 +4,9 @@ ghost use Rattle.clif_check.specs.Faults.{IsAccepted};
 ghost use Rattle.ir_text.specs.Text.{text_of};
 ghost use Rattle.clifinl.specs.Runs.{IsFirstFault, IsRun, count_line, outside};
 
-use crate::reading::{read_heads, read_module};
+use crate::reading::{read_canonical_text, read_heads};
 use crate::status::Status;
-use crate::writing::{write_count, write_text};
+use crate::writing::{write_canonical_text, write_count};
 use clk_flow::{Sink, Source};
 use std::alloc::Global;
 use std::mem::forget;
@@ -51,10 +51,10 @@ pub(crate) fn print<R: Threads + Wait + Sync, I: Source, O: Sink>(
         (outside (I.left input.new) (I.faults input.new) (O.written out.new) (O.faults out.new)) result }
     ensures nothing { (out.new ≡ out.old) ⊎ ((result ≡ Status.Done) ⊎ (result ≡ Status.WriteFault)) }
 {
-    match read_module(rt, alloc, WORKERS, input) {
-        Ok(checked) => {
-            let status = write_text(rt, alloc, checked.module(), WORKERS, out);
-            forget(checked);
+    match read_canonical_text(rt, alloc, WORKERS, input) {
+        Ok(written) => {
+            let status = write_canonical_text(&written, out);
+            forget(written);
             status
         }
         Err(status) => status,

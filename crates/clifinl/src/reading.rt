@@ -2,9 +2,12 @@
 ghost use Rattle.std.specs.Prelude.{◌≡◌, ◌≤◌, ℕ, List, Option, IfErr, IfOk, length};
 ghost use Rattle.clif_check.specs.Faults.{IsAccepted, IsFault};
 ghost use Rattle.clif_check.specs.Heads.{IsAcceptedHeads};
+ghost use Rattle.ir_core.specs.Module.{Module};
+ghost use Rattle.ir_text.specs.Text.{text_of};
 ghost use Rattle.clifinl.specs.Runs.{IsFirstFault, IsPlaceOf, NoText, ReadsWhole, Stopped, Took};
 
 use crate::status::{Refusal, Status};
+use canonical_text::{CanonicalText, make_canonical_text};
 use clif_check::{check_heads, check_text};
 use clif_lex::{Place, TextErr, place};
 use clk_flow::{ReadErr, Source, read_whole};
@@ -81,6 +84,32 @@ pub(crate) fn read_heads<R: Threads + Wait + Sync, I: Source>(
     };
     match check_heads(rt, alloc, bytes.as_slice(), workers) {
         Ok(heads) => Ok(heads),
+        Err(err) => Err(refuse_text(bytes.as_slice(), err)),
+    }
+}
+
+/// The canonical text of the accepted module of the source's text, checked and printed by so many workers.
+///
+/// # Errors
+///
+/// The status of a run that stops here.
+pub(crate) fn read_canonical_text<R: Threads + Wait + Sync, I: Source>(
+    rt: &R,
+    alloc: Global,
+    workers: usize,
+    input: &mut I,
+) -> Result<CanonicalText, Status>
+    ensures read { IfOk result (λ written. (m : Module)
+        × Took IsAccepted (I.left input.old) (I.left input.new) m × (written ≡ text_of m)) }
+    ensures stopped { IfErr result (λ status. Stopped IsFirstFault (I.left input.old) (I.left input.new)
+        (I.faults input.old) (I.faults input.new) status) }
+{
+    let bytes = match read_input(alloc, input) {
+        Ok(bytes) => bytes,
+        Err(status) => return Err(status),
+    };
+    match make_canonical_text(rt, alloc, bytes.as_slice(), workers) {
+        Ok(written) => Ok(written),
         Err(err) => Err(refuse_text(bytes.as_slice(), err)),
     }
 }

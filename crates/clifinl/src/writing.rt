@@ -8,6 +8,7 @@ ghost use Rattle.clifinl.specs.Runs.{Wrote, line_of_count};
 
 use crate::pieces::put_all;
 use crate::status::Status;
+use canonical_text::CanonicalText;
 use clk_flow::{Failed, Sink};
 use itoa::Buffer;
 use print_workers::{Functions, PrintErr, print_with};
@@ -22,6 +23,18 @@ pub(crate) fn write_count<O: Sink>(count: usize, out: &mut O) -> Status
     ensures some { (result ≡ Status.Done) ⊎ (result ≡ Status.WriteFault) }
 {
     match put_count(out, count) {
+        Ok(()) => Status::Done,
+        Err(_) => Status::WriteFault,
+    }
+}
+
+/// Writes a canonical text. It takes no memory.
+pub(crate) fn write_canonical_text<O: Sink>(text: &CanonicalText, out: &mut O) -> Status
+    ensures wrote { Wrote text.now (O.written out.old) (O.written out.new)
+        (O.faults out.old) (O.faults out.new) result }
+    ensures some { (result ≡ Status.Done) ⊎ (result ≡ Status.WriteFault) }
+{
+    match text.write(out) {
         Ok(()) => Status::Done,
         Err(_) => Status::WriteFault,
     }

@@ -9,4 +9,6 @@ mod printing;
 #[cfg(test)]
 mod seats;
 #[cfg(test)]
+mod stretches;
+#[cfg(test)]
 mod turns;

@@ -3,8 +3,8 @@ use Rattle.clifinl.proofs.commands.print.Goals as goal
 
 pub returns-in-Ok-clause-run : goal.returns-in-Ok-clause-run
 returns-in-Ok-clause-run g c =
-    let wrote = rw c.module.ensures.same at c.write_text-status.ensures.wrote in
-    written _ _ _ _ _ _ _ c.in-Ok.ensures.read wrote
+    let (m, took, same) = c.in-Ok.ensures.read in
+    written _ _ _ _ _ _ _ took (rw same at c.write_canonical_text-status.ensures.wrote)
 
 pub returns-in-Err-clause-run : goal.returns-in-Err-clause-run
 returns-in-Err-clause-run g c = stopped _ _ _ _ _ honest _ c.in-Err.ensures.stopped

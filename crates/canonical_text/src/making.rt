@@ -8,7 +8,7 @@ ghost use Rattle.canonical_text.specs.Accepted.{IsAcceptedText};
 use crate::functions::put_module;
 use crate::stretches::print_stretches;
 use crate::written::CanonicalText;
-use clif_check::check_text;
+use clif_check::check_text_alone;
 use clif_lex::TextErr;
 use ir_core::Module;
 use read_workers::STRETCH;
@@ -43,7 +43,7 @@ fn print_alone(alloc: Global, module: &Module) -> Result<CanonicalText, TextErr>
 /// each function is printed as soon as it is known to keep its own rules, and then its body is let go: so memory is
 /// needed for the text, for what is printed, for the heads, and for a stretch and a function of each worker. A short
 /// text is checked and printed by the calling thread alone. All stages take time linear in the text, but for
-/// logarithms. A long text that is not accepted is read again, as `check_text` reads it.
+/// logarithms. A long text that is not accepted is read again by the calling thread alone.
 ///
 /// # Errors
 ///
@@ -62,7 +62,7 @@ pub fn make_canonical_text<R: Threads + Sync>(
             return Ok(written);
         }
     }
-    match check_text(rt, alloc, text, workers) {
+    match check_text_alone(alloc, text) {
         Ok(checked) => print_alone(alloc, checked.module()),
         Err(err) => Err(err),
     }

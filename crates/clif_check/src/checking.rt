@@ -44,8 +44,12 @@ pub fn check_text<R: Threads + Sync>(
     check_text_alone(alloc, text)
 }
 
-/// As `check_text`, by the calling thread alone.
-pub(crate) fn check_text_alone(alloc: Global, text: &[u8]) -> Result<Checked, TextErr>
+/// As `check_text`, by the calling thread alone: for a short text, and for one that is known to have a fault.
+///
+/// # Errors
+///
+/// The first fault of the text, as `check_text` gives it.
+pub fn check_text_alone(alloc: Global, text: &[u8]) -> Result<Checked, TextErr>
     ensures accepted { IfOk result (λ m. IsAccepted text.now m) }
     ensures fault { IfErr result (λ e. IsFault text.now e) }
 {

@@ -9,6 +9,7 @@ use Rattle.ir_core.specs.Lookup.{find_block}
 use Rattle.ir_core.specs.Lists.{In, Each}
 use Rattle.ir_semantics.specs.Accepted.{Rule, no_terminator, entry_target, count_mismatch, type_mismatch, convention, signature_mismatch, slot_range, tag_place, not_available, Holds, RulesHold, Accepted}
 use Rattle.ir_core.proofs.Equal.{number_equal}
+use Rattle.used_values.proofs.Using.{each_of}
 use Rattle.ir_check.specs.Faults.{callee_items, line_items, block_items, items, Check, check, tried_at, tried, first_rules, last_rules, checks, FirstBad, this, later, Passed}
 use Rattle.ir_check.specs.Laws.{AtMostOne, FaultIsReal, AcceptedHasNone, AllPassed, AcceptedOrFault}
 
@@ -45,10 +46,6 @@ pub each_at : {A : Type 0} (P : A → Type 0) (xs : List A) → Each P xs → (x
 each_at P [] e x h = elim h [ ]
 each_at P (a ∷ xs) e x (inl q) = subst P (sym q) e.0
 each_at P (a ∷ xs) e x (inr i) = each_at P xs e.1 x i
-
-pub each_of : {A : Type 0} (P : A → Type 0) (xs : List A) → ((x : A) → In x xs → P x) → Each P xs
-each_of P [] h = tt
-each_of P (a ∷ xs) h = (h a (inl refl), each_of P xs (λ x i. h x (inr i)))
 
 -- ---- the first that is not good
 

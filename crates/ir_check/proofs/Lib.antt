@@ -2,10 +2,8 @@ pub mod Firsts
 pub mod Tests
 pub mod ByTests
 pub mod Walking
-pub mod Walks
+pub mod Targets
 pub mod Signed
-pub mod Ranged
 pub mod Rowed
-pub mod Using
 pub mod Searching
-pub mod Passing
+pub mod Unfound

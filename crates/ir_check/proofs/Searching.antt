@@ -23,6 +23,7 @@ use Rattle.ir_semantics.proofs.SafetyPlaces.{each_in, get_in, block_in}
 use Rattle.avail_flow.proofs.Blocks.{number_found, found_parts}
 use Rattle.avail_flow.proofs.Edging.{line_at}
 use Rattle.avail_flow.proofs.Listing.{left_at, left_past}
+use Rattle.used_values.proofs.Using.{each_of}
 use Rattle.ir_check.specs.declared.faults.Fault.{Fault}
 use Rattle.ir_check.specs.declared.kinds.CheckKind.{CheckKind}
 use Rattle.ir_check.specs.declared.kinds.CheckKind.TheVariants as kind
@@ -31,7 +32,7 @@ use Rattle.ir_check.specs.Found.{Finds, FindsAny, block_at, block_parts}
 use Rattle.ir_check.specs.Kinds.{rule_of, rule_named, failing_rule, line_keeps}
 use Rattle.ir_check.specs.Twins.{kept, filled, empty, implies, is_first, kept_at_line, kept_at_block, kept_at_callee, always_available, ends_by, ends_rightly, if_some, leaves}
 use Rattle.ir_check.proofs.ByTests.{longer, not_last}
-use Rattle.ir_check.proofs.Firsts.{each_at, each_of}
+use Rattle.ir_check.proofs.Firsts.{each_at}
 use Rattle.ir_check.proofs.Tests.{Twin, kept_is}
 use Rattle.ir_check.proofs.Walking.{in_find}
 

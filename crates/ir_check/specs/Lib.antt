@@ -6,4 +6,3 @@ pub mod Refusal
 pub mod Accepting
 pub mod RowTypes
 pub mod Kinds
-pub mod Nearby

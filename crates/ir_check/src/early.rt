@@ -225,7 +225,7 @@ pub(crate) fn find_first(func: &Func) -> Block
 
 /// The first fault but availability in a function, which stands at this place of the module. Takes time linear in the
 /// function, but for the logarithms of `check`.
-pub fn find_fault_in_func(
+pub(crate) fn find_fault_in_func(
     module: &Module,
     sigs: &ModuleSigs<'_>,
     func: &Func,

@@ -8,11 +8,10 @@ ghost use Rattle.ir_check.specs.Found.{FindsIn, FindsAny, line_checks, checks_of
 
 use crate::faults::Fault;
 use crate::kinds::CheckKind;
-use crate::nearby::shows_available;
-use crate::uses::uses_available;
 use avail_flow::{Avail, flow};
 use ir_core::{Block, Func, Item, Module, Point};
 use std::alloc::{AllocError, Global};
+use used_values::{shows_available, uses_available};
 
 /// The first instruction of a block that uses a value that is not available. `number` is the function's place.
 fn find_use_in_lines(avail: &Avail<'_>, func: &Func, number: usize, block: Block) -> Option<Fault>
@@ -50,7 +49,7 @@ fn find_use_in_blocks(avail: &Avail<'_>, func: &Func, number: usize) -> Option<F
 
 /// The first instruction of a function that uses a value that is not available. `number` is the function's place. The
 /// paths are read only where the numbers of the values do not show the answer. Only `AllocError` refuses.
-pub fn find_use_in_func(
+pub(crate) fn find_use_in_func(
     alloc: Global,
     func: &Func,
     number: usize,

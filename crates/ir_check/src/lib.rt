@@ -12,18 +12,14 @@ mod kinds;
 mod late;
 pub mod laws;
 mod lines;
-mod nearby;
 mod own;
 mod row_types;
 mod rules;
 mod types;
 mod typing;
-mod uses;
 
 pub use checked::Checked;
 pub use checking::{CheckErr, Rejected, check};
-pub use early::find_fault_in_func;
 pub use faults::Fault;
 pub use kinds::CheckKind;
-pub use late::find_use_in_func;
 pub use own::keeps_own_rules;

@@ -1,4 +1,4 @@
-use Rattle.ir_check.proofs.Walks.{block_stands, counts_equal, counts_differ}
+use Rattle.ir_check.proofs.Targets.{block_stands, counts_equal, counts_differ}
 use Rattle.ir_check.proofs.counts.counts_target.Goals as goal
 
 pub params-requires : goal.params-requires

@@ -3,8 +3,9 @@ use Rattle.std.specs.List.{list_all}
 use Rattle.std.specs.Option.{option_copied}
 use Rattle.ir_core.specs.Uses.{targets}
 use Rattle.ir_core.specs.Viewed.{instruction_of}
+use Rattle.used_values.proofs.Walks.{all_more, all_fails, all_done, fewer}
 use Rattle.ir_check.specs.Twins.{target_counts}
-use Rattle.ir_check.proofs.Walks.{all_more, all_fails, all_done, fewer, target_below}
+use Rattle.ir_check.proofs.Targets.{target_below}
 use Rattle.ir_check.proofs.counts.counts_targets.Goals as goal
 
 pub returns-then-not-counts_target : goal.returns-then-not-counts_target

@@ -1,5 +1,5 @@
 use Rattle.ir_check.proofs.Searching.{late_items}
-use Rattle.ir_check.proofs.Passing.{none_found}
+use Rattle.ir_check.proofs.Unfound.{none_found}
 use Rattle.ir_check.proofs.late.find_use_in_func.Goals as goal
 
 pub returns-then-shows_available : goal.returns-then-shows_available

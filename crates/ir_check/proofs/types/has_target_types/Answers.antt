@@ -1,7 +1,6 @@
 use Rattle.std.proofs.Common.{◌∙◌}
 use Rattle.ir_core.specs.Lookup.{param_types}
-use Rattle.ir_check.proofs.Walks.{block_stands}
-use Rattle.ir_check.proofs.Ranged.{block_params_below, target_typed}
+use Rattle.ir_check.proofs.Targets.{block_stands, block_params_below, target_typed}
 use Rattle.ir_check.proofs.types.has_target_types.Goals as goal
 
 pub params-requires : goal.params-requires

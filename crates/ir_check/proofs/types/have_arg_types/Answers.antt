@@ -1,5 +1,5 @@
 use Rattle.std.proofs.Common.{length}
-use Rattle.ir_check.proofs.Ranged.{arg_below}
+use Rattle.used_values.proofs.Ranged.{arg_below}
 use Rattle.ir_check.proofs.types.have_arg_types.Goals as goal
 
 pub find_arg_type-requires : goal.find_arg_type-requires

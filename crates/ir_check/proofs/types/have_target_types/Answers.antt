@@ -3,9 +3,10 @@ use Rattle.std.specs.List.{list_all}
 use Rattle.std.specs.Option.{option_copied}
 use Rattle.ir_core.specs.Uses.{targets}
 use Rattle.ir_core.specs.Viewed.{instruction_of}
+use Rattle.used_values.proofs.Walks.{all_more, all_fails, all_done, fewer}
+use Rattle.used_values.proofs.Ranged.{target_args_below}
 use Rattle.ir_check.specs.Twins.{target_types}
-use Rattle.ir_check.proofs.Walks.{all_more, all_fails, all_done, fewer, target_below}
-use Rattle.ir_check.proofs.Ranged.{target_args_below}
+use Rattle.ir_check.proofs.Targets.{target_below}
 use Rattle.ir_check.proofs.types.have_target_types.Goals as goal
 
 pub returns-then-not-has_target_types : goal.returns-then-not-has_target_types

@@ -4,7 +4,7 @@ use Rattle.ir_core.specs.Lists.{Below}
 use Rattle.ir_core.specs.Uses.{arg_values_used, operands, targets}
 use Rattle.ir_core.specs.Viewed.{instruction_of}
 use Rattle.ir_core.specs.declared.instructions.BlockCall.{BlockCall}
-use Rattle.ir_check.proofs.Ranged.{target_args_below, operands_below}
+use Rattle.used_values.proofs.Ranged.{target_args_below, operands_below}
 use Rattle.ir_check.proofs.typing.keeps_types.Goals as goal
 
 pub try_has_types-requires-clause-args : goal.try_has_types-requires-clause-args

@@ -1,8 +1,0 @@
-use Rattle.ir_check.proofs.Passing.{Counted, GoesTo}
-use Rattle.ir_check.proofs.nearby.find_early.Given as goal
-
-abbrev pub invariant-loop-added : goal.invariant-loop-added
-invariant-loop-added l = record {
-  counted : Counted l.func.function l.fn.block l.added-index l.fn.start l.end;
-  goes : GoesTo l.func.function l.fn.block l.added-index;
-}

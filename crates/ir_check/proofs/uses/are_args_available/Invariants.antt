@@ -1,8 +1,0 @@
-use Rattle.std.proofs.Common.{drop}
-use Rattle.ir_core.specs.Uses.{arg_values_used}
-use Rattle.ir_semantics.specs.Available.{Available}
-use Rattle.ir_check.proofs.Using.{Left}
-use Rattle.ir_check.proofs.uses.are_args_available.Given as goal
-
-abbrev pub invariant-loop-i : goal.invariant-loop-i
-invariant-loop-i l = Left (Available l.avail l.block l.index) (arg_values_used l.args) (arg_values_used (drop l.i l.args))

@@ -1,7 +1,0 @@
-use Rattle.std.proofs.Common.{drop}
-use Rattle.ir_semantics.specs.Available.{Available}
-use Rattle.ir_check.proofs.Using.{Left}
-use Rattle.ir_check.proofs.uses.are_available.Given as goal
-
-abbrev pub invariant-loop-i : goal.invariant-loop-i
-invariant-loop-i l = Left (Available l.avail l.block l.index) l.values (drop l.i l.values)

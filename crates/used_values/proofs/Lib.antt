@@ -1,0 +1,4 @@
+pub mod Walks
+pub mod Ranged
+pub mod Using
+pub mod Passing

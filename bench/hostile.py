@@ -258,7 +258,7 @@ def runs(program):
         (0, b'host %h()\n' * count + b'returned []\n', b''))
     script = ', '.join(['return'] * 131_072)
     found = call(program, ['test'], f'test run\n{HOST}; host: {script}\n; run: %f({len(script) // 8}) == []\n'.encode())
-    report = b'pass run %f line %d\n1 passed, 0 failed, 0 skipped\n' % (HOST.count('\n') + 3)
+    report = b'pass run %%f line %d\n1 passed, 0 failed, 0 skipped\n' % (HOST.count('\n') + 3)
     expect(found == (0, report, b''), f'a script of a megabyte: {found[0]} {found[1][:80]!r} {found[2]!r}')
 
 

@@ -5,12 +5,13 @@ use Rattle.ir_core.specs.declared.signatures.Sig.{Sig}
 use Rattle.ir_core.specs.declared.declarations.Callee.{Callee}
 use Rattle.ir_core.specs.Module.{Function}
 use Rattle.ir_core.specs.Lists.{Each}
+use Rattle.body_import.specs.declared.declarations.Keyed.{Keyed}
 use Rattle.body_import.specs.declared.declarations.Index.{Index}
 use Rattle.body_import.specs.declared.places.Places.{Places}
 use Rattle.body_import.specs.Keys.{Knows}
 use Rattle.body_import.specs.SigKeys.{sig_key}
 use Rattle.body_import.specs.CalleeKeys.{callee_key, own_key, first_sig, key_among}
-use Rattle.body_import.specs.Imports.{IsIndexOf, CanExtend, with_declarations}
+use Rattle.body_import.specs.Imports.{IsKeyedOf, IsIndexOf, CanExtend, with_declarations}
 use Rattle.body_import.proofs.Planned.{keys_kept}
 
 -- one more key put behind those of the list so far
@@ -27,12 +28,23 @@ own_keys : (sigs : List Sig) (cs : List Callee) → Each (λ (c : Callee). first
 own_keys sigs [] h = refl
 own_keys sigs (c ∷ cs) h = ap₂ (λ (n : ℕ) (z : List (List ℕ)). callee_key n c ∷ z) h.0 (own_keys sigs cs h.1)
 
-pub extended : (f : Function) (index : Index) (ss : List Sig) (cs : List Callee) → CanExtend f ss cs → Knows 0 (map sig_key f.sigs ++ map sig_key ss) index.sigs → Knows 0 (map (key_among f.sigs) f.callees ++ map own_key cs) index.callees → IsIndexOf (with_declarations f ss cs) index
-extended f index ss cs can s k =
+pub extended : (f : Function) (keyed : Keyed) (ss : List Sig) (cs : List Callee) → CanExtend f ss cs → Knows 0 (map sig_key f.sigs ++ map sig_key ss) keyed.sigs → Knows 0 (map (key_among f.sigs) f.callees ++ map own_key cs) keyed.callees → IsKeyedOf (with_declarations f ss cs) keyed
+extended f keyed ss cs can s k =
     let all = f.sigs ++ ss in
     let keys : map (key_among f.sigs) f.callees ++ map own_key cs ≡ map (key_among all) (f.callees ++ cs) =
     ap₂ (λ (x y : List (List ℕ)). x ++ y) (sym (keys_kept f.sigs ss f.callees can.in_range)) (sym (own_keys all cs can.first)) ∙ sym (map-append (key_among all) f.callees cs) in
     record {
-      sigs = subst (λ (z : List (List ℕ)). Knows 0 z index.sigs) (sym (map-append sig_key f.sigs ss)) s;
-      callees = subst (λ (z : List (List ℕ)). Knows 0 z index.callees) keys k;
+      sigs = subst (λ (z : List (List ℕ)). Knows 0 z keyed.sigs) (sym (map-append sig_key f.sigs ss)) s;
+      callees = subst (λ (z : List (List ℕ)). Knows 0 z keyed.callees) keys k;
     }
+
+same_keyed : (f h : Function) (keyed : Keyed) → h.sigs ≡ f.sigs → h.callees ≡ f.callees → IsKeyedOf f keyed → IsKeyedOf h keyed
+same_keyed f h keyed sigs callees is =
+    record {
+      sigs = subst (λ (z : List Sig). Knows 0 (map sig_key z) keyed.sigs) (sym sigs) is.sigs;
+      callees = subst (λ (z : List Sig). Knows 0 (map (key_among z) h.callees) keyed.callees) (sym sigs) (subst (λ (z : List Callee). Knows 0 (map (key_among f.sigs) z) keyed.callees) (sym callees) is.callees);
+    }
+
+-- a function with the same declarations has the same index
+pub same_index : (f h : Function) (index : Index) → h.sigs ≡ f.sigs → h.callees ≡ f.callees → IsIndexOf f index → IsIndexOf h index
+same_index f h index sigs callees is = record { keyed = λ keyed e. same_keyed f h keyed sigs callees (is.keyed keyed e) }

@@ -10,13 +10,14 @@ use Rattle.ir_core.specs.Signatures.{same_sig}
 use Rattle.ir_core.specs.Lookup.{same_bytes}
 use Rattle.ir_core.proofs.Members.{each_right}
 use Rattle.ir_semantics.specs.Import.{with_item, with_items, first_place, new_place, same_callee, sigs_after, sig_after, callees_with}
-use Rattle.body_import.specs.declared.declarations.Index.{Index}
+use Rattle.body_import.specs.declared.declarations.Keyed.{Keyed}
 use Rattle.body_import.specs.declared.places.Places.{Places}
 use Rattle.body_import.specs.declared.declarations.Import.{Import}
 use Rattle.body_import.specs.Keys.{Knows, key_place}
 use Rattle.body_import.specs.SigKeys.{sig_key}
 use Rattle.body_import.specs.CalleeKeys.{callee_key, first_sig, key_among, renumbered, AreFirst}
-use Rattle.body_import.specs.Imports.{IsIndexOf, IsImportOf}
+use Rattle.body_import.specs.Compared.{IsMerged}
+use Rattle.body_import.specs.Imports.{IsKeyedOf, IsImportOf}
 use Rattle.body_import.proofs.SigsDecided.{sigs_decide}
 use Rattle.body_import.proofs.CalleesDecided.{callees_decide}
 use Rattle.body_import.proofs.Decided.{place_by_key}
@@ -151,29 +152,29 @@ module _ (f g : Function) where
       renumbered_first table (c ∷ xs) first h = (each_at (λ n. first_sig (sigs_after f g) n ≡ n) table c.sig 0 first h.0, renumbered_first table xs first h.1)
 
 pub indexed : (f : Function) (sp cp : Places) (ss ss' : List Sig) (cs : List Callee) (table table' : List ℕ) → ss ≡ f.sigs → ss' ≡ f.sigs → cs ≡ f.callees → table' ≡ table → Each (λ (c : Callee). c.sig < length f.sigs) f.callees
-    → Knows 0 (map sig_key ss) sp → (Knows 0 (map sig_key ss') sp → table ≡ map (first_place same_sig ss') ss') → Knows 0 (map (λ (c : Callee). callee_key (get_or table' c.sig 0) c) cs) cp → IsIndexOf f (record { sigs = sp; callees = cp })
+    → Knows 0 (map sig_key ss) sp → (Knows 0 (map sig_key ss') sp → table ≡ map (first_place same_sig ss') ss') → Knows 0 (map (λ (c : Callee). callee_key (get_or table' c.sig 0) c) cs) cp → IsKeyedOf f (record { sigs = sp; callees = cp })
 indexed f sp cp ss ss' cs table table' e1 e2 e3 e4 r h1 h2 h3 =
     let k : Knows 0 (map sig_key f.sigs) sp = subst (λ (z : List Sig). Knows 0 (map sig_key z) sp) e1 h1 in
     let t : table ≡ map (first_place same_sig f.sigs) f.sigs = subst (λ (z : List Sig). table ≡ map (first_place same_sig z) z) e2 (h2 (subst (λ (z : List Sig). Knows 0 (map sig_key z) sp) (sym e2) k)) in
     let q : Knows 0 (map (λ (c : Callee). callee_key (get_or table c.sig 0) c) f.callees) cp = subst (λ (z : List ℕ). Knows 0 (map (λ (c : Callee). callee_key (get_or z c.sig 0) c) f.callees) cp) e4 (subst (λ (z : List Callee). Knows 0 (map (λ (c : Callee). callee_key (get_or table' c.sig 0) c) z) cp) e3 h3) in
     record { sigs = k; callees = subst (λ (z : List (List ℕ)). Knows 0 z cp) (first_keys f.sigs table f.callees t r) q }
 
-pub planned : (f g : Function) (index : Index) (i : Import) (n m : ℕ) (ss : List Sig) (cs : List Callee) (table : List ℕ)
-    → IsIndexOf f index → Each (λ (c : Callee). c.sig < length f.sigs) f.callees → Each (λ (c : Callee). c.sig < length g.sigs) g.callees
+pub planned : (f g : Function) (keyed : Keyed) (i : Import) (n m : ℕ) (ss : List Sig) (cs : List Callee) (table : List ℕ)
+    → IsKeyedOf f keyed → Each (λ (c : Callee). c.sig < length f.sigs) f.callees → Each (λ (c : Callee). c.sig < length g.sigs) g.callees
     → n ≡ length f.sigs → m ≡ length f.callees → ss ≡ g.sigs → cs ≡ g.callees → table ≡ i.sigs.table
-    → ((own : List Sig) → Knows 0 (map sig_key own) index.sigs → n ≡ length own → with_items same_sig own ss ≡ own ++ i.sigs.added)
-    → ((own : List Sig) → Knows 0 (map sig_key own) index.sigs → n ≡ length own → i.sigs.table ≡ map (first_place same_sig (with_items same_sig own ss)) ss)
+    → ((own : List Sig) → Knows 0 (map sig_key own) keyed.sigs → n ≡ length own → with_items same_sig own ss ≡ own ++ i.sigs.added)
+    → ((own : List Sig) → Knows 0 (map sig_key own) keyed.sigs → n ≡ length own → i.sigs.table ≡ map (first_place same_sig (with_items same_sig own ss)) ss)
     → length i.sigs.added ≤ length ss
-    → ((sigs : List Sig) (own : List Callee) → Knows 0 (map (key_among sigs) own) index.callees → m ≡ length own → AreFirst sigs table → with_items (same_callee sigs) own (map (renumbered table) cs) ≡ own ++ i.callees.added)
-    → ((sigs : List Sig) (own : List Callee) → Knows 0 (map (key_among sigs) own) index.callees → m ≡ length own → AreFirst sigs table → i.callees.table ≡ map (first_place (same_callee sigs) (with_items (same_callee sigs) own (map (renumbered table) cs))) (map (renumbered table) cs))
+    → ((sigs : List Sig) (own : List Callee) → Knows 0 (map (key_among sigs) own) keyed.callees → m ≡ length own → AreFirst sigs table → with_items (same_callee sigs) own (map (renumbered table) cs) ≡ own ++ i.callees.added)
+    → ((sigs : List Sig) (own : List Callee) → Knows 0 (map (key_among sigs) own) keyed.callees → m ≡ length own → AreFirst sigs table → i.callees.table ≡ map (first_place (same_callee sigs) (with_items (same_callee sigs) own (map (renumbered table) cs))) (map (renumbered table) cs))
     → length i.callees.added ≤ length cs
     → IsImportOf f g i
-planned f g index i n m ss cs table known fr gr en em es ec et sa st sf ca ct cf =
+planned f g keyed i n m ss cs table known fr gr en em es ec et sa st sf ca ct cf =
     let all = sigs_after f g in
     let sa' : sigs_after f g ≡ f.sigs ++ i.sigs.added = subst (λ (z : List Sig). with_items same_sig f.sigs z ≡ f.sigs ++ i.sigs.added) es (sa f.sigs known.sigs en) in
     let st' : i.sigs.table ≡ map (first_place same_sig (sigs_after f g)) g.sigs = subst (λ (z : List Sig). i.sigs.table ≡ map (first_place same_sig (with_items same_sig f.sigs z)) z) es (st f.sigs known.sigs en) in
     let kept : map (key_among f.sigs) f.callees ≡ map (key_among all) f.callees = sym (ap (λ (z : List Sig). map (key_among z) f.callees) sa' ∙ keys_kept f.sigs i.sigs.added f.callees fr) in
-    let knows : Knows 0 (map (key_among all) f.callees) index.callees = subst (λ (z : List (List ℕ)). Knows 0 z index.callees) kept known.callees in
+    let knows : Knows 0 (map (key_among all) f.callees) keyed.callees = subst (λ (z : List (List ℕ)). Knows 0 z keyed.callees) kept known.callees in
     let first : AreFirst all table = subst (λ (z : List ℕ). AreFirst all z) (sym et) (are_first f.sigs g.sigs i.sigs.table st') in
     let P : List ℕ → List Callee → Type 0 = λ t k. with_items (same_callee all) f.callees (map (renumbered t) k) ≡ f.callees ++ i.callees.added in
     let Q : List ℕ → List Callee → Type 0 = λ t k. i.callees.table ≡ map (first_place (same_callee all) (with_items (same_callee all) f.callees (map (renumbered t) k))) (map (renumbered t) k) in
@@ -182,3 +183,20 @@ planned f g index i n m ss cs table known fr gr en em es ec et sa st sf ca ct cf
     (subst (λ (z : List ℕ). Q z g.callees) et (subst (λ (z : List Callee). Q table z) ec (ct all f.callees knows em first)))
     (subst (λ (z : List Sig). length i.sigs.added ≤ length z) es sf)
     (subst (λ (z : List Callee). length i.callees.added ≤ length z) ec cf)
+
+pub compared : (f g : Function) (i : Import) (os os' ss as' : List Sig) (oc cs : List Callee) (table : List ℕ)
+    → Each (λ (c : Callee). c.sig < length f.sigs) f.callees → Each (λ (c : Callee). c.sig < length g.sigs) g.callees
+    → os ≡ f.sigs → os' ≡ f.sigs → ss ≡ g.sigs → as' ≡ i.sigs.added → oc ≡ f.callees → cs ≡ g.callees → table ≡ i.sigs.table
+    → IsMerged same_sig os ss i.sigs.added i.sigs.table → IsMerged (same_callee (os' ++ as')) oc (map (renumbered table) cs) i.callees.added i.callees.table
+    → IsImportOf f g i
+compared f g i os os' ss as' oc cs table fr gr eo eo' es ea ec ek et sigs callees =
+    let s : IsMerged same_sig f.sigs g.sigs i.sigs.added i.sigs.table = subst (λ (z : List Sig). IsMerged same_sig z g.sigs i.sigs.added i.sigs.table) eo (subst (λ (z : List Sig). IsMerged same_sig os z i.sigs.added i.sigs.table) es sigs) in
+    let all : os' ++ as' ≡ sigs_after f g = ap₂ (λ (x y : List Sig). x ++ y) eo' ea ∙ sym s.list in
+    let moved : map (renumbered table) cs ≡ map (renumbered i.sigs.table) g.callees = ap₂ (λ (t : List ℕ) (z : List Callee). map (renumbered t) z) et ek in
+    let k : IsMerged (same_callee (sigs_after f g)) f.callees (map (renumbered i.sigs.table) g.callees) i.callees.added i.callees.table =
+    subst (λ (z : List Sig). IsMerged (same_callee z) f.callees (map (renumbered i.sigs.table) g.callees) i.callees.added i.callees.table) all
+    (subst (λ (z : List Callee). IsMerged (same_callee (os' ++ as')) z (map (renumbered i.sigs.table) g.callees) i.callees.added i.callees.table) ec
+    (subst (λ (z : List Callee). IsMerged (same_callee (os' ++ as')) oc z i.callees.added i.callees.table) moved callees)) in
+    let n = k.fewer in
+    let l = length-map g.callees (renumbered i.sigs.table) in
+    imported f g i fr gr s.list s.places k.list k.places s.fewer (omega (arith, n, l))

@@ -32,9 +32,13 @@ key_among sigs c = callee_key (first_sig sigs c.sig) c
 abbrev pub own_key : Callee → List ℕ
 own_key c = callee_key c.sig c
 
+-- a declaration under a number of its signature
+abbrev pub numbered : ℕ → Callee → Callee
+numbered sig c = record { name = c.name; colocated = c.colocated; sig = sig }
+
 -- a declaration under new numbers of signatures
 abbrev pub renumbered : List ℕ → Callee → Callee
-renumbered table c = record { name = c.name; colocated = c.colocated; sig = get_or table c.sig 0 }
+renumbered table c = numbered (get_or table c.sig 0) c
 
 -- each number is the first place of its signature
 abbrev pub AreFirst : List Sig → List ℕ → Type 0

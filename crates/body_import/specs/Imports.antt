@@ -1,20 +1,25 @@
 -- The index of a function's declarations, and what a caller takes over from a callee.
-use Rattle.std.specs.Prelude.{◌≡◌, ℕ, ◌+◌, ◌<◌, ◌≤◌, List, ◌++◌, length, map, get_or}
+use Rattle.std.specs.Prelude.{◌≡◌, ℕ, ◌+◌, ◌<◌, ◌≤◌, List, ◌++◌, length, map, get_or, Some}
 use Rattle.ir_core.specs.declared.signatures.Sig.{Sig}
 use Rattle.ir_core.specs.declared.declarations.Callee.{Callee}
 use Rattle.ir_core.specs.Module.{Function}
 use Rattle.ir_core.specs.Lists.{Each, Below}
 use Rattle.ir_semantics.specs.Import.{sigs_after, sig_after, callees_after, callee_after}
 use Rattle.body_import.specs.declared.declarations.Index.{Index}
+use Rattle.body_import.specs.declared.declarations.Keyed.{Keyed}
 use Rattle.body_import.specs.declared.declarations.Import.{Import}
 use Rattle.body_import.specs.Keys.{Knows}
 use Rattle.body_import.specs.SigKeys.{sig_key}
 use Rattle.body_import.specs.CalleeKeys.{first_sig, key_among}
 
--- the index has the first place of each signature and of each callee declaration of the function
+-- the places are those of the first of each signature and of each callee declaration of the function
+pub record IsKeyedOf (f : Function) (k : Keyed) : Type 0 where
+  pub sigs : Knows 0 (map sig_key f.sigs) k.sigs
+  pub callees : Knows 0 (map (key_among f.sigs) f.callees) k.callees
+
+-- the index of the function's declarations: where it has places, they are the function's
 pub record IsIndexOf (f : Function) (i : Index) : Type 0 where
-  pub sigs : Knows 0 (map sig_key f.sigs) i.sigs
-  pub callees : Knows 0 (map (key_among f.sigs) f.callees) i.callees
+  pub keyed : (k : Keyed) → i.keyed ≡ Some k → IsKeyedOf f k
 
 -- f with further declarations behind its own
 abbrev pub with_declarations : Function → List Sig → List Callee → Function

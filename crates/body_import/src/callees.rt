@@ -74,7 +74,7 @@ pub(crate) fn callee_key(alloc: Global, callee: &Callee, sig: u32) -> Result<Vec
 }
 
 /// The number of a signature by a table.
-fn number_at(table: &[SigRef], sig: SigRef) -> SigRef
+pub(crate) fn number_at(table: &[SigRef], sig: SigRef) -> SigRef
     requires { sig < length table.now }
     ensures { result ≡ get_or table.now sig 0 }
 {
@@ -133,7 +133,7 @@ fn renumber_callee(callee: &Callee, table: &[SigRef]) -> Result<Callee, AllocErr
 }
 
 /// Appends the declaration under new numbers where the flag is set.
-fn push_kept(
+pub(crate) fn push_callee(
     list: &mut Vec<Callee>,
     callee: &Callee,
     table: &[SigRef],
@@ -162,7 +162,7 @@ fn kept_callees(
     let mut list = Vec::new(alloc);
     let mut index = 0;
     for callee in callees {
-        push_kept(&mut list, callee, table, flags[index])?;
+        push_callee(&mut list, callee, table, flags[index])?;
         index += 1;
     }
     Ok(List::from_vec(list))

@@ -62,7 +62,7 @@ pub fn sig_places(alloc: Global, sigs: &[Sig]) -> Result<Places, AllocError>
 }
 
 /// Appends a copy of the signature where the flag is set.
-fn push_kept(list: &mut Vec<Sig>, sig: &Sig, flag: bool) -> Result<(), AllocError>
+pub(crate) fn push_sig(list: &mut Vec<Sig>, sig: &Sig, flag: bool) -> Result<(), AllocError>
     ensures { OnOk result (list.new.items ≡ list.old.items ++ keep (flag ∷ []) (sig.now ∷ [])) }
 {
     if flag {
@@ -79,7 +79,7 @@ fn kept_sigs(alloc: Global, sigs: &[Sig], flags: &[bool]) -> Result<List<Sig>, A
     let mut list = Vec::new(alloc);
     let mut index = 0;
     for sig in sigs {
-        push_kept(&mut list, sig, flags[index])?;
+        push_sig(&mut list, sig, flags[index])?;
         index += 1;
     }
     Ok(List::from_vec(list))

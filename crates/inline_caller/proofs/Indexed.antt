@@ -1,5 +1,5 @@
 -- The index of a function after a splice.
-use Rattle.std.proofs.Common.{◌≡◌, List, map, sym, ap, ◌∙◌, subst}
+use Rattle.std.proofs.Common.{◌≡◌, List, sym, ap, ◌∙◌, subst}
 use Rattle.std.specs.Prelude.{slice_get, Some}
 use Rattle.ir_core.specs.declared.places.Point.{Point}
 use Rattle.ir_core.specs.declared.signatures.Sig.{Sig}
@@ -10,20 +10,10 @@ use Rattle.ir_core.specs.Sound.{IsSound}
 use Rattle.ir_semantics.specs.Splice.{spliced}
 use Rattle.body_import.specs.declared.declarations.Index.{Index}
 use Rattle.body_import.specs.declared.declarations.Import.{Import}
-use Rattle.body_import.specs.Keys.{Knows}
-use Rattle.body_import.specs.SigKeys.{sig_key}
-use Rattle.body_import.specs.CalleeKeys.{key_among}
 use Rattle.body_import.specs.Imports.{IsIndexOf, IsImportOf, CanExtend, with_declarations}
+use Rattle.body_import.proofs.Extended.{same_index}
 use Rattle.inline_body.specs.PlainCall.{splicing_at, IsSplice}
 use Rattle.inline_body.proofs.Ready.{spliced_at}
-
--- a function with the same declarations has the same index
-same_index : (f h : Function) (index : Index) → h.sigs ≡ f.sigs → h.callees ≡ f.callees → IsIndexOf f index → IsIndexOf h index
-same_index f h index sigs callees is =
-    record {
-      sigs = subst (λ (z : List Sig). Knows 0 (map sig_key z) index.sigs) (sym sigs) is.sigs;
-      callees = subst (λ (z : List Sig). Knows 0 (map (key_among z) h.callees) index.callees) (sym sigs) (subst (λ (z : List Callee). Knows 0 (map (key_among f.sigs) z) index.callees) (sym callees) is.callees);
-    }
 
 -- what f takes over can be put into its index
 can_extend : (f g : Function) (i : Import) → IsSound f → IsImportOf f g i → CanExtend f i.sigs.added i.callees.added

@@ -111,8 +111,7 @@ impl Caller {
         extend_index(
             alloc,
             &mut self.index,
-            self.func.sigs().len() as u32,
-            self.func.callees().len() as u32,
+            &self.func,
             import.sigs.added.as_slice(),
             import.callees.added.as_slice(),
         )?;

@@ -12,10 +12,10 @@ ghost use Rattle.func_addrs.specs.Mentions.{names_of};
 ghost use Rattle.interp.specs.State.{function_at, target_of, Linked};
 ghost use Rattle.interp_run.specs.Addressing.{callee_addresses, all_addresses, IsAddressed};
 
+use body_import::is_same_sig;
 use func_addrs::{FuncAddrs, Mention};
 use interp::{Program, Target};
 use ir_core::{Callee, FuncRef, Module, Sig, SigRef};
-use sig_numbers::is_same_sig;
 use std::alloc::{AllocError, Global};
 
 /// The names of a module with what they stand for. It is found once before a run.

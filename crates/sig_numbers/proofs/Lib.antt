@@ -1,3 +1,2 @@
 pub mod Indexed
-pub mod Paired
 pub mod Tabled

@@ -2,8 +2,7 @@
 ghost use Rattle.std.specs.Prelude.{◌≡◌, Some, IfOk, OnOk, IfSome};
 ghost use Rattle.sig_numbers.specs.Index.{IsIndex, Keeps, number_at, number_of};
 
-use crate::same::is_same_sig;
-use body_import::sig_key;
+use body_import::{is_same_sig, sig_key};
 use ir_core::Sig;
 use std::alloc::{AllocError, Global};
 use std::collections::BTreeMap;

@@ -1,4 +1,4 @@
-use Rattle.std.proofs.Common.{length, sym, ap, subst}
+use Rattle.std.proofs.Common.{sym, subst}
 use Rattle.ir_core.specs.Module.{Function}
 use Rattle.body_import.specs.Imports.{IsImportOf}
 use Rattle.inline_caller.specs.Replacing.{CanReplace}
@@ -19,5 +19,5 @@ invariant_of-self-2 g c =
       counted = c.in_ok-self-inside.ensures.counted;
       indexed = λ is.
           extended_index f h c.put_callee.new.func.function c.args.site can.line c.args.import c.extend_index.new.index c.as_slice.result.now c.as_slice-2.result.now can.there can.found c.values.ensures.sound c.in_ok-self-inside.ensures.spliced imported c.as_slice.ensures c.as_slice-2.ensures
-          (c.in_ok-extend_index.ensures f (c.self.invariant.indexed c.if-not-self.false) (ap length c.sigs.ensures) (ap length c.callees.ensures));
+          (c.in_ok-extend_index.ensures (c.self.invariant.indexed c.if-not-self.false));
     }

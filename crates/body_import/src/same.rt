@@ -2,7 +2,6 @@
 ghost use Rattle.std.specs.Prelude.{◌≡◌};
 ghost use Rattle.ir_core.specs.Signatures.{same_conv, same_ext, same_purpose, same_param, same_params, same_sig};
 
-use crate::types::is_same_type;
 use ir_core::{Conv, Ext, Param, Purpose, Sig};
 
 /// Whether two ways of extending are one.
@@ -47,7 +46,7 @@ fn is_same_conv(a: Conv, b: Conv) -> bool
 fn is_same_param(a: Param, b: Param) -> bool
     ensures { result ≡ same_param a b }
 {
-    is_same_type(a.ty, b.ty) && is_same_ext(a.ext, b.ext) && is_same_purpose(a.purpose, b.purpose)
+    a.ty.is(b.ty) && is_same_ext(a.ext, b.ext) && is_same_purpose(a.purpose, b.purpose)
 }
 
 /// Whether two lists of parameters are the same.

@@ -8,7 +8,7 @@ use Rattle.test_directives.specs.declared.directives.LineCheck.{LineCheck}
 use Rattle.test_directives.specs.declared.directives.LineCheck.TheVariants as line_check
 use Rattle.test_directives.specs.Views.{line_test_by, line_test_of}
 use Rattle.filetest.specs.declared.report.Pair.{Pair as CodePair}
-use Rattle.filetest.specs.Views.{lines_of, texts_of, pair_of}
+use Rattle.filetest.specs.Views.{seen_lines, texts_of, pair_of}
 use Rattle.test_directives.specs.Directives.{LineTest, Check, Nextln, Not}
 use Rattle.test_directives.specs.Tests.{or_else}
 use Rattle.filetest.specs.LineTests.{Line, Pair, pair, contains, line_with, next_line_with, found, found_any, failure, first_or_end, end}
@@ -116,14 +116,14 @@ stretch_more xs from i d s l =
 
 -- ---- as the code reads lists
 
-pub read_line : (lines : List (Bor Line)) (i : ℕ) (d : Bor Line) → i < length lines → (get_or lines i d).now ≡ get_or (lines_of lines) i []
+pub read_line : (lines : List (Bor Line)) (i : ℕ) (d : Bor Line) → i < length lines → (get_or lines i d).now ≡ get_or (seen_lines lines) i []
 read_line lines i d l = sym (get_or-map (λ x. x.now) lines i d [] l)
 
 -- one line more does not contain the text
 pub none_more : (text : Line) (lines : List (Bor Line)) (i : ℕ) (d : Bor Line) (b : Bool) → i < length lines
-    → b ≡ contains text (get_or lines i d).now → b ≡ false → NoneHas text (lines_of lines) i → NoneHas text (lines_of lines) (i + 1)
+    → b ≡ contains text (get_or lines i d).now → b ≡ false → NoneHas text (seen_lines lines) i → NoneHas text (seen_lines lines) (i + 1)
 none_more text lines i d b l e f n =
-    below_more (λ k. contains text (get_or (lines_of lines) k []) ≡ false) i n (ap (contains text) (sym (read_line lines i d l)) ∙ (sym e ∙ f))
+    below_more (λ k. contains text (get_or (seen_lines lines) k []) ≡ false) i n (ap (contains text) (sym (read_line lines i d l)) ∙ (sym e ∙ f))
 
 pub text_is : (tests : List DirectiveTest) (i : ℕ) (t : DirectiveTest) → i < length tests → t ≡ get_or tests i t → t.text ≡ get_or (texts_of tests) i []
 text_is tests i t l e = ap (λ (x : DirectiveTest). x.text) e ∙ sym (get_or-map (λ (x : DirectiveTest). x.text) tests i t [] l)
@@ -133,28 +133,28 @@ read_text tests i e l = sym (get_or-map (λ (x : DirectiveTest). x.text) tests i
 
 -- the text of a test is found in a line
 pub finds_text : (tests : List DirectiveTest) (range : List (Bor Line)) (i at : ℕ) (d : Bor Line) (e : DirectiveTest) (x : Line) (p : CodePair)
-    → i < length tests → x ≡ (get_or tests i e).text → IsPlaceWith x (lines_of range) (Some at)
+    → i < length tests → x ≡ (get_or tests i e).text → IsPlaceWith x (seen_lines range) (Some at)
     → p.expected.items ≡ x → p.got.items ≡ (get_or range at d).now
-    → Some (pair_of p) ≡ found_any (drop i (texts_of tests)) (lines_of range)
+    → Some (pair_of p) ≡ found_any (drop i (texts_of tests)) (seen_lines range)
 finds_text tests range i at d e x p l h has a b =
     let nots = texts_of tests in
     let ex : x ≡ get_or nots i [] = h ∙ read_text tests i e l in
-    let place : IsPlaceWith (get_or nots i []) (lines_of range) (Some at) = subst (λ y. IsPlaceWith y (lines_of range) (Some at)) ex has in
+    let place : IsPlaceWith (get_or nots i []) (seen_lines range) (Some at) = subst (λ y. IsPlaceWith y (seen_lines range) (Some at)) ex has in
     let m : at < length range = omega (arith, has.0, length-map range (λ (z : Bor Line). z.now)) in
     let n : i < length nots = omega (arith, length-map tests (λ (z : DirectiveTest). z.text)) in
     ap (λ z. Some (pair z p.got.items)) (a ∙ ex)
-    ∙ (ap (λ z. Some (pair (get_or nots i []) z)) (b ∙ read_line range at d m) ∙ any_here nots (lines_of range) i at n place)
+    ∙ (ap (λ z. Some (pair (get_or nots i []) z)) (b ∙ read_line range at d m) ∙ any_here nots (seen_lines range) i at n place)
 
 -- the text of a test is in no line
 pub lacks_text : (tests : List DirectiveTest) (range : List (Bor Line)) (i : ℕ) (e : DirectiveTest) (x : Line)
-    → i < length tests → x ≡ (get_or tests i e).text → IsPlaceWith x (lines_of range) None
-    → found_any (drop (i + 1) (texts_of tests)) (lines_of range) ≡ found_any (drop i (texts_of tests)) (lines_of range)
+    → i < length tests → x ≡ (get_or tests i e).text → IsPlaceWith x (seen_lines range) None
+    → found_any (drop (i + 1) (texts_of tests)) (seen_lines range) ≡ found_any (drop i (texts_of tests)) (seen_lines range)
 lacks_text tests range i e x l h has =
     let nots = texts_of tests in
     let ex : x ≡ get_or nots i [] = h ∙ read_text tests i e l in
-    let place : IsPlaceWith (get_or nots i []) (lines_of range) None = subst (λ y. IsPlaceWith y (lines_of range) None) ex has in
+    let place : IsPlaceWith (get_or nots i []) (seen_lines range) None = subst (λ y. IsPlaceWith y (seen_lines range) None) ex has in
     let n : i < length nots = omega (arith, length-map tests (λ (z : DirectiveTest). z.text)) in
-    any_later nots (lines_of range) i n place
+    any_later nots (seen_lines range) i n place
 
 -- what is no `nextln:` and no `not:` takes the first line with its text
 pub other_takes : (check : LineCheck) (text : Line) (left : List Line) (r : Option ℕ) → (check ≡ line_check.Nextln → ⊥)
@@ -168,19 +168,19 @@ other_takes line_check.Not text left r n h p = cc
 -- behind the test that takes a line
 pub after_take : (tests : List DirectiveTest) (left : List (Bor Line)) (i at : ℕ) (t : DirectiveTest) (nots : List Line) (total : Option Pair)
     → i < length tests → t ≡ get_or tests i t
-    → ((ts : List LineTest) → failure nots (lines_of left) (line_test_of t ∷ ts) ≡ failure [] (drop (suc at) (lines_of left)) ts)
-    → failure nots (lines_of left) (map line_test_of (drop i tests)) ≡ total
-    → failure (texts_of (slice_range tests (i + 1) (i + 1))) (lines_of (drop (at + 1) left)) (map line_test_of (drop (i + 1) tests)) ≡ total
+    → ((ts : List LineTest) → failure nots (seen_lines left) (line_test_of t ∷ ts) ≡ failure [] (drop (suc at) (seen_lines left)) ts)
+    → failure nots (seen_lines left) (map line_test_of (drop i tests)) ≡ total
+    → failure (texts_of (slice_range tests (i + 1) (i + 1))) (seen_lines (drop (at + 1) left)) (map line_test_of (drop (i + 1) tests)) ≡ total
 after_take tests left i at t nots total l e f so =
     let ts = map line_test_of (drop (i + 1) tests) in
     let whole : map line_test_of (drop i tests) ≡ line_test_of t ∷ ts =
     ap (map line_test_of) (drop_more tests i t l) ∙ ap (λ x. line_test_of x ∷ ts) (sym e) in
     let z : (i + 1) - (i + 1) ≡ 0 = omega arith in
     let n : at + 1 ≡ suc at = omega arith in
-    let dropped : lines_of (drop (at + 1) left) ≡ drop (suc at) (lines_of left) =
-    sym (drop-map (λ (x : Bor Line). x.now) (at + 1) left) ∙ ap (λ k. drop k (lines_of left)) n in
-    ap (λ k. failure (texts_of (take k (drop (i + 1) tests))) (lines_of (drop (at + 1) left)) ts) z
-    ∙ (ap (λ ls. failure [] ls ts) dropped ∙ (sym (f ts) ∙ (ap (failure nots (lines_of left)) (sym whole) ∙ so)))
+    let dropped : seen_lines (drop (at + 1) left) ≡ drop (suc at) (seen_lines left) =
+    sym (drop-map (λ (x : Bor Line). x.now) (at + 1) left) ∙ ap (λ k. drop k (seen_lines left)) n in
+    ap (λ k. failure (texts_of (take k (drop (i + 1) tests))) (seen_lines (drop (at + 1) left)) ts) z
+    ∙ (ap (λ ls. failure [] ls ts) dropped ∙ (sym (f ts) ∙ (ap (failure nots (seen_lines left)) (sym whole) ∙ so)))
 
 text_by : (check : LineCheck) (text : Line) → text_of (line_test_by check text) ≡ text
 text_by line_check.Check text = refl
@@ -206,20 +206,20 @@ after_not tests left judged i t total s l e h so =
 pub after_take_as : (tests : List DirectiveTest) (left left' : List (Bor Line)) (i at judged : ℕ) (t : DirectiveTest) (nots : List Line) (total : Option Pair)
     → judged ≡ i + 1 → left' ≡ drop (at + 1) left
     → i < length tests → t ≡ get_or tests i t
-    → ((ts : List LineTest) → failure nots (lines_of left) (line_test_of t ∷ ts) ≡ failure [] (drop (suc at) (lines_of left)) ts)
-    → failure nots (lines_of left) (map line_test_of (drop i tests)) ≡ total
-    → failure (texts_of (slice_range tests judged (i + 1))) (lines_of left') (map line_test_of (drop (i + 1) tests)) ≡ total
+    → ((ts : List LineTest) → failure nots (seen_lines left) (line_test_of t ∷ ts) ≡ failure [] (drop (suc at) (seen_lines left)) ts)
+    → failure nots (seen_lines left) (map line_test_of (drop i tests)) ≡ total
+    → failure (texts_of (slice_range tests judged (i + 1))) (seen_lines left') (map line_test_of (drop (i + 1) tests)) ≡ total
 after_take_as tests left left' i at judged t nots total j k l e f so =
-    ap (λ n. failure (texts_of (slice_range tests n (i + 1))) (lines_of left') (map line_test_of (drop (i + 1) tests))) j
-    ∙ (ap (λ ls. failure (texts_of (slice_range tests (i + 1) (i + 1))) (lines_of ls) (map line_test_of (drop (i + 1) tests))) k
+    ap (λ n. failure (texts_of (slice_range tests n (i + 1))) (seen_lines left') (map line_test_of (drop (i + 1) tests))) j
+    ∙ (ap (λ ls. failure (texts_of (slice_range tests (i + 1) (i + 1))) (seen_lines ls) (map line_test_of (drop (i + 1) tests))) k
     ∙ after_take tests left i at t nots total l e f so)
 
 pub after_not_as : (tests : List DirectiveTest) (left left' : List (Bor Line)) (judged judged' i : ℕ) (t : DirectiveTest) (total : Option Pair)
     → judged' ≡ judged → left' ≡ left
     → judged ≤ i → i < length tests → t ≡ get_or tests i t → is_not (line_test_of t) ≡ true
-    → failure (texts_of (slice_range tests judged i)) (lines_of left) (map line_test_of (drop i tests)) ≡ total
-    → failure (texts_of (slice_range tests judged' (i + 1))) (lines_of left') (map line_test_of (drop (i + 1) tests)) ≡ total
+    → failure (texts_of (slice_range tests judged i)) (seen_lines left) (map line_test_of (drop i tests)) ≡ total
+    → failure (texts_of (slice_range tests judged' (i + 1))) (seen_lines left') (map line_test_of (drop (i + 1) tests)) ≡ total
 after_not_as tests left left' judged judged' i t total j k s l e h so =
-    ap (λ n. failure (texts_of (slice_range tests n (i + 1))) (lines_of left') (map line_test_of (drop (i + 1) tests))) j
-    ∙ (ap (λ ls. failure (texts_of (slice_range tests judged (i + 1))) (lines_of ls) (map line_test_of (drop (i + 1) tests))) k
-    ∙ after_not tests (lines_of left) judged i t total s l e h so)
+    ap (λ n. failure (texts_of (slice_range tests n (i + 1))) (seen_lines left') (map line_test_of (drop (i + 1) tests))) j
+    ∙ (ap (λ ls. failure (texts_of (slice_range tests judged (i + 1))) (seen_lines ls) (map line_test_of (drop (i + 1) tests))) k
+    ∙ after_not tests (seen_lines left) judged i t total s l e h so)

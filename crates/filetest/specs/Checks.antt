@@ -13,7 +13,7 @@ use Rattle.inline_pass.specs.Policy.{Policy}
 use Rattle.test_directives.specs.Commands as command
 use Rattle.test_directives.specs.Commands.{Command, InlineWords}
 use Rattle.test_directives.specs.Tests.{FunctionTests, RunTest}
-use Rattle.filetest.specs.LineTests.{Line, Pair, pair, failure, difference, lines_of}
+use Rattle.filetest.specs.LineTests.{Line, Pair, pair, failure, difference, split_lines}
 use Rattle.filetest.specs.Ends.{run_failure, unless}
 use Rattle.filetest.specs.Report as report
 use Rattle.filetest.specs.Report.{Check, check_text, skip_text, last_line}
@@ -26,7 +26,7 @@ check_of t failure = record { name = t.name; line = t.line; failure = failure }
 -- of a function that has tests of lines, over its text
 abbrev pub line_check : (Function → List ℕ) → Function → FunctionTests → List Check
 line_check text_of f t =
-    if length t.lines == 0 then [] else check_of t (failure [] (lines_of (text_of f)) t.lines) ∷ []
+    if length t.lines == 0 then [] else check_of t (failure [] (split_lines (text_of f)) t.lines) ∷ []
 
 abbrev pub policy_of : InlineWords → Policy
 policy_of w = record { callee_size = w.callee_size; caller_size = w.caller_size }
@@ -40,7 +40,7 @@ untouched_line name = codes "(no functions inlined into " ++ name ++ codes ")"
 
 -- the lines that are compared with the comments behind a function, where so many sites were inlined into it
 abbrev pub output_lines : ℕ → List ℕ → List ℕ → List Line
-output_lines sites name text = if sites == 0 then untouched_line name ∷ [] else lines_of text
+output_lines sites name text = if sites == 0 then untouched_line name ∷ [] else split_lines text
 
 abbrev pub output_check : (Function → ℕ) → (Function → List ℕ) → Function → FunctionTests → List Check
 output_check sites_in text_of f t =

@@ -2,7 +2,7 @@
 use Rattle.std.specs.Prelude.{◌≡◌, List, [], ◌∷◌, Some, None, codes}
 use Rattle.test_directives.specs.Commands.{Cat}
 use Rattle.test_directives.specs.Directives.{Check, Nextln, Not}
-use Rattle.filetest.specs.LineTests.{Line, pair, end, failure, difference, lines_of}
+use Rattle.filetest.specs.LineTests.{Line, pair, end, failure, difference, split_lines}
 use Rattle.filetest.specs.Report.{check_text, last_line}
 
 -- two blocks
@@ -10,7 +10,7 @@ abbrev pub blocks : List Line
 blocks = codes "block0:" ∷ codes "    jump block1" ∷ [] ∷ codes "block1:" ∷ codes "    return" ∷ []
 
 pub record WorkedLines : Type 0 where
-  pub lines : lines_of (codes "a\n\nb\n") ≡ codes "a" ∷ [] ∷ codes "b" ∷ []
+  pub lines : split_lines (codes "a\n\nb\n") ≡ codes "a" ∷ [] ∷ codes "b" ∷ []
   pub next_is_empty : failure [] blocks (Check (codes "jump") ∷ Nextln (codes "block1") ∷ [])
       ≡ Some (pair (codes "block1") [])
   pub in_order : failure [] blocks (Check (codes "jump") ∷ Check (codes "block1") ∷ Nextln (codes "return") ∷ []) ≡ None

@@ -81,5 +81,5 @@ lines_after line [] = []
 lines_after line (c ∷ cs) =
     if c == line_feed then line ∷ lines_after [] cs else lines_after (line ++ c ∷ []) cs
 
-abbrev pub lines_of : List ℕ → List Line
-lines_of text = lines_after [] text
+abbrev pub split_lines : List ℕ → List Line
+split_lines text = lines_after [] text

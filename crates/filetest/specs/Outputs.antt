@@ -1,12 +1,12 @@
 -- Checks of texts, by the texts of the functions in order.
 use Rattle.std.specs.Prelude.{ℕ, ◌==◌, if◌then◌else◌, List, [], ◌∷◌, ◌++◌, length}
 use Rattle.test_directives.specs.Tests.{FunctionTests}
-use Rattle.filetest.specs.LineTests.{failure, difference, lines_of}
+use Rattle.filetest.specs.LineTests.{failure, difference, split_lines}
 use Rattle.filetest.specs.Report.{Check}
 use Rattle.filetest.specs.Checks.{check_of, output_lines}
 
 abbrev pub line_check_of : List ℕ → FunctionTests → List Check
-line_check_of text t = if length t.lines == 0 then [] else check_of t (failure [] (lines_of text) t.lines) ∷ []
+line_check_of text t = if length t.lines == 0 then [] else check_of t (failure [] (split_lines text) t.lines) ∷ []
 
 abbrev pub line_checks : List (List ℕ) → List FunctionTests → List Check
 line_checks (text ∷ texts) (t ∷ ts) = line_check_of text t ++ line_checks texts ts

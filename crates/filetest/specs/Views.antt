@@ -11,8 +11,8 @@ pair_of p = record { expected = p.expected.items; got = p.got.items }
 abbrev pub failure_of : Option Pair → Option lines.Pair
 failure_of p = option_map pair_of p
 
-abbrev pub lines_of : List (Bor (List ℕ)) → List (List ℕ)
-lines_of lines = map (λ l. l.now) lines
+abbrev pub seen_lines : List (Bor (List ℕ)) → List (List ℕ)
+seen_lines lines = map (λ l. l.now) lines
 
 abbrev pub texts_of : List LineTest → List (List ℕ)
 texts_of tests = map (λ t. t.text) tests

@@ -5,7 +5,7 @@ ghost use Rattle.filetest.specs.LineTests as defined;
 ghost use Rattle.filetest.specs.Taking.{IsPlaceWith, IsTaken, line_looked_at};
 ghost use Rattle.filetest.specs.Taking as taking;
 ghost use Rattle.filetest.specs.Judging.{IsJudged};
-ghost use Rattle.filetest.specs.Views.{failure_of, lines_of, texts_of};
+ghost use Rattle.filetest.specs.Views.{failure_of, seen_lines, texts_of};
 
 use crate::lines::{END, contains};
 use crate::report::Pair;
@@ -14,7 +14,7 @@ use test_directives::{LineCheck, LineTest};
 
 /// The place of the first line that contains the text.
 fn place_with(lines: &[&[u8]], text: &[u8]) -> Option<usize>
-    ensures { IsPlaceWith text.now (lines_of lines.now) result }
+    ensures { IsPlaceWith text.now (seen_lines lines.now) result }
 {
     for i in 0..lines.len() {
         if contains(lines[i], text) {
@@ -27,7 +27,7 @@ fn place_with(lines: &[&[u8]], text: &[u8]) -> Option<usize>
 /// The failure of the first of these tests, each a `not:`, whose text a line of the range contains.
 fn found_any(alloc: Global, nots: &[LineTest], range: &[&[u8]]) -> Result<Option<Pair>, AllocError>
     ensures { IfOk result (λ failure. failure_of failure
-        ≡ defined.found_any (texts_of nots.now) (lines_of range.now)) }
+        ≡ defined.found_any (texts_of nots.now) (seen_lines range.now)) }
 {
     for i in 0..nots.len() {
         let text = nots[i].text.as_slice();
@@ -51,7 +51,7 @@ fn is_not(test: &LineTest) -> bool
 /// The place of the line that a `check:` or `nextln:` takes.
 fn taken_place(test: &LineTest, left: &[&[u8]]) -> Option<usize>
     requires { taking.is_not (line_test_of test.now) ≡ false }
-    ensures { IsTaken (line_test_of test.now) (lines_of left.now) result }
+    ensures { IsTaken (line_test_of test.now) (seen_lines left.now) result }
 {
     let text = test.text.as_slice();
     match test.check {
@@ -65,7 +65,7 @@ fn taken_place(test: &LineTest, left: &[&[u8]]) -> Option<usize>
 
 /// What stands in place of the line that a `check:` or `nextln:` does not find.
 fn looked_at<'t>(test: &LineTest, left: &[&'t [u8]]) -> &'t [u8]
-    ensures { result.now ≡ line_looked_at (line_test_of test.now) (lines_of left.now) }
+    ensures { result.now ≡ line_looked_at (line_test_of test.now) (seen_lines left.now) }
 {
     match test.check {
         LineCheck::Nextln if !left.is_empty() => left[0],
@@ -88,7 +88,7 @@ fn judge(
     left: &[&[u8]],
 ) -> Result<Judgement, AllocError>
     requires { taking.is_not (line_test_of test.now) ≡ false }
-    ensures { IfOk result (IsJudged (texts_of nots.now) (line_test_of test.now) (lines_of left.now)) }
+    ensures { IfOk result (IsJudged (texts_of nots.now) (line_test_of test.now) (seen_lines left.now)) }
 {
     match taken_place(test, left) {
         Some(at) => match found_any(alloc, nots, &left[..at])? {
@@ -113,7 +113,7 @@ pub(crate) fn lines_failure(
     lines: &[&[u8]],
 ) -> Result<Option<Pair>, AllocError>
     ensures { IfOk result (λ failure. failure_of failure
-        ≡ defined.failure [] (lines_of lines.now) (map line_test_of tests.now)) }
+        ≡ defined.failure [] (seen_lines lines.now) (map line_test_of tests.now)) }
 {
     // The lines behind the last taken one, and the place behind the test that took it.
     let mut left = lines;

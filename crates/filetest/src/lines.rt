@@ -13,8 +13,8 @@ use std::alloc::{AllocError, Global};
 pub(crate) const END: &[u8] = b"(end)";
 
 /// The lines of a text, each of which has a line end.
-pub(crate) fn lines_of<'t>(alloc: Global, text: &'t [u8]) -> Result<Vec<&'t [u8]>, AllocError>
-    ensures { IfOk result (λ lines. views.lines_of lines.items ≡ defined.lines_of text.now) }
+pub(crate) fn split_lines<'t>(alloc: Global, text: &'t [u8]) -> Result<Vec<&'t [u8]>, AllocError>
+    ensures { IfOk result (λ lines. views.seen_lines lines.items ≡ defined.split_lines text.now) }
 {
     let mut lines = Vec::new(alloc);
     let mut start = 0;
@@ -41,7 +41,7 @@ pub(crate) fn difference(
     got: &[&[u8]],
 ) -> Result<Option<Pair>, AllocError>
     ensures { IfOk result (λ failure. failure_of failure
-        ≡ defined.difference expected.now (views.lines_of got.now)) }
+        ≡ defined.difference expected.now (views.seen_lines got.now)) }
 {
     let common = expected.len().min(got.len());
     for i in 0..common {

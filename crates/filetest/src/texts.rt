@@ -10,7 +10,7 @@ ghost use Rattle.filetest.specs.Telling.{Tells};
 ghost use Rattle.filetest.specs.Views.{failure_of};
 
 use crate::line_checks::lines_failure;
-use crate::lines::{difference, lines_of};
+use crate::lines::{difference, split_lines};
 use crate::report::{Pair, Writer};
 use clif_numbers::{Numbers, numbering};
 use clif_print::func_text;
@@ -30,10 +30,10 @@ fn text_failure(
     requires there { at < length «module».now }
     ensures { IfOk result (λ failure. IfSome (slice_get «module».now at)
         (λ f. failure_of failure
-        ≡ lines.failure [] (lines.lines_of (function_text_of f)) (map line_test_of tests.now))) }
+        ≡ lines.failure [] (lines.split_lines (function_text_of f)) (map line_test_of tests.now))) }
 {
     let text = func_text(alloc, module, numbers, at)?;
-    let lines = lines_of(alloc, text.as_slice())?;
+    let lines = split_lines(alloc, text.as_slice())?;
     lines_failure(alloc, tests, lines.as_slice())
 }
 
@@ -110,7 +110,7 @@ fn output_failure(
         return difference(alloc, expected, lines.as_slice());
     }
     let text = func_text(alloc, module, numbers, at)?;
-    let lines = lines_of(alloc, text.as_slice())?;
+    let lines = split_lines(alloc, text.as_slice())?;
     difference(alloc, expected, lines.as_slice())
 }
 

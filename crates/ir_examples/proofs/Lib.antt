@@ -7,6 +7,7 @@ pub mod IndirectTails
 pub mod IndirectTries
 pub mod Loops
 pub mod Operations
+pub mod PrintedTexts
 pub mod SafetyExample
 pub mod Slots
 pub mod Tails

@@ -50,7 +50,7 @@ fn go_on<F: Functions>(functions: &F, from: Reached, lines: usize) -> Reached
             func: reached.func + 1,
             lines: reached
                 .lines
-                .saturating_add(lines_of(functions.func(reached.func))),
+                .saturating_add(guess_lines(functions.func(reached.func))),
         };
     }
     reached
@@ -60,12 +60,12 @@ fn go_on<F: Functions>(functions: &F, from: Reached, lines: usize) -> Reached
 fn all_lines<F: Functions>(functions: &F) -> usize {
     let mut lines = 0usize;
     for i in 0..functions.len() {
-        lines = lines.saturating_add(lines_of(functions.func(i)));
+        lines = lines.saturating_add(guess_lines(functions.func(i)));
     }
     lines
 }
 
 /// How many lines a function has, about: most lines define a value.
-fn lines_of(func: &Func) -> usize {
+fn guess_lines(func: &Func) -> usize {
     func.values().saturating_add(OTHER_LINES)
 }

@@ -1,9 +1,17 @@
 -- Worked runs, each of a function `%f`, with their texts.
-use Rattle.std.specs.Prelude.{◌≡◌, ℕ, pos, true, List, [], ◌∷◌, ◌++◌, replicate, Some, None, codes}
+use Rattle.std.specs.Prelude.{◌≡◌, ℕ, pos, true, false, List, [], ◌∷◌, ◌++◌, replicate, Some, None, codes}
 use Rattle.clk_num.specs.Operations.{DataValue}
 use Rattle.clk_num.specs.declared.op.Op.TheVariants.{Sdiv}
 use Rattle.clk_num.specs.declared.width.Width.TheVariants.{W8, W16}
 use Rattle.debug_tags.specs.declared.tags.Tag.TheVariants as tag
+use Rattle.ir_core.specs.declared.declarations.Callee.{Callee}
+use Rattle.ir_core.specs.declared.instructions.Arg.{Arg}
+use Rattle.ir_core.specs.declared.instructions.BlockCall.{BlockCall}
+use Rattle.ir_core.specs.declared.instructions.Flags.{Flags}
+use Rattle.ir_core.specs.declared.signatures.Ext.TheVariants as ext
+use Rattle.ir_core.specs.declared.signatures.Purpose.TheVariants as purpose
+use Rattle.ir_core.specs.declared.signatures.Ty.{Ty}
+use Rattle.ir_core.specs.Module.{Block, Instruction}
 use Rattle.ir_core.specs.declared.instructions.Arg.TheVariants as arg
 use Rattle.ir_core.specs.declared.names.FuncName.TheVariants as name
 use Rattle.ir_core.specs.declared.signatures.Conv.TheVariants.{Fast}
@@ -16,8 +24,45 @@ use Rattle.ir_semantics.specs.Values.{i64}
 use Rattle.ir_semantics.specs.Machine.{HostAct, Returns, Throws, Reply}
 use Rattle.ir_semantics.specs.Runs.{outcome}
 use Rattle.ir_text.specs.TextTree.{spelled}
-use Rattle.clif_print.specs.Examples.{plain, bare, typed, block, to, callee, no_flags}
 use Rattle.program_run.specs.RunText.{run_text}
+
+-- ---- short ways to write a module down
+
+abbrev pub plain : Ty → Param
+plain t = record { ty = t; ext = ext.No; purpose = purpose.Normal }
+
+-- an instruction without a suffix that may be left out, and without tags
+abbrev pub bare : List ℕ → Instruction → Line
+bare results i = record { inst = i; ty = None; results = results; tags = [] }
+
+-- an instruction with its type, whose suffix may be left out
+abbrev pub typed : Ty → List ℕ → Instruction → Line
+typed t results i = record { inst = i; ty = Some t; results = results; tags = [] }
+
+abbrev pub block : ℕ → List ℕ → List Line → Block
+block n params lines = record { number = n; params = params; lines = lines }
+
+abbrev pub to : ℕ → List Arg → BlockCall
+to b args = record { block = b; args = args }
+
+abbrev pub callee : List ℕ → ℕ → Callee
+callee text sig = record { name = name.Text text; colocated = false; sig = sig }
+
+abbrev pub no_flags : Flags
+no_flags =
+    record {
+      notrap = false;
+      aligned = false;
+      readonly = false;
+      can_move = false;
+      little = false;
+      big = false;
+      heap = false;
+      table = false;
+      vmctx = false;
+    }
+
+-- ---- runs
 
 abbrev pub signature_of : List Param → List Param → Sig
 signature_of params results = record { params = params; results = results; conv = Fast }

@@ -12,7 +12,7 @@ use text_output::Output;
 const GROUP: usize = 16;
 
 /// Whether all bytes are 0.
-fn is_blank(bytes: &[u8]) -> bool
+fn are_zero(bytes: &[u8]) -> bool
     ensures { result ≡ list_all (λ b. b == 0) bytes.now }
 {
     bytes.iter().all(|byte| *byte == 0)
@@ -32,7 +32,7 @@ fn put_address<O: Output>(out: &mut O, address: usize)
 fn put_group<O: Output>(out: &mut O, address: usize, bytes: &[u8])
     ensures { Puts O.holds out.old out.new (spelled (group_line address bytes.now)) }
 {
-    if is_blank(bytes) {
+    if are_zero(bytes) {
         return;
     }
     out.put(b"memory ");

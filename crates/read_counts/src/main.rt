@@ -61,7 +61,7 @@ fn workers_of(word: Option<&String>) -> Option<usize> {
 
 /// The functions of a module, and the lines of their blocks. The module stays in memory: the program ends here, and
 /// reading alone is measured.
-fn lines_of(found: RawModule) -> Found {
+fn count_lines(found: RawModule) -> Found {
     let mut lines: usize = 0;
     for function in found.functions.as_slice() {
         for block in function.blocks.as_slice() {
@@ -87,9 +87,9 @@ fn read<R: Threads + Sync>(
         Step::Raw => {
             let list = tokens(alloc, text)?;
             let found = read_raw(rt, alloc, text, &list, workers)?;
-            Ok(lines_of(found))
+            Ok(count_lines(found))
         }
-        Step::Text => Ok(lines_of(read_text(rt, alloc, text, workers)?)),
+        Step::Text => Ok(count_lines(read_text(rt, alloc, text, workers)?)),
     }
 }
 

@@ -163,8 +163,8 @@ abbrev pub line_text : List ℕ → Option (List ℕ)
 line_text [] = None
 line_text (c ∷ cs) = if list_any (λ b. b == 36) (c ∷ cs) then None else Some (c ∷ cs)
 
-abbrev pub lines_of : (List ℕ → LineTest) → List ℕ → Option Directive
-lines_of test t = and_then (line_text (trimmed t)) (λ text. Some (Lines (test text)))
+abbrev pub line_directive : (List ℕ → LineTest) → List ℕ → Option Directive
+line_directive test t = and_then (line_text (trimmed t)) (λ text. Some (Lines (test text)))
 
 abbrev pub host_of : List ℕ → Option Directive
 host_of t = and_then (replies_of t) (λ replies. Some (Host replies))
@@ -187,9 +187,9 @@ readings =
     (codes "run:", λ t. and_then (run_of t) (λ call. Some (Run call))) ∷
     (codes "host:", host_of) ∷
     (codes "trace:", λ t. Some (Trace (trimmed t))) ∷
-    (codes "check:", lines_of Check) ∷
-    (codes "nextln:", lines_of Nextln) ∷
-    (codes "not:", lines_of Not) ∷
+    (codes "check:", line_directive Check) ∷
+    (codes "nextln:", line_directive Nextln) ∷
+    (codes "not:", line_directive Not) ∷
     (codes "error:", λ t. Some Error) ∷
     left_out
 

@@ -45,9 +45,9 @@ fn copy_bytes(alloc: Global, text: &[u8]) -> Result<List<u8>, AllocError>
 }
 
 /// A test of lines with a text, which is not empty and has no `$`.
-fn lines_of(alloc: Global, check: LineCheck, text: &[u8]) -> Result<Option<Directive>, AllocError>
+fn line_directive(alloc: Global, check: LineCheck, text: &[u8]) -> Result<Option<Directive>, AllocError>
     ensures { IfOk result (λ lines. option_map views.directive_of lines
-        ≡ spec.lines_of (views.line_test_by check) text.now) }
+        ≡ spec.line_directive (views.line_test_by check) text.now) }
 {
     let text = trim(text);
     if text.is_empty() || text.contains(&b'$') {
@@ -81,11 +81,11 @@ pub(crate) fn comment_of(alloc: Global, comment: &[u8]) -> Result<Comment, Alloc
     } else if let Some(text) = behind(text, b"trace:".as_slice()) {
         Ok(Comment::Asks(Directive::Trace(copy_bytes(alloc, trim(text))?)))
     } else if let Some(text) = behind(text, b"check:".as_slice()) {
-        Ok(or_bad(lines_of(alloc, LineCheck::Check, text)?))
+        Ok(or_bad(line_directive(alloc, LineCheck::Check, text)?))
     } else if let Some(text) = behind(text, b"nextln:".as_slice()) {
-        Ok(or_bad(lines_of(alloc, LineCheck::Nextln, text)?))
+        Ok(or_bad(line_directive(alloc, LineCheck::Nextln, text)?))
     } else if let Some(text) = behind(text, b"not:".as_slice()) {
-        Ok(or_bad(lines_of(alloc, LineCheck::Not, text)?))
+        Ok(or_bad(line_directive(alloc, LineCheck::Not, text)?))
     } else if let Some(_) = behind(text, b"error:".as_slice()) {
         Ok(Comment::Asks(Directive::Error))
     } else if is_left_out(text) {

@@ -29,7 +29,7 @@ use Rattle.clif_read.specs.declared.raw.RawLine.{RawLine}
 use Rattle.clif_read.specs.declared.raw.RawLine.TheVariants as raw_lines
 use Rattle.clif_read.specs.declared.raw.RawTag.{RawTag}
 use Rattle.clif_read.specs.ModuleGrammar.{lines, line_or_values}
-use Rattle.clif_read.specs.LineValues.{LinePart, Whole, Values, line_or_values_value, part_value, lines_from, lines_of, lines_value}
+use Rattle.clif_read.specs.LineValues.{LinePart, Whole, Values, line_or_values_value, part_value, lines_from, lines_of_parts, lines_value}
 use Rattle.clif_read.specs.Lines.{returns}
 use Rattle.text_read_back.proofs.Stretches.{front, clear}
 use Rattle.text_read_back.specs.Bare.{bare_name, bare_inst, bare_line}
@@ -289,7 +289,7 @@ module _ (f : Function) (n : Numbering) where
   from_said k next (l ∷ ls) =
       ap (λ (z : List RawLine). k ∷ z) (given l.tags l.results (suffix_of next l) l.inst (parts (next + length l.results) ls) ∙ from_said (raws.line f n next l) (next + length l.results) ls)
 
-  lines_said : (next : ℕ) (ls : List Line) → lines_of (parts next ls) ≡ raws.lines f n next ls
+  lines_said : (next : ℕ) (ls : List Line) → lines_of_parts (parts next ls) ≡ raws.lines f n next ls
   lines_said next [] = refl
   lines_said next (l ∷ ls) = given l.tags l.results (suffix_of next l) l.inst (parts (next + length l.results) ls) ∙ from_said (raws.line f n next l) (next + length l.results) ls
 
@@ -303,6 +303,6 @@ module _ (f : Function) (n : Numbering) where
             record {
               tree = t.trees;
               derived = t.derived;
-              says = bare_lines (map part_value t.trees) ∙ ap lines_of (map_both part_value bare_part t.trees ∙ t.says) ∙ lines_said next ls;
+              says = bare_lines (map part_value t.trees) ∙ ap lines_of_parts (map_both part_value bare_part t.trees ∙ t.says) ∙ lines_said next ls;
             });
       }

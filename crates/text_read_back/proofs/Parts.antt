@@ -24,7 +24,7 @@ use Rattle.clif_read.specs.declared.raw.RawTag.TheVariants as raw_tags
 use Rattle.clif_read.specs.declared.raw.RawLine.{RawLine}
 use Rattle.clif_read.specs.declared.raw.RawLine.TheVariants as raw_lines
 use Rattle.clif_read.specs.ModuleGrammar.{debug_tag, debug_tags, line, line_or_values}
-use Rattle.clif_read.specs.LineValues.{LinePart, Whole, Values, debug_tag_value, debug_tags_value, line_value, line_or_values_value, part_value, with_values, lines_from, lines_of}
+use Rattle.clif_read.specs.LineValues.{LinePart, Whole, Values, debug_tag_value, debug_tags_value, line_value, line_or_values_value, part_value, with_values, lines_from, lines_of_parts}
 use Rattle.clif_read.specs.Lines.{returns, is_return}
 use Rattle.text_read_back.proofs.Stretches.{clear}
 use Rattle.clif_read.proofs.LineEnds.{line_ends, line_or_values_ends}
@@ -81,7 +81,7 @@ bare_from l [] = refl
 bare_from l (Values vs ∷ ps) = bare_from (with_values vs l) ps ∙ ap (λ (k : RawLine). lines_from k (map bare_part ps)) (bare_with vs l)
 bare_from l (Whole k ∷ ps) = ap (λ (ls : List RawLine). bare_line l ∷ ls) (bare_from k ps)
 
-pub bare_lines : (ps : List LinePart) → map bare_line (lines_of ps) ≡ lines_of (map bare_part ps)
+pub bare_lines : (ps : List LinePart) → map bare_line (lines_of_parts ps) ≡ lines_of_parts (map bare_part ps)
 bare_lines [] = refl
 bare_lines (Whole l ∷ ps) = bare_from l ps
 bare_lines (Values vs ∷ ps) = bare_lines ps

@@ -1,7 +1,7 @@
 use Rattle.std.proofs.Common.{◌≡◌, ◌<◌, ◌≤◌, ◌∙◌, [], length, drop, get_or, sym, ap, arith}
 use Rattle.std.proofs.lemmas.List.{get_or_read}
 use Rattle.filetest.specs.LineTests.{difference}
-use Rattle.filetest.specs.Views.{lines_of}
+use Rattle.filetest.specs.Views.{seen_lines}
 use Rattle.filetest.proofs.Differing.{first_differs, line_is_same, got_has_more}
 use Rattle.filetest.proofs.lines.difference.Goals as goal
 
@@ -27,4 +27,4 @@ returns-in_ok-of-3 c =
     let l : length c.args.expected.now ≤ c.min-common.result = omega (arith, c.if-common-expected.false) in
     let m : c.min-common.result < length c.args.got.now = omega (arith, c.if-common-got.true) in
     got_has_more c.args.expected.now c.args.got.now c.min-common.result _ c.in_ok-of-3.field-0 l m c.in_ok-of-3.ensures.0 c.in_ok-of-3.ensures.1
-    ∙ (ap (λ k. difference (drop k c.args.expected.now) (drop k (lines_of c.args.got.now))) (sym at) ∙ c.loop-i.invariant)
+    ∙ (ap (λ k. difference (drop k c.args.expected.now) (drop k (seen_lines c.args.got.now))) (sym at) ∙ c.loop-i.invariant)

@@ -1,14 +1,14 @@
 use Rattle.std.proofs.Common.{◌∙◌, ◌++◌, sym, ap, arith}
 use Rattle.std.proofs.lemmas.List.{map_push}
-use Rattle.filetest.specs.Views.{lines_of}
+use Rattle.filetest.specs.Views.{seen_lines}
 use Rattle.filetest.proofs.Cutting.{at_line_feed, at_other}
-use Rattle.filetest.proofs.lines.lines_of.Goals as goal
-use Rattle.filetest.proofs.lines.lines_of.Goals.{then-text-i-eq10+in_ok-push, else-text-i-eq10}
+use Rattle.filetest.proofs.lines.split_lines.Goals as goal
+use Rattle.filetest.proofs.lines.split_lines.Goals.{then-text-i-eq10+in_ok-push, else-text-i-eq10}
 
 pub loop-i-preserved : goal.loop-i-preserved
 loop-i-preserved c =
     let text = c.args.text.now in
-    let before = lines_of c.loop-i.lines.items in
+    let before = seen_lines c.loop-i.lines.items in
     elim c.if-text-i-eq10.branch [
       | then-text-i-eq10+in_ok-push w ↦ record {
         start = omega arith;

@@ -15,7 +15,7 @@ use clif_read::{RawFunction, read_function};
 use clif_resolve::meant_function;
 use clif_words::Class;
 use ir_check::keeps_own_rules;
-use ir_core::{Func, Module};
+use ir_core::{Boxed, Func, Module};
 use std::alloc::{AllocError, Global};
 use text_output::Output;
 use token_reader::Reader;
@@ -51,7 +51,7 @@ pub(crate) fn put_module<O: Output>(
 
 /// Puts a whole function behind an empty line, once it is known to keep every rule but that on its callee declarations.
 /// Its body is let go, and its head is left. `None` where it breaks such a rule, or memory runs out.
-fn put_checked<O: Output>(out: &mut O, alloc: Global, func: Func) -> Option<Func>
+fn put_checked<O: Output>(out: &mut O, alloc: Global, func: Func) -> Option<Boxed<Func>>
     requires { IsWhole func.function }
     ensures own { IfSome result (λ head. KeepsOwnRules func.function) }
     ensures head { IfSome result (λ head. head.function ≡ head_of func.function) }
@@ -65,12 +65,15 @@ fn put_checked<O: Output>(out: &mut O, alloc: Global, func: Func) -> Option<Func
     };
     let mut head = func;
     head.drop_body();
-    Some(head)
+    match Boxed::new(alloc, head) {
+        Ok(head) => Some(head),
+        Err(_) => None,
+    }
 }
 
 /// Puts the function that is meant, and answers its head. `None` where it has a fault of names or numbers or breaks a
 /// rule of its own, or memory runs out.
-fn put_meant<O: Output>(out: &mut O, alloc: Global, raw: &RawFunction) -> Option<Func>
+fn put_meant<O: Output>(out: &mut O, alloc: Global, raw: &RawFunction) -> Option<Boxed<Func>>
     requires { raw.now.blocks ≢ [] }
     ensures { IfSome result (λ head. PutsPrinted O.holds out.old out.new (raw.now ∷ []) (head ∷ [])) }
 {
@@ -85,7 +88,7 @@ pub(crate) fn put_all_meant<O: Output>(
     out: &mut O,
     alloc: Global,
     raws: &[RawFunction],
-) -> Option<Vec<Func>>
+) -> Option<Vec<Boxed<Func>>>
     requires { Each (λ r. r.blocks ≢ []) raws.now }
     ensures { IfSome result (λ heads. PutsPrinted O.holds out.old out.new raws.now heads.items) }
 {
@@ -105,7 +108,7 @@ pub(crate) fn put_tokens<O: Output>(
     out: &mut O,
     alloc: Global,
     reader: &mut Reader<'_>,
-) -> Option<Vec<Func>>
+) -> Option<Vec<Boxed<Func>>>
     ensures { IfSome result (λ heads. PutsOfTokens O.holds out.old out.new reader.old heads.items) }
 {
     let mut heads = Vec::new(alloc);

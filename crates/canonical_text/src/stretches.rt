@@ -13,7 +13,7 @@ use clif_check::laws::accepted_by_heads;
 use clif_lex::tokens_between;
 use clif_names::MOST_FUNCTIONS;
 use clif_read::RawFunction;
-use ir_core::{Func, Heads};
+use ir_core::{Boxed, Func, Heads};
 use range_workers::{Ranges, join_items, read_by_workers};
 use read_workers::{find_front_end, find_stretch_end, read_front};
 use std::alloc::{AllocError, Global};
@@ -24,7 +24,7 @@ use token_reader::Reader;
 /// What stays of a stretch of a text: the heads of its functions, and their canonical text, each behind an empty line.
 #[derive(Drop)]
 pub(crate) struct Stretch {
-    heads: Vec<Func>,
+    heads: Vec<Boxed<Func>>,
     text: Vec<u8>,
 }
 
@@ -130,7 +130,7 @@ fn count_heads(stretches: &[Stretch]) -> usize {
 /// The heads of all stretches, and their texts, which stay where they are.
 #[derive(Drop)]
 struct Parts {
-    heads: Vec<Func>,
+    heads: Vec<Boxed<Func>>,
     texts: Vec<Vec<u8>>,
 }
 

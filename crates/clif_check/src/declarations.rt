@@ -6,9 +6,9 @@ ghost use Rattle.ir_core.specs.WellFormed.{DifferentNames};
 ghost use Rattle.ir_semantics.specs.CallRules.{Declared};
 ghost use Rattle.clif_check.specs.Declarations.{DeclareWithin, DeclaresAt, IsFunctionRange};
 
+use body_import::is_same_sig;
 use ir_core::{Callee, Func, FuncName, Heads, Module};
 use range_workers::{Ranges, read_by_workers};
-use sig_numbers::is_same_sig;
 use std::alloc::Global;
 use std::thread::Threads;
 
@@ -41,7 +41,7 @@ impl Named for Heads {
     }
 
     fn func_at(&self, place: usize) -> &Func {
-        &self.funcs()[place]
+        self.funcs()[place].get()
     }
 
     fn find_func(&self, name: &FuncName) -> Option<&Func> {

@@ -10,7 +10,7 @@ use clif_lex::tokens_between;
 use clif_names::MOST_FUNCTIONS;
 use clif_read::{RawFunction, read_function};
 use clif_words::Class;
-use ir_core::Func;
+use ir_core::{Boxed, Func};
 use range_workers::{Ranges, read_by_workers};
 use read_workers::{find_front_end, find_stretch_end, read_front};
 use std::alloc::Global;
@@ -18,7 +18,7 @@ use std::thread::Threads;
 use token_reader::Reader;
 
 /// What stays of these functions. `None` where nothing stays of one.
-fn keep_functions(alloc: Global, raws: &[RawFunction], part: Part) -> Option<Vec<Func>>
+fn keep_functions(alloc: Global, raws: &[RawFunction], part: Part) -> Option<Vec<Boxed<Func>>>
     requires { Each (λ r. r.blocks ≢ []) raws.now }
     ensures { IfSome result (λ kept. AreKept part raws.now kept.items) }
 {
@@ -34,7 +34,7 @@ fn keep_functions(alloc: Global, raws: &[RawFunction], part: Part) -> Option<Vec
 
 /// What stays of the functions of all the tokens that are left. Each raw function is let go before the next is read,
 /// whose lists then take its memory. `None` where anything else stands there, or nothing stays of one.
-fn read_functions(alloc: Global, reader: &mut Reader<'_>, part: Part) -> Option<Vec<Func>>
+fn read_functions(alloc: Global, reader: &mut Reader<'_>, part: Part) -> Option<Vec<Boxed<Func>>>
     ensures { IfSome result (λ kept. KeptOfTokens part reader.old kept.items) }
 {
     let mut functions = Vec::new(alloc);
@@ -60,7 +60,7 @@ struct TextRanges<'t> {
     part: Part,
 }
 
-impl<'t> Ranges<Func> for TextRanges<'t> {
+impl<'t> Ranges<Boxed<Func>> for TextRanges<'t> {
     ghost range = { λ ranges from to. IsTextRange ranges.text.now from to };
 
     ghost stand = { λ ranges from to kept. KeptOfRange ranges.part ranges.text.now from to kept };
@@ -69,7 +69,7 @@ impl<'t> Ranges<Func> for TextRanges<'t> {
         find_stretch_end(self.text, from, end, size)
     }
 
-    fn read_stretch(&self, alloc: Global, from: usize, end: usize) -> Option<Vec<Func>> {
+    fn read_stretch(&self, alloc: Global, from: usize, end: usize) -> Option<Vec<Boxed<Func>>> {
         let Ok(tokens) = tokens_between(alloc, self.text, from, end, false) else {
             return None;
         };
@@ -81,7 +81,7 @@ impl<'t> Ranges<Func> for TextRanges<'t> {
 }
 
 /// The functions of both lists, one list behind the other. The second, which may be long, is kept as it is.
-fn join_functions(first: Vec<Func>, rest: Vec<Func>) -> Option<Vec<Func>>
+fn join_functions(first: Vec<Boxed<Func>>, rest: Vec<Boxed<Func>>) -> Option<Vec<Boxed<Func>>>
     ensures { IfSome result (λ all. all.items ≡ first.items ++ rest.items) }
 {
     let mut front = first;
@@ -104,7 +104,7 @@ pub(crate) fn read_parts<R: Threads + Sync>(
     workers: usize,
     size: usize,
     part: Part,
-) -> Option<Vec<Func>>
+) -> Option<Vec<Boxed<Func>>>
     ensures kept { IfSome result (λ kept. KeptOfText part text.now kept.items) }
     ensures few { IfSome result (λ kept. length kept.items ≤ most_functions) }
 {

@@ -9,6 +9,5 @@ pub mod Forms
 pub mod InstValues
 pub mod Insts
 pub mod FlagLetter
-pub mod Listed
 pub mod OfForm
 pub mod Marks

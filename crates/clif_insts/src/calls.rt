@@ -4,7 +4,7 @@ ghost use Rattle.std.specs.Prelude.{◌<◌, length, IfOk};
 ghost use Rattle.token_reader.specs.Reading.{Gives, same};
 ghost use Rattle.clif_insts.specs.Forms as spec;
 
-use crate::arguments::read_args;
+use crate::arguments::{read_args, read_few_args};
 use crate::raw::{RawInst, RawOperands};
 use crate::tables::read_boxed_table;
 use crate::targets::{TargetRole, read_boxed_target};
@@ -21,14 +21,11 @@ pub(crate) fn read_call(alloc: Global, reader: &mut Reader<'_>) -> Result<RawIns
 {
     let opcode = reader.take_opcode(Class::Call)?;
     let callee = reader.take(Class::Callee)?;
-    let args = read_args(alloc, reader)?;
+    let args = read_few_args(alloc, reader)?;
     Ok(RawInst {
         opcode,
         suffix: None,
-        operands: RawOperands::Call {
-            callee,
-            args: List::from_vec(args),
-        },
+        operands: RawOperands::Call { callee, args },
     })
 }
 
@@ -71,15 +68,11 @@ pub(crate) fn read_call_indirect(alloc: Global, reader: &mut Reader<'_>) -> Resu
     let sig = reader.take(Class::Sig)?;
     reader.take(Class::Comma)?;
     let address = reader.take(Class::Value)?;
-    let args = read_args(alloc, reader)?;
+    let args = read_few_args(alloc, reader)?;
     Ok(RawInst {
         opcode,
         suffix: None,
-        operands: RawOperands::CallIndirect {
-            sig,
-            address,
-            args: List::from_vec(args),
-        },
+        operands: RawOperands::CallIndirect { sig, address, args },
     })
 }
 

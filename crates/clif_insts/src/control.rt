@@ -9,7 +9,7 @@ use crate::codes::read_trap_code;
 use crate::raw::{RawInst, RawOperands};
 use crate::targets::{TargetRole, read_boxed_target, read_target, read_target_list};
 use clif_words::Class;
-use ir_core::List;
+use ir_core::{Few, List};
 use std::alloc::Global;
 use token_reader::{Reader, Stop, read_opt_suffix};
 
@@ -100,7 +100,7 @@ pub(crate) fn read_return(alloc: Global, reader: &mut Reader<'_>) -> Result<RawI
     Ok(RawInst {
         opcode,
         suffix: None,
-        operands: RawOperands::Return(List::from_vec(Vec::new(alloc))),
+        operands: RawOperands::Return(Few::from_vec(Vec::new(alloc))),
     })
 }
 

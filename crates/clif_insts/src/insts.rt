@@ -10,17 +10,17 @@ ghost use Rattle.clif_insts.specs.Insts as insts;
 ghost use Rattle.clif_insts.specs.Marks.{MarksFormed, inst_marks};
 ghost use Rattle.clif_insts.specs.OfForm.{InstFormed};
 
-use crate::arguments::read_more_values;
+use crate::arguments::read_few_more_values;
 use crate::forms::read_inst;
 use crate::opening::Opening;
 use crate::raw::{RawInst, RawOperands};
 use clif_lex::{TextKind, Tokens};
 use clif_words::Class;
-use ir_core::List;
+use ir_core::Few;
 use std::alloc::Global;
 use std::error::Error;
 use std::fmt;
-use token_reader::{RawName, Reader, Stop, start_list};
+use token_reader::{RawName, Reader, Stop};
 
 /// Why the tokens are no instruction, and at which token of the list. At the end it is the list's length.
 #[derive(Clone, Copy, Debug, PartialEq, Eq)]
@@ -66,23 +66,22 @@ fn make_error(stop: Stop, place: usize) -> SyntaxErr
 
 /// The values of a `return`, but none where they would be the results of the next line, or its alias.
 #[tactic(auto, unfolding(crate::specs::Forms::own_values_at))]
-fn read_own_values(alloc: Global, reader: &mut Reader<'_>) -> Result<Vec<RawName>, Stop>
-    ensures { Gives (λ x. x.items) reader.new result (forms.own_values_at reader.old) }
+fn read_own_values(alloc: Global, reader: &mut Reader<'_>) -> Result<Few<RawName>, Stop>
+    ensures { Gives same reader.new result (forms.own_values_at reader.old) }
 {
     if !reader.next_is(Class::Value) {
-        return Ok(Vec::new(alloc));
+        return Ok(Few::from_vec(Vec::new(alloc)));
     }
     let behind = reader.fork();
     let value = reader.take(Class::Value)?;
     if reader.next_is(Class::Arrow) {
         *reader = behind;
-        return Ok(Vec::new(alloc));
+        return Ok(Few::from_vec(Vec::new(alloc)));
     }
-    let front = start_list(alloc, value)?;
-    let values = read_more_values(alloc, reader, front)?;
+    let values = read_few_more_values(alloc, reader, value)?;
     if reader.next_is(Class::Equals) {
         *reader = behind;
-        return Ok(Vec::new(alloc));
+        return Ok(Few::from_vec(Vec::new(alloc)));
     }
     Ok(values)
 }
@@ -97,7 +96,7 @@ fn read_return_line(alloc: Global, reader: &mut Reader<'_>) -> Result<RawInst, S
     Ok(RawInst {
         opcode,
         suffix: None,
-        operands: RawOperands::Return(List::from_vec(values)),
+        operands: RawOperands::Return(values),
     })
 }
 

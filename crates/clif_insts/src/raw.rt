@@ -1,7 +1,7 @@
 //! Instructions as the grammar reads them, with names that are not looked up yet.
 
 use clk_num::Cc;
-use ir_core::{Boxed, List, Ty};
+use ir_core::{Boxed, Few, List, Ty};
 use std::mem::size_of;
 use token_reader::{RawName, RawNumber, RawOpcode};
 
@@ -17,7 +17,7 @@ pub enum RawArg {
 #[derive(Drop)]
 pub struct RawTarget {
     pub block: RawName,
-    pub args: List<RawArg>,
+    pub args: Few<RawArg>,
 }
 
 /// An entry of an exception table: `tagN`, or none for `default`, and its target.
@@ -95,12 +95,12 @@ pub enum RawOperands {
         default: Boxed<RawTarget>,
         entries: List<RawTarget>,
     },
-    Return(List<RawName>),
+    Return(Few<RawName>),
     Trap(RawTrap),
     TrapIf(RawName, RawTrap),
     Call {
         callee: RawName,
-        args: List<RawName>,
+        args: Few<RawName>,
     },
     TryCall {
         callee: RawName,
@@ -112,7 +112,7 @@ pub enum RawOperands {
     CallIndirect {
         sig: RawName,
         address: RawName,
-        args: List<RawName>,
+        args: Few<RawName>,
     },
     TryCallIndirect {
         address: RawName,

@@ -8,9 +8,9 @@ ghost use Rattle.clif_insts.specs.Targets as spec;
 
 use crate::raw::{RawArg, RawTarget};
 use clif_words::Class;
-use ir_core::{Boxed, List};
+use ir_core::{Boxed, Few};
 use std::alloc::Global;
-use token_reader::{Items, Reader, Stop, read_items};
+use token_reader::{Items, Reader, Stop, read_few_items, read_items};
 
 /// Where a target stands: at a branch, as the normal target of a `try_call`, or in its table.
 /// `retN` stands only in the second, `exnN` only in the third.
@@ -73,15 +73,15 @@ pub(crate) fn read_target_args(
     alloc: Global,
     reader: &mut Reader<'_>,
     role: TargetRole,
-) -> Result<Vec<RawArg>, Stop>
-    ensures is { Gives (λ x. x.items) reader.new result (spec.target_args_at role reader.old) }
+) -> Result<Few<RawArg>, Stop>
+    ensures is { Gives same reader.new result (spec.target_args_at role reader.old) }
     ensures shorter { IfOk result (λ _. length reader.new < length reader.old) }
 {
     reader.take(Class::LeftParen)?;
     let list = if begins_arg(reader, role) {
-        read_items(alloc, reader, &role)?
+        read_few_items(alloc, reader, &role)?
     } else {
-        Vec::new(alloc)
+        Few::from_vec(Vec::new(alloc))
     };
     reader.take(Class::RightParen)?;
     Ok(list)
@@ -92,14 +92,14 @@ pub(crate) fn read_opt_target_args(
     alloc: Global,
     reader: &mut Reader<'_>,
     role: TargetRole,
-) -> Result<Vec<RawArg>, Stop>
-    ensures is { Gives (λ x. x.items) reader.new result (spec.opt_target_args_at role reader.old) }
+) -> Result<Few<RawArg>, Stop>
+    ensures is { Gives same reader.new result (spec.opt_target_args_at role reader.old) }
     ensures shorter { IfOk result (λ _. length reader.new ≤ length reader.old) }
 {
     if reader.next_is(Class::LeftParen) {
         read_target_args(alloc, reader, role)
     } else {
-        Ok(Vec::new(alloc))
+        Ok(Few::from_vec(Vec::new(alloc)))
     }
 }
 
@@ -115,10 +115,7 @@ pub(crate) fn read_target(
 {
     let block = reader.take(Class::Block)?;
     let args = read_opt_target_args(alloc, reader, role)?;
-    Ok(RawTarget {
-        block,
-        args: List::from_vec(args),
-    })
+    Ok(RawTarget { block, args })
 }
 
 /// A target behind a pointer: so an instruction is no larger for it.

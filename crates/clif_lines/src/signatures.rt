@@ -6,7 +6,7 @@ ghost use Rattle.clif_meaning.specs.Meaning as spec;
 
 use crate::narrowing::{entity_number, word_number};
 use clif_read::{RawAttribute, RawFuncName, RawParam, RawSignature};
-use ir_core::{Conv, Ext, FuncName, List, Param, Purpose, Sig};
+use ir_core::{Conv, Ext, Few, FuncName, Param, Purpose, Sig};
 use std::alloc::{AllocError, Global};
 
 /// The name of a function. Only `AllocError` refuses.
@@ -65,15 +65,25 @@ fn param(written: &RawParam) -> Param
 }
 
 /// The parameters or the results.
+fn params(alloc: Global, written: &[RawParam]) -> Result<Few<Param>, AllocError>
+    ensures { IfOk result (λ list. list ≡ map spec.param_of written.now) }
+{
+    match written {
+        [one] => Ok(Few::one(param(one))),
+        _ => many_params(alloc, written),
+    }
+}
+
+/// The parameters or the results, of however many.
 #[tactic(auto, using(name_tables::proofs::Folds::map_more))]
-fn params(alloc: Global, written: &[RawParam]) -> Result<List<Param>, AllocError>
+fn many_params(alloc: Global, written: &[RawParam]) -> Result<Few<Param>, AllocError>
     ensures { IfOk result (λ list. list ≡ map spec.param_of written.now) }
 {
     let mut list = Vec::with_capacity(alloc, written.len())?;
     for item in written {
         list.push(param(item))?;
     }
-    Ok(List::from_vec(list))
+    Ok(Few::from_vec(list))
 }
 
 /// A signature. Its convention is `fast` where none is written. Takes time linear in it; only `AllocError` refuses.

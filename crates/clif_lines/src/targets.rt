@@ -12,7 +12,7 @@ use clif_insts::{RawArg, RawEntry, RawFlag, RawTarget};
 use clif_read::RawTag;
 use debug_tags::{Tag, Tags};
 use exn_tables::{Entry, Table};
-use ir_core::{Arg, BlockCall, Flags, List, Values};
+use ir_core::{Arg, BlockCall, Few, Flags, List, Values};
 use std::alloc::{AllocError, Global};
 use token_reader::RawName;
 
@@ -60,8 +60,23 @@ fn arg(words: &WordNumbers<'_>, written: RawArg) -> Arg
 }
 
 /// The arguments of a target.
+fn args(alloc: Global, words: &WordNumbers<'_>, written: &[RawArg]) -> Result<Few<Arg>, AllocError>
+    requires { AllKeep (flat_map arg_limits written.now) }
+    ensures { IfOk result (λ list. list ≡ map (spec.arg_of (renaming words.now)) written.now) }
+{
+    match written {
+        [one] => Ok(Few::one(arg(words, *one))),
+        _ => many_args(alloc, words, written),
+    }
+}
+
+/// The arguments of a target, of however many.
 #[tactic(auto, using(name_tables::proofs::Folds::map_more))]
-fn args(alloc: Global, words: &WordNumbers<'_>, written: &[RawArg]) -> Result<List<Arg>, AllocError>
+fn many_args(
+    alloc: Global,
+    words: &WordNumbers<'_>,
+    written: &[RawArg],
+) -> Result<Few<Arg>, AllocError>
     requires { AllKeep (flat_map arg_limits written.now) }
     ensures { IfOk result (λ list. list ≡ map (spec.arg_of (renaming words.now)) written.now) }
 {
@@ -69,7 +84,7 @@ fn args(alloc: Global, words: &WordNumbers<'_>, written: &[RawArg]) -> Result<Li
     for item in written {
         list.push(arg(words, *item))?;
     }
-    Ok(List::from_vec(list))
+    Ok(Few::from_vec(list))
 }
 
 /// A target.

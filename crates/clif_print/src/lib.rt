@@ -5,7 +5,6 @@ mod control;
 mod declarations;
 mod functions;
 mod instructions;
-pub mod laws;
 mod lists;
 mod operands;
 mod signatures;

@@ -4,7 +4,6 @@ ghost use Rattle.ir_core.specs.Lookup.{type_of};
 ghost use Rattle.ir_text.specs.Numbering.{Numbering};
 ghost use Rattle.ir_text.specs.TextInstructions.{has_type, is_known, shown_suffix, typing_operand};
 ghost use Rattle.ir_core.specs.Forms.{controlling};
-ghost use Rattle.ir_core.specs.Signatures.{same_type};
 ghost use Rattle.ir_core.specs.Viewed.{instruction_of};
 
 use clif_numbers::FuncNumbers;
@@ -22,25 +21,12 @@ pub(crate) fn type_of(func: &Func, value: Value) -> Option<Ty>
     }
 }
 
-/// Whether two types are one.
-fn same_type(a: Ty, b: Ty) -> bool
-    ensures { result ≡ same_type a b }
-{
-    match a {
-        Ty::I8 => matches!(b, Ty::I8),
-        Ty::I16 => matches!(b, Ty::I16),
-        Ty::I32 => matches!(b, Ty::I32),
-        Ty::I64 => matches!(b, Ty::I64),
-        Ty::I128 => matches!(b, Ty::I128),
-    }
-}
-
 /// Whether a value has a type.
 fn has_type(func: &Func, value: Value, ty: Ty) -> bool
     ensures { result ≡ has_type func.now.function value ty }
 {
     match type_of(func, value) {
-        Some(own) => same_type(own, ty),
+        Some(own) => own.is(ty),
         None => false,
     }
 }

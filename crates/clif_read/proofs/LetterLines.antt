@@ -18,7 +18,7 @@ use Rattle.clif_read.specs.declared.raw.RawTag.{RawTag}
 use Rattle.clif_read.specs.declared.raw.RawLine.{RawLine}
 use Rattle.clif_read.specs.declared.raw.RawLine.TheVariants as raw_lines
 use Rattle.clif_read.specs.ModuleGrammar.{debug_tags, made, named, named_or_values, tagged, located, line, line_or_values, lines}
-use Rattle.clif_read.specs.LineValues.{LinePart, Whole, Values, debug_tags_value, values_from, line_value, line_or_values_value, part_value, with_values, lines_from, lines_of, lines_value}
+use Rattle.clif_read.specs.LineValues.{LinePart, Whole, Values, debug_tags_value, values_from, line_value, line_or_values_value, part_value, with_values, lines_from, lines_of_parts, lines_value}
 use Rattle.clif_read.specs.LetterLines.{results, letter_line, letter_lines, location, results_value, tags_value, letter_line_value, letter_lines_value}
 use Rattle.clif_read.specs.Alike.{Means, Alike}
 use Rattle.clif_read.proofs.Alike.{alike_same, alike_back, alike_then, alike_map, alt_alike, alt_swap, alt_group, seq_second, seq_group, seq_alt, opt_seq, many_alike}
@@ -166,7 +166,7 @@ added_from ys y [] = refl
 added_from ys y (Whole z ∷ ps) = added_from (ys ++ y ∷ []) z ps ∙ append_assoc ys (y ∷ []) (lines_from z ps)
 added_from ys y (Values vs ∷ ps) = ap (λ (l : List RawLine). add_parts l ps) (last_given ys y vs) ∙ added_from ys (with_values vs y) ps
 
-added : (ps : List LinePart) → add_parts [] ps ≡ lines_of ps
+added : (ps : List LinePart) → add_parts [] ps ≡ lines_of_parts ps
 added [] = refl
 added (Whole y ∷ ps) = added_from [] y ps
 added (Values vs ∷ ps) = added ps

@@ -25,7 +25,7 @@ use Rattle.clif_read.specs.declared.raw.RawTag.TheVariants as tag_kinds
 use Rattle.clif_read.specs.declared.raw.RawLine.{RawLine}
 use Rattle.clif_read.specs.declared.raw.RawLine.TheVariants as raw_lines
 use Rattle.clif_read.specs.ModuleGrammar.{debug_tag, debug_tags, made, named, named_or_values, tagged, located, other_line, line, line_or_values, lines}
-use Rattle.clif_read.specs.LineValues.{LinePart, Whole, Values, made_value, debug_tag_value, debug_tags_value, values_from, named_by, named_value, tagged_by, tagged_value, located_value, other_line_value, line_value, values_by, named_or_values_by, named_or_values_value, line_or_values_value, with_values, lines_from, lines_of, part_value, lines_value}
+use Rattle.clif_read.specs.LineValues.{LinePart, Whole, Values, made_value, debug_tag_value, debug_tags_value, values_from, named_by, named_value, tagged_by, tagged_value, located_value, other_line_value, line_value, values_by, named_or_values_by, named_or_values_value, line_or_values_value, with_values, lines_from, lines_of_parts, part_value, lines_value}
 use Rattle.clif_read.specs.Tags.{debug_tag_at, debug_tags_at}
 use Rattle.clif_read.specs.Lines.{made_at, alias_at, results_at, named_at, plain_at, tagged_results_at, tagged_at, located_at, other_line_at, opt_made_at, values_or_results_at, named_or_values_at, line_at, is_return, to_last, add_part, more_lines_at, lines_at}
 use Rattle.clif_read.proofs.LineEnds.{line_ends, line_or_values_ends}
@@ -207,7 +207,7 @@ from_last front l [] = refl
 from_last front l (Whole next ∷ parts) = from_last (front ++ l ∷ []) next parts ∙ append_assoc front (l ∷ []) (lines_from next parts)
 from_last front l (Values values ∷ parts) = ap (λ ls. add_parts ls parts) (last_gets values front l) ∙ from_last front (with_values values l) parts
 
-from_none : (parts : List LinePart) → add_parts [] parts ≡ lines_of parts
+from_none : (parts : List LinePart) → add_parts [] parts ≡ lines_of_parts parts
 from_none [] = refl
 from_none (Whole l ∷ parts) = from_last [] l parts
 from_none (Values values ∷ parts) = from_none parts

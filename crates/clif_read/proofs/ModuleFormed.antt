@@ -27,7 +27,7 @@ use Rattle.clif_read.specs.declared.raw.RawLine.{RawLine}
 use Rattle.clif_read.specs.declared.raw.RawLine.TheVariants as raw_lines
 use Rattle.clif_read.specs.declared.raw.RawModule.{RawModule}
 use Rattle.clif_read.specs.ModuleGrammar.{func_name, signature, decl, block_params, debug_tags, made, named, named_or_values, tagged, located, other_line, line, line_or_values, lines, block_rule, function, module_rule}
-use Rattle.clif_read.specs.LineValues.{LinePart, Whole, Values, made_value, debug_tags_value, values_from, named_by, named_value, tagged_by, tagged_value, located_value, other_line_value, line_value, named_or_values_value, line_or_values_value, with_values, lines_from, lines_of, part_value, lines_value}
+use Rattle.clif_read.specs.LineValues.{LinePart, Whole, Values, made_value, debug_tags_value, values_from, named_by, named_value, tagged_by, tagged_value, located_value, other_line_value, line_value, named_or_values_value, line_or_values_value, with_values, lines_from, lines_of_parts, part_value, lines_value}
 use Rattle.clif_read.specs.ModuleValues.{block_value, function_value}
 use Rattle.clif_read.specs.Lines.{returns, is_return}
 use Rattle.clif_read.specs.Texts.{IsModule}
@@ -158,7 +158,7 @@ from_formed len (inr v ∷ vs) after ts l formed is tokens d =
 lines_formed : Formed (Each LineFormed) lines lines_value
 lines_formed = record { formed = go }
   where
-    go : (len : ℕ) (ts : List Lexeme) (vs : List Part) → Each (IsTextToken len) ts → LinksLines false ts vs → Each LineFormed (lines_of (map part_value vs))
+    go : (len : ℕ) (ts : List Lexeme) (vs : List Part) → Each (IsTextToken len) ts → LinksLines false ts vs → Each LineFormed (lines_of_parts (map part_value vs))
     go len ts [] tokens d = tt
     go len ts (inl (inl w) ∷ vs) tokens d =
         from_formed len vs (ends return_code false d.0) d.1 (named_value None w) (line_formed.formed len d.0 (inl w) (front_tokens len d.0 d.1 ts d.2 tokens) d.3.0.1)

@@ -19,7 +19,7 @@ use Rattle.clif_read.specs.declared.raw.RawLine.{RawLine}
 use Rattle.clif_read.specs.declared.raw.RawLine.TheVariants as raw_lines
 use Rattle.clif_read.specs.ModuleGrammar.{signature, func_name, slot_decl, sig_decl, callee_decl, decl, debug_tag, debug_tags, made, named, named_or_values, tagged, located, other_line, line, line_or_values, lines, block_param, block_params, block_rule, function, module_rule}
 use Rattle.clif_read.specs.DeclarationValues.{func_name_value, align_value, slot_decl_value, sig_decl_value, callee_sig_value, callee_decl_value, decl_value}
-use Rattle.clif_read.specs.LineValues.{LinePart, Whole, Values, made_value, debug_tag_value, debug_tags_value, named_value, tagged_value, located_value, other_line_value, line_value, named_or_values_value, line_or_values_value, with_values, lines_from, lines_of, part_value, lines_value}
+use Rattle.clif_read.specs.LineValues.{LinePart, Whole, Values, made_value, debug_tag_value, debug_tags_value, named_value, tagged_value, located_value, other_line_value, line_value, named_or_values_value, line_or_values_value, with_values, lines_from, lines_of_parts, part_value, lines_value}
 use Rattle.clif_read.specs.ModuleValues.{block_param_value, block_params_value, block_value, function_value, module_value}
 use Rattle.clif_read.specs.Marks.{func_name_marks, callee_sig_marks, decl_marks, tag_marks, location_marks, line_marks, block_param_marks, block_marks, function_marks, module_marks}
 
@@ -208,10 +208,10 @@ lines_sub l (Values values ∷ more) =
     (sub_join (given values l) (sub_same (flat_map part_marks more))))
 lines_sub l (Whole next ∷ more) = sub_join (sub_same (line_marks l)) (lines_sub next more)
 
-all_sub : (parts : List LinePart) → Sub (flat_map line_marks (lines_of parts)) (flat_map part_marks parts)
+all_sub : (parts : List LinePart) → Sub (flat_map line_marks (lines_of_parts parts)) (flat_map part_marks parts)
 all_sub [] = empty
 all_sub (Whole l ∷ more) = lines_sub l more
-all_sub (Values values ∷ more) = sub_behind (names_marks values) (flat_map line_marks (lines_of more)) (all_sub more)
+all_sub (Values values ∷ more) = sub_behind (names_marks values) (flat_map line_marks (lines_of_parts more)) (all_sub more)
 
 lines_marked : Marked lines (λ v. flat_map line_marks (lines_value v))
 lines_marked = record { among = λ ts v d. among_sub (all_sub (map part_value v)) (subst (λ (ms : List Mark). Among ms ts) (same v) (parts.among ts v d)) }

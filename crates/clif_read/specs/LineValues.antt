@@ -95,13 +95,13 @@ lines_from l (Values values ∷ more) = lines_from (with_values values l) more
 lines_from l (Whole next ∷ more) = l ∷ lines_from next more
 
 -- what a block's parts are; no values stand before the first line
-abbrev pub lines_of : List LinePart → List RawLine
-lines_of [] = []
-lines_of (Whole l ∷ more) = lines_from l more
-lines_of (Values values ∷ more) = lines_of more
+abbrev pub lines_of_parts : List LinePart → List RawLine
+lines_of_parts [] = []
+lines_of_parts (Whole l ∷ more) = lines_from l more
+lines_of_parts (Values values ∷ more) = lines_of_parts more
 
 abbrev pub part_value : Tree line ⊎ Tree line_or_values → LinePart
 part_value = line_value otherwise line_or_values_value
 
 abbrev pub lines_value : Tree lines → List RawLine
-lines_value v = lines_of (map part_value v)
+lines_value v = lines_of_parts (map part_value v)

@@ -6,8 +6,9 @@ ghost use Rattle.clif_read.specs.Heads as spec;
 
 use crate::raw::RawBlockParam;
 use clif_words::Class;
+use ir_core::Few;
 use std::alloc::Global;
-use token_reader::{Items, Reader, Stop, read_items, read_type};
+use token_reader::{Items, Reader, Stop, read_few_items, read_type};
 
 /// The spot of a header line.
 #[tactic(auto, unfolding(crate::specs::Heads::header_at))]
@@ -60,15 +61,15 @@ impl Items<RawBlockParam> for BlockParamItems {
 pub(crate) fn read_block_params(
     alloc: Global,
     reader: &mut Reader<'_>,
-) -> Result<Vec<RawBlockParam>, Stop>
-    ensures is { Gives (λ x. x.items) reader.new result (spec.block_params_at reader.old) }
+) -> Result<Few<RawBlockParam>, Stop>
+    ensures is { Gives same reader.new result (spec.block_params_at reader.old) }
     ensures shorter { IfOk result (λ _. length reader.new < length reader.old) }
 {
     reader.take(Class::LeftParen)?;
     let list = if reader.next_is(Class::Value) {
-        read_items(alloc, reader, &BlockParamItems)?
+        read_few_items(alloc, reader, &BlockParamItems)?
     } else {
-        Vec::new(alloc)
+        Few::from_vec(Vec::new(alloc))
     };
     reader.take(Class::RightParen)?;
     Ok(list)

@@ -10,13 +10,11 @@ ghost use Rattle.clif_read.specs.Lines as spec;
 
 use crate::raw::{RawLine, RawTag};
 use crate::tags::read_debug_tags;
-use clif_insts::{
-    Opening, RawInst, RawNames, RawOperands, read_inst, read_more_names, read_more_values,
-};
+use clif_insts::{Opening, RawInst, RawOperands, read_few_more_values, read_inst};
 use clif_words::Class;
-use ir_core::List;
+use ir_core::{Few, List};
 use std::alloc::Global;
-use token_reader::{RawName, Reader, Stop, start_list};
+use token_reader::{RawName, Reader, Stop};
 
 /// For how many lines the list of a block has room at first.
 const FIRST_ROOM: usize = 3;
@@ -43,7 +41,7 @@ fn is_return(inst: &RawInst) -> bool
 }
 
 /// Gives the values to a line, if it is an instruction.
-fn give_values(line: &mut RawLine, values: List<RawName>)
+fn give_values(line: &mut RawLine, values: Few<RawName>)
     ensures { line.new ≡ meaning.with_values values line.old }
 {
     if let RawLine::Inst { inst, .. } = line {
@@ -52,7 +50,7 @@ fn give_values(line: &mut RawLine, values: List<RawName>)
 }
 
 /// Gives the values to the last line.
-fn give_to_last(lines: &mut Vec<RawLine>, values: List<RawName>)
+fn give_to_last(lines: &mut Vec<RawLine>, values: Few<RawName>)
     ensures { lines.new.items ≡ spec.to_last values lines.old.items }
 {
     if let Some(line) = lines.last_mut() {
@@ -96,7 +94,7 @@ fn add_results_line(
         (spec.whole (spec.results_at location first reader.old)) }
     ensures shorter { IfOk result (λ _. length reader.new < length reader.old) }
 {
-    let results = read_more_names(alloc, reader, first)?;
+    let results = read_few_more_values(alloc, reader, first)?;
     let inst = read_result_inst(alloc, reader)?;
     let returns = is_return(&inst);
     lines.reserve(1)?;
@@ -149,7 +147,7 @@ fn add_plain_line(
     lines.push_reserved(RawLine::Inst {
         location,
         tags,
-        results: RawNames::from_vec(Vec::new(alloc)),
+        results: Few::from_vec(Vec::new(alloc)),
         inst,
     });
     Ok(returns)
@@ -169,7 +167,7 @@ fn add_tagged_results(
     ensures shorter { IfOk result (λ _. length reader.new < length reader.old) }
 {
     let first = reader.take(Class::Value)?;
-    let results = read_more_names(alloc, reader, first)?;
+    let results = read_few_more_values(alloc, reader, first)?;
     let inst = read_result_inst(alloc, reader)?;
     let returns = is_return(&inst);
     lines.reserve(1)?;
@@ -252,7 +250,7 @@ fn add_values_or_inst(
     alloc: Global,
     reader: &mut Reader<'_>,
     lines: &mut Vec<RawLine>,
-    values: List<RawName>,
+    values: Few<RawName>,
 ) -> Result<bool, Stop>
     ensures is { spec.Adds lines.old.items lines.new.items reader.new result (spec.opt_made_at values reader.old) }
     ensures shorter { IfOk result (λ _. length reader.new ≤ length reader.old) }
@@ -264,7 +262,7 @@ fn add_values_or_inst(
         lines.push_reserved(RawLine::Inst {
             location: None,
             tags: List::from_vec(Vec::new(alloc)),
-            results: RawNames::from_vec(values.into_vec()),
+            results: values,
             inst,
         });
         Ok(returns)
@@ -286,9 +284,8 @@ fn add_values_or_results(
         (spec.values_or_results_at first reader.old) }
     ensures shorter { IfOk result (λ _. length reader.new ≤ length reader.old) }
 {
-    let front = start_list(alloc, first)?;
-    let values = read_more_values(alloc, reader, front)?;
-    add_values_or_inst(alloc, reader, lines, List::from_vec(values))
+    let values = read_few_more_values(alloc, reader, first)?;
+    add_values_or_inst(alloc, reader, lines, values)
 }
 
 /// What begins with a value behind a `return`.

@@ -11,19 +11,19 @@ use crate::lines::read_lines;
 use crate::raw::{RawBlock, RawBlockParam, RawFunction, RawModule};
 use crate::signatures::read_signature;
 use clif_words::Class;
-use ir_core::List;
+use ir_core::{Few, List};
 use std::alloc::Global;
 use token_reader::{Reader, Stop, start_list_in_room};
 
 #[tactic(auto, unfolding(crate::specs::Modules::opt_block_params_at))]
-fn read_opt_block_params(alloc: Global, reader: &mut Reader<'_>) -> Result<Vec<RawBlockParam>, Stop>
-    ensures is { Gives (λ x. x.items) reader.new result (spec.opt_block_params_at reader.old) }
+fn read_opt_block_params(alloc: Global, reader: &mut Reader<'_>) -> Result<Few<RawBlockParam>, Stop>
+    ensures is { Gives same reader.new result (spec.opt_block_params_at reader.old) }
     ensures shorter { IfOk result (λ _. length reader.new ≤ length reader.old) }
 {
     if reader.next_is(Class::LeftParen) {
         read_block_params(alloc, reader)
     } else {
-        Ok(Vec::new(alloc))
+        Ok(Few::from_vec(Vec::new(alloc)))
     }
 }
 
@@ -54,7 +54,7 @@ fn read_block(alloc: Global, reader: &mut Reader<'_>) -> Result<RawBlock, Stop>
     let lines = read_lines(alloc, reader)?;
     Ok(RawBlock {
         block,
-        params: List::from_vec(params),
+        params,
         cold,
         lines: List::from_vec(lines),
     })

@@ -1,8 +1,8 @@
 //! Modules as the grammar reads them, with names that are not looked up yet. Each type stands for a rule of the grammar
 //! and has a field for each of its parts; a spot is the first byte of a word or number.
 
-use clif_insts::{RawInst, RawNames};
-use ir_core::{Conv, List, Ty};
+use clif_insts::RawInst;
+use ir_core::{Conv, Few, List, NameBytes, Ty};
 use token_reader::{RawName, RawNumber};
 
 /// A word behind the type of a parameter or result.
@@ -25,8 +25,8 @@ pub struct RawParam {
 /// A signature. `conv` is none where no calling convention is written.
 #[derive(Drop)]
 pub struct RawSignature {
-    pub params: List<RawParam>,
-    pub results: List<RawParam>,
+    pub params: Few<RawParam>,
+    pub results: Few<RawParam>,
     pub conv: Option<Conv>,
 }
 
@@ -34,7 +34,7 @@ pub struct RawSignature {
 #[derive(Drop)]
 pub enum RawFuncName {
     /// `%name`, without the `%`. The spot is that of the `%`.
-    Text { name: List<u8>, spot: usize },
+    Text { name: NameBytes, spot: usize },
     /// `u0:1`
     User { space: RawName, number: RawNumber },
 }
@@ -104,7 +104,7 @@ pub enum RawLine {
     Inst {
         location: Option<usize>,
         tags: List<RawTag>,
-        results: RawNames,
+        results: Few<RawName>,
         inst: RawInst,
     },
 }
@@ -120,7 +120,7 @@ pub struct RawBlockParam {
 #[derive(Drop)]
 pub struct RawBlock {
     pub block: RawName,
-    pub params: List<RawBlockParam>,
+    pub params: Few<RawBlockParam>,
     pub cold: bool,
     pub lines: List<RawLine>,
 }

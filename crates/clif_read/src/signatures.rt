@@ -7,9 +7,9 @@ ghost use Rattle.clif_read.specs.Signatures as spec;
 use crate::attributes::read_attributes;
 use crate::raw::{RawParam, RawSignature};
 use clif_words::{Class, Terminal, Word};
-use ir_core::{Conv, List};
+use ir_core::{Conv, Few, List};
 use std::alloc::Global;
-use token_reader::{Items, Reader, Stop, read_items, read_type};
+use token_reader::{Items, Reader, Stop, read_few_items, read_type};
 
 /// A parameter or a result.
 #[tactic(auto, unfolding(crate::specs::Signatures::param_at))]
@@ -36,29 +36,29 @@ impl Items<RawParam> for ParamItems {
     }
 }
 
-fn read_params(alloc: Global, reader: &mut Reader<'_>) -> Result<Vec<RawParam>, Stop>
-    ensures is { Gives (λ x. x.items) reader.new result (spec.params_at reader.old) }
+fn read_params(alloc: Global, reader: &mut Reader<'_>) -> Result<Few<RawParam>, Stop>
+    ensures is { Gives same reader.new result (spec.params_at reader.old) }
     ensures shorter { IfOk result (λ _. length reader.new < length reader.old) }
 {
-    read_items(alloc, reader, &ParamItems)
+    read_few_items(alloc, reader, &ParamItems)
 }
 
 #[tactic(auto, unfolding(crate::specs::Signatures::opt_params_at))]
-fn read_opt_params(alloc: Global, reader: &mut Reader<'_>) -> Result<Vec<RawParam>, Stop>
-    ensures is { Gives (λ x. x.items) reader.new result (spec.opt_params_at reader.old) }
+fn read_opt_params(alloc: Global, reader: &mut Reader<'_>) -> Result<Few<RawParam>, Stop>
+    ensures is { Gives same reader.new result (spec.opt_params_at reader.old) }
     ensures shorter { IfOk result (λ _. length reader.new ≤ length reader.old) }
 {
     if reader.next_is_one_of(Class::Ty, Class::TyI64, Class::RefusedType) {
         read_params(alloc, reader)
     } else {
-        Ok(Vec::new(alloc))
+        Ok(Few::from_vec(Vec::new(alloc)))
     }
 }
 
 /// An arrow and results.
 #[tactic(auto, unfolding(crate::specs::Signatures::results_at))]
-fn read_results(alloc: Global, reader: &mut Reader<'_>) -> Result<Vec<RawParam>, Stop>
-    ensures is { Gives (λ x. x.items) reader.new result (spec.results_at reader.old) }
+fn read_results(alloc: Global, reader: &mut Reader<'_>) -> Result<Few<RawParam>, Stop>
+    ensures is { Gives same reader.new result (spec.results_at reader.old) }
     ensures shorter { IfOk result (λ _. length reader.new < length reader.old) }
 {
     reader.take(Class::Arrow)?;
@@ -66,14 +66,14 @@ fn read_results(alloc: Global, reader: &mut Reader<'_>) -> Result<Vec<RawParam>,
 }
 
 #[tactic(auto, unfolding(crate::specs::Signatures::opt_results_at))]
-fn read_opt_results(alloc: Global, reader: &mut Reader<'_>) -> Result<Vec<RawParam>, Stop>
-    ensures is { Gives (λ x. x.items) reader.new result (spec.opt_results_at reader.old) }
+fn read_opt_results(alloc: Global, reader: &mut Reader<'_>) -> Result<Few<RawParam>, Stop>
+    ensures is { Gives same reader.new result (spec.opt_results_at reader.old) }
     ensures shorter { IfOk result (λ _. length reader.new ≤ length reader.old) }
 {
     if reader.next_is(Class::Arrow) {
         read_results(alloc, reader)
     } else {
-        Ok(Vec::new(alloc))
+        Ok(Few::from_vec(Vec::new(alloc)))
     }
 }
 
@@ -117,8 +117,8 @@ pub(crate) fn read_signature(alloc: Global, reader: &mut Reader<'_>) -> Result<R
     let results = read_opt_results(alloc, reader)?;
     let conv = read_opt_convention(reader)?;
     Ok(RawSignature {
-        params: List::from_vec(params),
-        results: List::from_vec(results),
+        params,
+        results,
         conv,
     })
 }

@@ -10,8 +10,8 @@ ghost use Rattle.ir_core.specs.Calling as spec;
 use debug_tags::Tags;
 use exn_tables::{Entry, Table};
 use ir_core::{
-    Arg, Block, BlockCall, Boxed, Callee, Conv, Ext, Func, FuncName, FuncRef, Inst, InstData, List,
-    Module, Param, Purpose, Room, Sig, SigRef, SlotDecl, Ty, Value, Values,
+    Arg, Block, BlockCall, Boxed, Callee, Conv, Ext, Few, Func, FuncName, FuncRef, Inst, InstData,
+    List, Module, NameBytes, Param, Purpose, Room, Sig, SigRef, SlotDecl, Ty, Value, Values,
 };
 use std::alloc::{AllocError, Global};
 use std::process::Abort;
@@ -24,40 +24,40 @@ const WORD: Param = Param {
 };
 
 /// A signature of one parameter and no result.
-fn one_param(alloc: Global) -> Result<Sig, AllocError> {
-    Ok(Sig {
-        params: List::from_vec(vec![in alloc; WORD]?),
-        results: List::from_vec(Vec::new(alloc)),
+fn one_param(alloc: Global) -> Sig {
+    Sig {
+        params: Few::one(WORD),
+        results: Few::from_vec(Vec::new(alloc)),
         conv: Conv::Fast,
-    })
+    }
 }
 
 /// `(i64) -> i64 fast`
-fn one_to_one(alloc: Global) -> Result<Sig, AllocError>
-    ensures { IfOk result (λ sig. sig ≡ spec.one_to_one) }
+fn one_to_one() -> Sig
+    ensures { result ≡ spec.one_to_one }
 {
-    Ok(Sig {
-        params: List::from_vec(vec![in alloc; WORD]?),
-        results: List::from_vec(vec![in alloc; WORD]?),
+    Sig {
+        params: Few::one(WORD),
+        results: Few::one(WORD),
         conv: Conv::Fast,
-    })
+    }
 }
 
 /// `%f`, for the letter f.
 fn named(alloc: Global, letter: u8) -> Result<FuncName, AllocError>
     ensures { IfOk result (λ name. name ≡ Text (letter ∷ [])) }
 {
-    Ok(FuncName::Text(List::from_vec(vec![in alloc; letter]?)))
+    Ok(FuncName::Text(NameBytes::from_slice(alloc, &[letter])?))
 }
 
 /// A target with one argument.
-fn to(alloc: Global, block: Block, arg: Arg) -> Result<BlockCall, AllocError>
-    ensures { IfOk result (λ target. target ≡ spec.to block arg) }
+fn to(block: Block, arg: Arg) -> BlockCall
+    ensures { result ≡ spec.to block arg }
 {
-    Ok(BlockCall {
+    BlockCall {
         block,
-        args: List::from_vec(vec![in alloc; arg]?),
-    })
+        args: Few::one(arg),
+    }
 }
 
 /// An instruction without results and tags.
@@ -83,7 +83,7 @@ fn returned(alloc: Global, value: Value) -> InstData
 fn jump(alloc: Global, block: Block, value: Value) -> Result<InstData, AllocError>
     ensures { IfOk result (λ line. line_of line ≡ spec.jump block value) }
 {
-    Ok(line(alloc, Inst::Jump(to(alloc, block, Arg::Value(value))?)))
+    Ok(line(alloc, Inst::Jump(to(block, Arg::Value(value)))))
 }
 
 /// `try_call fnC(vA), sig0, blockN(ret0), [ tag3: blockH(exn0) ]`
@@ -98,7 +98,7 @@ fn tried(
 {
     let entry = Entry {
         tag: Some(3),
-        target: to(alloc, handler, Arg::Exn(0))?,
+        target: to(handler, Arg::Exn(0)),
     };
     Ok(line(
         alloc,
@@ -106,7 +106,7 @@ fn tried(
             callee,
             sig: SigRef::new(0),
             args: Values::one(arg),
-            normal: Boxed::new(alloc, to(alloc, normal, Arg::Ret(0))?)?,
+            normal: Boxed::new(alloc, to(normal, Arg::Ret(0)))?,
             table: Boxed::new(alloc, Table::new(vec![in alloc; entry]?))?,
         },
     ))
@@ -117,7 +117,7 @@ fn one_block(alloc: Global, name: FuncName) -> Result<Func, AllocError>
     ensures named { IfOk result (λ func. func.function.name ≡ name) }
     ensures whole { IfOk result (λ func. IsWhole func.function) }
 {
-    let mut func = Func::new(alloc, name, one_param(alloc)?)?;
+    let mut func = Func::new(alloc, name, one_param(alloc))?;
     let value = func.declare(Ty::I64)?;
     let block = func.add_block()?;
     func.add_param(block, value)?;
@@ -129,8 +129,8 @@ fn one_block(alloc: Global, name: FuncName) -> Result<Func, AllocError>
 fn declared_callee(alloc: Global) -> Result<Func, AllocError>
     ensures { IfOk result (λ func. func.function ≡ record spec.declared { types = [] }) }
 {
-    let mut func = Func::new(alloc, named(alloc, 102)?, one_to_one(alloc)?)?;
-    let sig = func.add_sig(one_to_one(alloc)?)?;
+    let mut func = Func::new(alloc, named(alloc, 102)?, one_to_one())?;
+    let sig = func.add_sig(one_to_one())?;
     let name = named(alloc, 103)?;
     func.add_callee(Callee {
         name,

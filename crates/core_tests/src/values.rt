@@ -1,6 +1,6 @@
-//! Lists of values, of the lengths that stand in the list itself and of longer ones.
+//! Lists of values, and names, of the lengths that stand in the list itself and of longer ones.
 
-use ir_core::{Value, Values};
+use ir_core::{NameBytes, Value, Values};
 use std::alloc::AllocError;
 
 #[test]
@@ -11,6 +11,18 @@ fn values_are_kept_however_many(rt: HostRuntime) -> Result<(), AllocError> {
         let values = Values::from_slice(alloc, &numbers[..count])?;
         assert!(rt; values.as_slice() == &numbers[..count]);
         assert!(rt; values.clone()?.as_slice() == &numbers[..count]);
+    }
+    Ok(())
+}
+
+#[test]
+fn names_are_kept_however_long(rt: HostRuntime) -> Result<(), AllocError> {
+    let alloc = rt.alloc();
+    let letters = b"abcdefghijklmnopqrstuvwxyz0123456789".as_slice();
+    for length in 0..=letters.len() {
+        let name = NameBytes::from_slice(alloc, &letters[..length])?;
+        assert!(rt; name.as_slice() == &letters[..length]);
+        assert!(rt; name.clone()?.as_slice() == &letters[..length]);
     }
     Ok(())
 }

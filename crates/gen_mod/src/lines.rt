@@ -7,7 +7,7 @@ use clk_num::{Bits, Cc, Op, Width};
 use debug_tags::Tags;
 use exn_tables::{Entry, Table};
 use ir_core::{
-    Arg, Block, BlockCall, Boxed, FuncRef, Inst, InstData, List, SigRef, Ty, Value, Values,
+    Arg, Block, BlockCall, Boxed, Few, FuncRef, Inst, InstData, List, SigRef, Ty, Value, Values,
 };
 use std::alloc::{AllocError, Global};
 
@@ -80,13 +80,13 @@ pub(crate) fn returned(alloc: Global, value: Value) -> InstData
 }
 
 /// A target that has one argument.
-fn to(alloc: Global, block: Block, arg: Arg) -> Result<BlockCall, AllocError>
-    ensures { IfOk result (λ target. target ≡ spec.to block arg) }
+fn to(block: Block, arg: Arg) -> BlockCall
+    ensures { result ≡ spec.to block arg }
 {
-    Ok(BlockCall {
+    BlockCall {
         block,
-        args: List::from_vec(vec![in alloc; arg]?),
-    })
+        args: Few::one(arg),
+    }
 }
 
 /// A target without arguments.
@@ -95,7 +95,7 @@ fn to_alone(alloc: Global, block: Block) -> BlockCall
 {
     BlockCall {
         block,
-        args: List::from_vec(Vec::new(alloc)),
+        args: Few::from_vec(Vec::new(alloc)),
     }
 }
 
@@ -122,11 +122,11 @@ fn handlers(alloc: Global, handler: Block) -> Result<Table<BlockCall>, AllocErro
 {
     let tagged = Entry {
         tag: Some(1),
-        target: to(alloc, handler, Arg::Exn(0))?,
+        target: to(handler, Arg::Exn(0)),
     };
     let other = Entry {
         tag: None,
-        target: to(alloc, handler, Arg::Exn(1))?,
+        target: to(handler, Arg::Exn(1)),
     };
     Ok(Table::new(vec![in alloc; tagged, other]?))
 }
@@ -145,7 +145,7 @@ pub(crate) fn try_call(
         callee,
         sig: SigRef::new(0),
         args: Values::one(arg),
-        normal: Boxed::new(alloc, to(alloc, normal, Arg::Ret(0))?)?,
+        normal: Boxed::new(alloc, to(normal, Arg::Ret(0)))?,
         table: Boxed::new(alloc, handlers(alloc, handler)?)?,
     };
     Ok(line(alloc, inst, None, Values::none()))

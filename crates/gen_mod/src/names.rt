@@ -2,7 +2,7 @@
 ghost use Rattle.std.specs.Prelude.{◌≡◌, IfOk};
 ghost use Rattle.gen_mod.specs.Shapes as spec;
 
-use ir_core::{Callee, Conv, Ext, FuncName, List, Param, Purpose, Sig, SigRef, Ty};
+use ir_core::{Callee, Conv, Ext, Few, FuncName, NameBytes, Param, Purpose, Sig, SigRef, Ty};
 use std::alloc::{AllocError, Global};
 
 /// A parameter of 64 bits.
@@ -13,14 +13,14 @@ const WORD: Param = Param {
 };
 
 /// `(i64) -> i64 fast`
-pub(crate) fn signature(alloc: Global) -> Result<Sig, AllocError>
-    ensures { IfOk result (λ sig. sig ≡ spec.signature) }
+pub(crate) fn signature() -> Sig
+    ensures { result ≡ spec.signature }
 {
-    Ok(Sig {
-        params: List::from_vec(vec![in alloc; WORD]?),
-        results: List::from_vec(vec![in alloc; WORD]?),
+    Sig {
+        params: Few::one(WORD),
+        results: Few::one(WORD),
         conv: Conv::Fast,
-    })
+    }
 }
 
 /// `%g` with the number.
@@ -29,14 +29,14 @@ pub(crate) fn generated_name(alloc: Global, number: u32) -> Result<FuncName, All
 {
     let mut text = Vec::from_slice(alloc, b"g".as_slice())?;
     text.extend_from_slice(itoa::Buffer::new().format(number).as_bytes())?;
-    Ok(FuncName::Text(List::from_vec(text)))
+    Ok(FuncName::Text(NameBytes::from_slice(alloc, text.as_slice())?))
 }
 
 /// `%host`
 pub(crate) fn host_name(alloc: Global) -> Result<FuncName, AllocError>
     ensures { IfOk result (λ name. name ≡ spec.host_name) }
 {
-    Ok(FuncName::Text(List::from_vec(Vec::from_slice(alloc, b"host".as_slice())?)))
+    Ok(FuncName::Text(NameBytes::from_slice(alloc, b"host".as_slice())?))
 }
 
 /// A function of the signature `sig0`.

@@ -11,7 +11,7 @@ use std::alloc::{AllocError, Global};
 fn begun(alloc: Global, number: u32) -> Result<Func, AllocError>
     ensures { IfOk result (λ func. func.function ≡ spec.begun number) }
 {
-    Func::new(alloc, generated_name(alloc, number)?, signature(alloc)?)
+    Func::new(alloc, generated_name(alloc, number)?, signature())
 }
 
 /// It returns its argument and a constant, added.
@@ -35,7 +35,7 @@ fn calling(alloc: Global, number: u32, a: u32) -> Result<Func, AllocError>
     ensures { IfOk result (λ func. func.function ≡ spec.calling number a) }
 {
     let mut func = begun(alloc, number)?;
-    func.add_sig(signature(alloc)?)?;
+    func.add_sig(signature())?;
     func.add_callee(callee(generated_name(alloc, a)?))?;
     Ok(func)
 }

@@ -8,7 +8,7 @@ ghost use Rattle.inline_body.specs.Named.{names_of, Moves, blocks_of};
 
 use debug_tags::Tag;
 use exn_tables::{Entry, Table};
-use ir_core::{Arg, Block, BlockCall, Boxed, FuncRef, List, SigRef, Slot, Value, Values};
+use ir_core::{Arg, Block, BlockCall, Boxed, Few, FuncRef, List, SigRef, Slot, Value, Values};
 use std::alloc::{AllocError, Global};
 
 /// The numbers that a callee's parts get in the caller: values and slots those behind the caller's, and blocks,
@@ -86,7 +86,18 @@ impl Names {
     }
 
     /// Arguments of a target.
-    fn args(&self, alloc: Global, args: &[Arg]) -> Result<List<Arg>, AllocError>
+    fn args(&self, alloc: Global, args: &[Arg]) -> Result<Few<Arg>, AllocError>
+        requires { Each (Moves self.now.values) (arg_values_used args.now) }
+        ensures { IfOk result (λ list. list ≡ map (arg_under (names_of self.now)) args.now) }
+    {
+        match args {
+            [arg] => Ok(Few::one(self.arg(*arg))),
+            _ => self.many_args(alloc, args),
+        }
+    }
+
+    /// Arguments of a target, of however many.
+    fn many_args(&self, alloc: Global, args: &[Arg]) -> Result<Few<Arg>, AllocError>
         requires { Each (Moves self.now.values) (arg_values_used args.now) }
         ensures { IfOk result (λ list. list ≡ map (arg_under (names_of self.now)) args.now) }
     {
@@ -94,7 +105,7 @@ impl Names {
         for arg in args {
             list.push(self.arg(*arg))?;
         }
-        Ok(List::from_vec(list))
+        Ok(Few::from_vec(list))
     }
 
     /// A target.

@@ -6,18 +6,28 @@ ghost use Rattle.ir_semantics.specs.Splice.{from};
 ghost use Rattle.inline_body.specs.Named.{names_of, Moves};
 
 use crate::names::Names;
-use ir_core::{Arg, List, Value, Values};
+use ir_core::{Arg, Few, List, Value, Values};
 use std::alloc::{AllocError, Global};
 
 /// The values as arguments of a target.
-pub fn args_of_values(alloc: Global, values: &[Value]) -> Result<List<Arg>, AllocError>
+pub fn args_of_values(alloc: Global, values: &[Value]) -> Result<Few<Arg>, AllocError>
+    ensures { IfOk result (λ list. list ≡ map arg.Value values.now) }
+{
+    match values {
+        [value] => Ok(Few::one(Arg::Value(*value))),
+        _ => many_args_of_values(alloc, values),
+    }
+}
+
+/// The values as arguments of a target, however many.
+fn many_args_of_values(alloc: Global, values: &[Value]) -> Result<Few<Arg>, AllocError>
     ensures { IfOk result (λ list. list ≡ map arg.Value values.now) }
 {
     let mut list = Vec::new(alloc);
     for value in values {
         list.push(Arg::Value(*value))?;
     }
-    Ok(List::from_vec(list))
+    Ok(Few::from_vec(list))
 }
 
 /// The numbers of a callee's values in the caller.

@@ -18,7 +18,7 @@ use debug_tags::Tags;
 use exn_tables::Table;
 use inline_body::{Names, copy_line, line_with};
 use ir_core::{
-    Arg, Block, BlockCall, Boxed, Callee, FuncRef, Inst, InstData, List, SigRef, Value, Values,
+    Arg, Block, BlockCall, Boxed, Callee, Few, FuncRef, Inst, InstData, SigRef, Value, Values,
 };
 use std::alloc::{AllocError, Global};
 use std::marker::Model;
@@ -83,6 +83,27 @@ fn arg_returned(arg: Arg, values: &[Value]) -> Arg
     }
 }
 
+/// The arguments of the normal target, where the callee returns the values.
+fn returned_args(alloc: Global, args: &[Arg], values: &[Value]) -> Result<Few<Arg>, AllocError>
+    ensures { IfOk result (λ list. list ≡ map (returned_arg values.now) args.now) }
+{
+    match args {
+        [arg] => Ok(Few::one(arg_returned(*arg, values))),
+        _ => many_returned_args(alloc, args, values),
+    }
+}
+
+/// The arguments of the normal target, however many, where the callee returns the values.
+fn many_returned_args(alloc: Global, args: &[Arg], values: &[Value]) -> Result<Few<Arg>, AllocError>
+    ensures { IfOk result (λ list. list ≡ map (returned_arg values.now) args.now) }
+{
+    let mut list = Vec::new(alloc);
+    for arg in args {
+        list.push(arg_returned(*arg, values))?;
+    }
+    Ok(Few::from_vec(list))
+}
+
 /// The jump to the normal target in place of a return of the values.
 fn jump_to_normal(
     alloc: Global,
@@ -91,14 +112,10 @@ fn jump_to_normal(
 ) -> Result<InstData, AllocError>
     ensures { IfOk result (λ l. line_of l ≡ return_line normal.now values.now) }
 {
-    let mut args = Vec::new(alloc);
-    for arg in normal.args.as_slice() {
-        args.push(arg_returned(*arg, values))?;
-    }
     Ok(InstData {
         inst: Inst::Jump(BlockCall {
             block: normal.block,
-            args: List::from_vec(args),
+            args: returned_args(alloc, normal.args.as_slice(), values)?,
         }),
         ty: None,
         results: Values::none(),
@@ -107,14 +124,14 @@ fn jump_to_normal(
 }
 
 /// The first results of a call as arguments of its normal target.
-fn result_args(alloc: Global, count: u32) -> Result<List<Arg>, AllocError>
+fn result_args(alloc: Global, count: u32) -> Result<Few<Arg>, AllocError>
     ensures { IfOk result (λ list. list ≡ map arg.Ret (from 0 count)) }
 {
     let mut list = Vec::new(alloc);
     for index in 0..count {
         list.push(Arg::Ret(index))?;
     }
-    Ok(List::from_vec(list))
+    Ok(Few::from_vec(list))
 }
 
 /// The block in which a line's block goes on, with the line's results.

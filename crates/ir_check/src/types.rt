@@ -14,7 +14,6 @@ use crate::row_types::RowTypes;
 use avail_flow::target_at;
 use clk_num::Width;
 use ir_core::{Arg, BlockCall, Func, Inst, Param, Ty, Value};
-use sig_numbers::is_same_type;
 
 /// The type of a width.
 pub fn type_of_width(width: Width) -> Ty
@@ -35,7 +34,7 @@ pub fn is_same_suffix(a: Option<Ty>, b: Option<Ty>) -> bool
 {
     match a {
         Some(t) => match b {
-            Some(u) => is_same_type(t, u),
+            Some(u) => t.is(u),
             None => false,
         },
         None => b.is_none(),
@@ -51,7 +50,7 @@ pub fn have_param_types(func: &Func, values: &[Value], params: &[Param]) -> bool
         return false;
     }
     for i in 0..values.len() {
-        if !is_same_type(func.ty(values[i]), params[i].ty) {
+        if !func.ty(values[i]).is(params[i].ty) {
             return false;
         }
     }
@@ -64,7 +63,7 @@ pub fn has_one_type(func: &Func, results: &[Value], ty: Ty) -> bool
     ensures { result ≡ have_types func.now.function results.now (ty ∷ []) }
 {
     match results {
-        [value] => is_same_type(func.ty(*value), ty),
+        [value] => func.ty(*value).is(ty),
         _ => false,
     }
 }
@@ -75,7 +74,7 @@ fn has_two_types(func: &Func, results: &[Value], first: Ty, second: Ty) -> bool
     ensures { result ≡ have_types func.now.function results.now (first ∷ second ∷ []) }
 {
     match results {
-        [a, b] => is_same_type(func.ty(*a), first) && is_same_type(func.ty(*b), second),
+        [a, b] => func.ty(*a).is(first) && func.ty(*b).is(second),
         _ => false,
     }
 }

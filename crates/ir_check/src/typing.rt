@@ -29,7 +29,7 @@ use crate::types::{
 };
 use clk_num::{Bits, Op, Width};
 use ir_core::{Access, BlockCall, Flags, Func, Inst, InstData, Sig, SigRef, Ty, Value};
-use sig_numbers::{FuncSigs, is_same_type};
+use sig_numbers::FuncSigs;
 
 /// A constant has no suffix, and one result of its type.
 fn const_has_types(func: &Func, added: &InstData, bits: &Bits) -> bool
@@ -119,7 +119,7 @@ fn load_has_types(
     is_same_suffix(added.ty, find_access_suffix(access))
         && have_flags_form(flags)
         && has_access_form(access)
-        && is_same_type(func.ty(address), Ty::I64)
+        && func.ty(address).is(Ty::I64)
         && has_one_type(func, added.results.as_slice(), find_access_type(access))
 }
 
@@ -139,7 +139,7 @@ fn store_has_types(
 {
     let ty = func.ty(value);
     have_flags_form(flags)
-        && is_same_type(func.ty(address), Ty::I64)
+        && func.ty(address).is(Ty::I64)
         && (is_same_suffix(added.ty, Some(ty)) && has_store_form(narrow, ty))
 }
 
@@ -241,7 +241,7 @@ pub fn keeps_types(func: &Func, sigs: &FuncSigs<'_>, added: &InstData) -> bool
             && branch_has_types(func, &added.inst),
         Inst::BrTable { index, .. } => {
             is_same_suffix(added.ty, None)
-                && is_same_type(func.ty(*index), Ty::I32)
+                && func.ty(*index).is(Ty::I32)
                 && branch_has_types(func, &added.inst)
         }
         Inst::Return(values) => {
@@ -252,7 +252,7 @@ pub fn keeps_types(func: &Func, sigs: &FuncSigs<'_>, added: &InstData) -> bool
             call_has_types(func, added, callee_sig(func, *callee), args.as_slice())
         }
         Inst::CallIndirect { sig, address, args } => {
-            is_same_type(func.ty(*address), Ty::I64)
+            func.ty(*address).is(Ty::I64)
                 && call_has_types(func, added, named_sig(func, *sig), args.as_slice())
         }
         Inst::ReturnCall { callee, args } => {
@@ -265,7 +265,7 @@ pub fn keeps_types(func: &Func, sigs: &FuncSigs<'_>, added: &InstData) -> bool
             )
         }
         Inst::ReturnCallIndirect { sig, address, args } => {
-            is_same_type(func.ty(*address), Ty::I64)
+            func.ty(*address).is(Ty::I64)
                 && tail_has_types(func, sigs, added, *sig, args.as_slice())
         }
         Inst::TryCall {
@@ -286,7 +286,7 @@ pub fn keeps_types(func: &Func, sigs: &FuncSigs<'_>, added: &InstData) -> bool
             ..
         } => {
             let sig = named_sig(func, *sig);
-            is_same_type(func.ty(*address), Ty::I64)
+            func.ty(*address).is(Ty::I64)
                 && passes_types(func, added, sig, args.as_slice())
                 && try_has_types(func, sig, normal.get(), &added.inst)
         }

@@ -3,6 +3,7 @@ ghost use Rattle.std.specs.Prelude.{◌≡◌, Some, None, map, MatchOption, IfO
 ghost use Rattle.ir_core.specs.Lookup.{find_function};
 ghost use Rattle.ir_core.specs.WellFormed.{DifferentNames};
 
+use crate::boxed::Boxed;
 use crate::func::Func;
 use crate::index::Names;
 use crate::names::FuncName;
@@ -13,7 +14,7 @@ use std::marker::Model;
 /// where bodies were let go, heads are left. Contracts see it as a list of functions.
 #[derive(Drop)]
 pub struct Heads {
-    funcs: Vec<Func>,
+    funcs: Vec<Boxed<Func>>,
     names: Names,
 }
 
@@ -33,7 +34,7 @@ impl Model for Heads {
 impl Heads {
     /// The functions of this list, in this order; the list is kept as it is. `None` exactly where two of them have one
     /// name. Only `AllocError` refuses. Where nothing is made the functions are dropped.
-    pub fn of_functions(alloc: Global, funcs: Vec<Func>) -> Result<Option<Heads>, AllocError>
+    pub fn of_functions(alloc: Global, funcs: Vec<Boxed<Func>>) -> Result<Option<Heads>, AllocError>
         ensures { IfOk result (λ made. MatchOption made
             (DifferentNames (map (λ func. func.function) funcs.items) → ⊥)
             (λ heads. heads ≡ map (λ func. func.function) funcs.items)) }
@@ -45,7 +46,7 @@ impl Heads {
     }
 
     /// The functions, in order.
-    pub fn funcs(&self) -> &[Func]
+    pub fn funcs(&self) -> &[Boxed<Func>]
         ensures functions { map (λ func. func.function) result.now ≡ self.now }
         ensures names { DifferentNames self.now }
     {
@@ -58,6 +59,6 @@ impl Heads {
             (λ func. find_function name.now self.now ≡ Some func.now.function) }
     {
         let place = self.names.find(self.funcs.as_slice(), name, name.hash())?;
-        Some(&self.funcs[place])
+        Some(self.funcs[place].get())
     }
 }

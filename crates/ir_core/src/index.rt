@@ -1,12 +1,12 @@
 //! The names of functions, by which their places are found.
-ghost use Rattle.std.specs.Prelude.{◌≡◌, ◌++◌, List, [], ◌∷◌, None, IfOk, IfSome, OnOk, OnErr, MatchOption};
+ghost use Rattle.std.specs.Prelude.{◌≡◌, ◌++◌, [], ◌∷◌, None, is_none, IfOk, IfSome, IsTrue, OnOk, OnErr, MatchOption};
 ghost use Rattle.ir_core.specs.Lists.{Each};
 ghost use Rattle.ir_core.specs.Lookup.{find_function};
-ghost use Rattle.ir_core.specs.Module.{Function};
 ghost use Rattle.ir_core.specs.Named.{IsIndex, functions_in, name_hash, place_of};
 ghost use Rattle.ir_core.specs.Sound.{IsSound};
 ghost use Rattle.ir_core.specs.WellFormed.{DifferentNames};
 
+use crate::boxed::Boxed;
 use crate::func::Func;
 use crate::names::FuncName;
 use std::alloc::{AllocError, Global};
@@ -47,13 +47,13 @@ impl Names {
     }
 
     /// The place of the function of this name among these functions, whose names these are. `hash` is the name's.
-    pub(crate) fn find(&self, funcs: &[Func], name: &FuncName, hash: u64) -> Option<usize>
+    pub(crate) fn find(&self, funcs: &[Boxed<Func>], name: &FuncName, hash: u64) -> Option<usize>
         requires index { IsIndex self.now (functions_in funcs.now) }
         requires hash { hash ≡ name_hash name.now }
         ensures { result ≡ place_of name.now (functions_in funcs.now) }
     {
         let place = self.places.get(&hash).copied()?;
-        if funcs[place].name().is(name) {
+        if funcs[place].get().name().is(name) {
             return Some(place);
         }
         match name {
@@ -67,7 +67,7 @@ impl Names {
     pub(crate) fn add(
         &mut self,
         alloc: Global,
-        funcs: &[Func],
+        funcs: &[Boxed<Func>],
         func: &Func,
         hash: u64,
     ) -> Result<(), AllocError>
@@ -94,15 +94,35 @@ impl Names {
         Ok(())
     }
 
-    /// Makes room for the names of so many more functions. Only `AllocError` refuses.
-    pub(crate) fn reserve(&mut self, additional: usize) -> Result<(), AllocError>
-        ensures { (fs : List Function) → IsIndex self.old fs → IsIndex self.new fs }
+    /// Adds the name of a function that stands behind these functions, whose names these are, and answers true; false
+    /// exactly where one of them has the name. A hash that none of them has takes one look. Only `AllocError` refuses.
+    fn add_other(
+        &mut self,
+        alloc: Global,
+        funcs: &[Boxed<Func>],
+        func: &Func,
+    ) -> Result<bool, AllocError>
+        requires index { IsIndex self.old (functions_in funcs.now) }
+        ensures cases { IfOk result
+            (λ added. added ≡ is_none (place_of func.now.function.name (functions_in funcs.now))) }
+        ensures added { IfOk result
+            (λ added. IsTrue added → IsIndex self.new (functions_in funcs.now ++ func.now.function ∷ [])) }
+        ensures sound { IsSound func.now.function }
     {
-        self.places.reserve(additional)
+        let hash = func.name().hash();
+        let Some(first) = self.places.insert(hash, funcs.len())? else {
+            return Ok(true);
+        };
+        self.places.insert(hash, first)?;
+        if self.find(funcs, func.name(), hash).is_some() {
+            return Ok(false);
+        }
+        self.add(alloc, funcs, func, hash)?;
+        Ok(true)
     }
 
     /// The names of these functions. `None` exactly where two of them have one name. Only `AllocError` refuses.
-    pub(crate) fn of(alloc: Global, funcs: &[Func]) -> Result<Option<Names>, AllocError>
+    pub(crate) fn of(alloc: Global, funcs: &[Boxed<Func>]) -> Result<Option<Names>, AllocError>
         ensures functions { IfOk result (λ made. MatchOption made
             (DifferentNames (functions_in funcs.now) → ⊥)
             (λ names. IsIndex names (functions_in funcs.now))) }
@@ -112,12 +132,10 @@ impl Names {
         let mut names = Names::with_capacity(alloc, funcs.len())?;
         'functions: for place in 0..funcs.len() {
             let before = &funcs[..place];
-            let func = &funcs[place];
-            let hash = func.name().hash();
-            if names.find(before, func.name(), hash).is_some() {
+            let func = funcs[place].get();
+            if !names.add_other(alloc, before, func)? {
                 return Ok(None);
             }
-            names.add(alloc, before, func, hash)?;
         }
         Ok(Some(names))
     }

@@ -4,6 +4,7 @@ ghost use Rattle.ir_core.specs.Uses.{callee_of};
 ghost use Rattle.ir_core.specs.Viewed.{instruction_of};
 
 use crate::boxed::Boxed;
+use crate::few::Few;
 use crate::lists::List;
 use crate::numbers::{Block, FuncRef, SigRef, Slot, Value};
 use crate::signatures::Ty;
@@ -25,7 +26,7 @@ pub enum Arg {
 #[derive(Drop)]
 pub struct BlockCall {
     pub block: Block,
-    pub args: List<Arg>,
+    pub args: Few<Arg>,
 }
 
 /// The flags of a memory access.

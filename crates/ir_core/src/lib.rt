@@ -6,12 +6,14 @@
 mod boxed;
 mod copies;
 mod declarations;
+mod few;
 mod func;
 mod heads;
 mod index;
 mod instructions;
 mod lists;
 mod module;
+mod name_bytes;
 mod names;
 mod numbers;
 mod places;
@@ -22,11 +24,13 @@ mod values;
 
 pub use boxed::Boxed;
 pub use declarations::{Callee, SlotDecl};
+pub use few::Few;
 pub use func::{Blocks, Func, Insts};
 pub use heads::Heads;
 pub use instructions::{Access, Arg, BlockCall, Flags, Inst, InstData};
 pub use lists::List;
 pub use module::Module;
+pub use name_bytes::NameBytes;
 pub use names::FuncName;
 pub use numbers::{Block, FuncRef, SigRef, Slot, Value};
 pub use places::{Item, Point};

@@ -7,6 +7,7 @@ ghost use Rattle.ir_core.specs.Lookup.{same_name, find_function};
 ghost use Rattle.ir_core.specs.Sound.{IsWhole};
 ghost use Rattle.ir_core.specs.WellFormed.{WellFormed, DifferentNames, IsModule};
 
+use crate::boxed::Boxed;
 use crate::func::Func;
 use crate::index::Names;
 use crate::names::FuncName;
@@ -16,7 +17,7 @@ use std::marker::Model;
 /// A module: whole functions of different names, in order. Contracts see it as a list of functions.
 #[derive(Drop)]
 pub struct Module {
-    funcs: Vec<Func>,
+    funcs: Vec<Boxed<Func>>,
     names: Names,
 }
 
@@ -46,7 +47,10 @@ impl Module {
 
     /// The module of these whole functions, in this order; the list is kept as it is. `None` exactly where two of them
     /// have one name. Only `AllocError` refuses. Where no module is made the functions are dropped.
-    pub fn of_functions(alloc: Global, funcs: Vec<Func>) -> Result<Option<Module>, AllocError>
+    pub fn of_functions(
+        alloc: Global,
+        funcs: Vec<Boxed<Func>>,
+    ) -> Result<Option<Module>, AllocError>
         requires { Each (λ func. IsWhole func.function) funcs.items }
         ensures functions { IfOk result (λ made. MatchOption made
             (DifferentNames (map (λ func. func.function) funcs.items) → ⊥)
@@ -59,14 +63,6 @@ impl Module {
         }
     }
 
-    /// Makes room for so many more functions. Only `AllocError` refuses.
-    pub fn reserve(&mut self, additional: usize) -> Result<(), AllocError>
-        ensures { self.new ≡ self.old }
-    {
-        self.funcs.reserve(additional)?;
-        self.names.reserve(additional)
-    }
-
     /// Appends a whole function, whose name no function of the module has. Only `AllocError` refuses; then the function
     /// is dropped.
     pub fn push(&mut self, func: Func) -> Result<(), AllocError>
@@ -75,9 +71,12 @@ impl Module {
         ensures ok { OnOk result (self.new ≡ self.old ++ func.function ∷ []) }
         ensures err { OnErr result (self.new ≡ self.old) }
     {
+        let alloc = *self.funcs.allocator();
         self.funcs.reserve(1)?;
-        let hash = func.name().hash();
-        self.names.add(*self.funcs.allocator(), self.funcs.as_slice(), &func, hash)?;
+        let func = Boxed::new(alloc, func)?;
+        let hash = func.get().name().hash();
+        self.names
+            .add(alloc, self.funcs.as_slice(), func.get(), hash)?;
         self.funcs.push_reserved(func);
         Ok(())
     }
@@ -104,7 +103,7 @@ impl Module {
         ensures whole { WellFormed result.now.function }
         ensures defined { IsWhole result.now.function }
     {
-        &self.funcs[i]
+        self.funcs[i].get()
     }
 
     /// The place of the function of this name. `None` exactly where no function has the name.
@@ -117,7 +116,7 @@ impl Module {
     }
 
     /// The functions, in order. It takes no memory.
-    pub fn into_functions(self) -> Vec<Func>
+    pub fn into_functions(self) -> Vec<Boxed<Func>>
         ensures { map (λ func. func.function) result.items ≡ self }
     {
         let Module { funcs, names: _ } = self;

@@ -3,7 +3,7 @@ ghost use Rattle.std.specs.Prelude.{◌≡◌};
 ghost use Rattle.ir_core.specs.Lookup.{same_name};
 ghost use Rattle.ir_core.specs.Named.{name_hash};
 
-use crate::lists::List;
+use crate::name_bytes::NameBytes;
 use std::alloc::AllocError;
 use std::hash::{FoldHasher, Hasher};
 
@@ -11,7 +11,7 @@ use std::hash::{FoldHasher, Hasher};
 #[derive(Drop)]
 pub enum FuncName {
     /// The bytes behind `%`.
-    Text(List<u8>),
+    Text(NameBytes),
     User(u32, u32),
 }
 
@@ -43,7 +43,7 @@ impl FuncName {
     }
 
     /// Whether the two are the same name.
-    pub(crate) fn is(&self, other: &FuncName) -> bool
+    pub fn is(&self, other: &FuncName) -> bool
         ensures { result ≡ same_name self.now other.now }
     {
         match (self, other) {

@@ -1,7 +1,8 @@
 //! Types and signatures.
 ghost use Rattle.std.specs.Prelude.{◌≡◌};
+ghost use Rattle.ir_core.specs.Signatures.{same_type};
 
-use crate::lists::List;
+use crate::few::Few;
 use std::alloc::AllocError;
 
 /// The type of a value: an integer of 8, 16, 32, 64 or 128 bits.
@@ -12,6 +13,21 @@ pub enum Ty {
     I32,
     I64,
     I128,
+}
+
+impl Ty {
+    /// Whether the two are the same type.
+    pub fn is(self, other: Ty) -> bool
+        ensures { result ≡ same_type self other }
+    {
+        match self {
+            Ty::I8 => matches!(other, Ty::I8),
+            Ty::I16 => matches!(other, Ty::I16),
+            Ty::I32 => matches!(other, Ty::I32),
+            Ty::I64 => matches!(other, Ty::I64),
+            Ty::I128 => matches!(other, Ty::I128),
+        }
+    }
 }
 
 /// A calling convention.
@@ -54,8 +70,8 @@ pub struct Param {
 /// A signature: parameters, results and the calling convention.
 #[derive(Drop)]
 pub struct Sig {
-    pub params: List<Param>,
-    pub results: List<Param>,
+    pub params: Few<Param>,
+    pub results: Few<Param>,
     pub conv: Conv,
 }
 

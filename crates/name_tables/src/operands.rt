@@ -41,11 +41,15 @@ impl Names {
                 self.refer(*x);
                 self.refer(*y);
             }
-            RawOperands::Return(args)
-            | RawOperands::Call { args, .. }
-            | RawOperands::TryCall { args, .. } => self.refer_all(args.as_slice()),
-            RawOperands::CallIndirect { address, args, .. }
-            | RawOperands::TryCallIndirect { address, args, .. } => {
+            RawOperands::Return(args) | RawOperands::Call { args, .. } => {
+                self.refer_all(args.as_slice());
+            }
+            RawOperands::TryCall { args, .. } => self.refer_all(args.as_slice()),
+            RawOperands::CallIndirect { address, args, .. } => {
+                self.refer(*address);
+                self.refer_all(args.as_slice());
+            }
+            RawOperands::TryCallIndirect { address, args, .. } => {
                 self.refer(*address);
                 self.refer_all(args.as_slice());
             }

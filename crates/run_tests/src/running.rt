@@ -9,7 +9,7 @@ use debug_tags::Tags;
 use host_script::Script;
 use ir_check::{Checked, check};
 use ir_core::{
-    Conv, Ext, Func, FuncName, Inst, InstData, List, Module, Param, Purpose, Sig, Ty, Values,
+    Conv, Ext, Few, Func, FuncName, Inst, InstData, List, Module, Param, Purpose, Sig, Ty, Values,
 };
 use program_run::{
     End, Event, Outcome, RunErr, Shown, end_line, event_line, print_run, run_spelled, run_text,
@@ -31,8 +31,8 @@ fn identity(alloc: Global, name: FuncName) -> Result<Func, AllocError>
     ensures whole { IfOk result (λ func. IsWhole func.function) }
 {
     let sig = Sig {
-        params: List::from_vec(vec![in alloc; word()]?),
-        results: List::from_vec(vec![in alloc; word()]?),
+        params: Few::one(word()),
+        results: Few::one(word()),
         conv: Conv::Fast,
     };
     let mut func = Func::new(alloc, name, sig)?;

@@ -9,6 +9,7 @@ use crate::lists::start_list_in_room;
 use crate::reader::Reader;
 use crate::stop::Stop;
 use clif_words::Class;
+use ir_core::Few;
 use std::alloc::Global;
 
 /// Items of a kind, which are read one by one.
@@ -68,4 +69,23 @@ pub fn read_items<T: Drop, I: Items<T>>(
     let room = if reader.next_is(Class::Comma) { 2 } else { 1 };
     let front = start_list_in_room(alloc, first, room)?;
     read_more_items(alloc, reader, items, front)
+}
+
+/// Items joined by commas, one at least. One takes no memory but the list's own.
+#[tactic(auto, unfolding(crate::specs::Reading::commas_at))]
+pub fn read_few_items<T: Drop, I: Items<T>>(
+    alloc: Global,
+    reader: &mut Reader<'_>,
+    items: &I,
+) -> Result<Few<T>, Stop>
+    ensures is { Gives same reader.new result (spec.commas_at (I.item_at items.now) reader.old) }
+    ensures shorter { IfOk result (λ _. length reader.new < length reader.old) }
+{
+    let first = items.read_item(alloc, reader)?;
+    if reader.next_is(Class::Comma) {
+        let front = start_list_in_room(alloc, first, 2)?;
+        Ok(Few::from_vec(read_more_items(alloc, reader, items, front)?))
+    } else {
+        Ok(Few::one(first))
+    }
 }

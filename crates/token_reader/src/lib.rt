@@ -10,7 +10,7 @@ mod reader;
 mod stop;
 mod types;
 
-pub use commas::{Items, read_items, read_more_items};
+pub use commas::{Items, read_few_items, read_items, read_more_items};
 pub use kinds::is_comment;
 pub use lists::{start_list, start_list_in_room};
 pub use numbers::{read_number, read_offset};

@@ -1,7 +1,7 @@
 //! What single tokens spell, with their places in the text.
 
 use clif_words::Opcode;
-use ir_core::List;
+use ir_core::NameBytes;
 
 /// An entity, a tag or a result by its word, as `v7`.
 #[derive(Clone, Copy, Debug, PartialEq, Eq)]
@@ -33,7 +33,7 @@ pub struct RawNumber {
 #[derive(Drop)]
 pub struct RawText {
     /// The name without its `%`.
-    pub bytes: List<u8>,
+    pub bytes: NameBytes,
     /// The name's first byte, the `%`.
     pub spot: usize,
 }

@@ -22,7 +22,7 @@ use crate::raw::{RawName, RawNumber, RawOpcode, RawText};
 use crate::stop::Stop;
 use clif_lex::{TokenKind, Tokens};
 use clif_words::{Class, Terminal, Word, find_word_meaning, match_quick_terminal};
-use ir_core::List;
+use ir_core::NameBytes;
 use std::alloc::Global;
 use std::marker::Model;
 
@@ -310,7 +310,7 @@ impl<'a> Reader<'a> {
         let token = self.tokens.get(self.next.at);
         let bytes = strip_mark(token.kind, self.tokens.spelling(self.text, self.next.at));
         Ok(RawText {
-            bytes: List::from_vec(Vec::from_slice(alloc, bytes)?),
+            bytes: NameBytes::from_slice(alloc, bytes)?,
             spot: token.start,
         })
     }

@@ -15,7 +15,7 @@ use crate::plan::Plan;
 use inline_finish::{Built, Passed, Policy};
 use inline_pass::laws::renumbered_finished_stay_accepted;
 use ir_check::Checked;
-use ir_core::{Func, Module};
+use ir_core::{Boxed, Func, Module};
 use publish_table::Cell;
 use std::alloc::{AllocError, Global};
 use std::mem;
@@ -71,7 +71,7 @@ fn func_of(built: Arc<Built>) -> Result<Func, AllocError>
 fn take_functions(
     alloc: Global,
     bodies: Vec<Arc<Built>>,
-) -> Result<(Vec<Func>, u128, Vec<u64>), AllocError>
+) -> Result<(Vec<Boxed<Func>>, u128, Vec<u64>), AllocError>
     ensures functions { IfOk result (λ r. map (λ func. func.function) r.0.items ≡ functions_in bodies.items) }
     ensures sound { IfOk result (λ r. Each IsSound (map (λ func. func.function) r.0.items)) }
     ensures inlined { IfOk result (λ r. r.1 ≡ sum (map inlined_in bodies.items)) }
@@ -85,7 +85,8 @@ fn take_functions(
         inlined += count as u128;
         inlined_by_function.push(count)?;
         let func = func_of(built)?;
-        funcs.push(func)?;
+        let boxed = Boxed::new(alloc, func)?;
+        funcs.push(boxed)?;
     }
     Ok((funcs, inlined, inlined_by_function))
 }

@@ -6,7 +6,7 @@ use clif_numbers::numbering;
 use clif_print::print;
 use clk_flow::MemSink;
 use debug_tags::Tags;
-use ir_core::{Conv, Func, FuncName, Inst, InstData, List, Module, Sig, Values};
+use ir_core::{Conv, Few, Func, FuncName, Inst, InstData, Module, Sig, Values};
 use print_workers::{PrintErr, print_with};
 use std::alloc::{AllocError, Global};
 use std::thread::Threads;
@@ -19,8 +19,8 @@ fn returning(alloc: Global, number: u32) -> Result<Func, AllocError>
     ensures { IfOk result (λ func. IsWhole func.function) }
 {
     let sig = Sig {
-        params: List::from_vec(Vec::new(alloc)),
-        results: List::from_vec(Vec::new(alloc)),
+        params: Few::from_vec(Vec::new(alloc)),
+        results: Few::from_vec(Vec::new(alloc)),
         conv: Conv::Fast,
     };
     let mut func = Func::new(alloc, FuncName::User(0, number), sig)?;

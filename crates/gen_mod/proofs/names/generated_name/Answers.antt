@@ -5,6 +5,7 @@ use Rattle.gen_mod.proofs.names.generated_name.Goals as goal
 pub returns : goal.returns
 returns c =
     ap Text
-    (c.from_vec.ensures
+    (c.in_ok-from_slice.ensures
+    ∙ (c.as_slice-2.ensures.value
     ∙ (c.in_ok-extend_from_slice.ensures.items
-    ∙ ap₂ (λ (xs ys : List ℕ). xs ++ ys) (c.in_ok-text.ensures.items ∙ c.as_slice.ensures) (c.as_bytes.ensures.value ∙ c.format.ensures.text)))
+    ∙ ap₂ (λ (xs ys : List ℕ). xs ++ ys) (c.in_ok-text.ensures.items ∙ c.as_slice.ensures) (c.as_bytes.ensures.value ∙ c.format.ensures.text))))

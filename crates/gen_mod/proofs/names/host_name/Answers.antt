@@ -3,4 +3,4 @@ use Rattle.ir_core.specs.declared.names.FuncName.TheVariants.{Text}
 use Rattle.gen_mod.proofs.names.host_name.Goals as goal
 
 pub returns : goal.returns
-returns c = ap Text (c.from_vec.ensures ∙ (c.in_ok-from_slice.ensures.items ∙ c.as_slice.ensures))
+returns c = ap Text (c.in_ok-from_slice.ensures ∙ c.as_slice.ensures)

@@ -12,10 +12,10 @@ try_has_types-requires-clause-args c =
     subst (λ (t : BlockCall). Below (length c.args.func.now.function.types) (arg_values_used t.args)) (sym c.get.ensures)
     (target_args_below (length c.args.func.now.function.types) (instruction_of c.args.added.now.inst) 0 c.in-TryCall.normal c.requires.line.values (ap (λ i. slice_get (targets (instruction_of i)) 0) c.in-TryCall.is))
 
-pub passes_types-requires-then-is_same_type-4 : goal.passes_types-requires-then-is_same_type-4
-passes_types-requires-then-is_same_type-4 c =
+pub passes_types-requires-then-is-4 : goal.passes_types-requires-then-is-4
+passes_types-requires-then-is-4 c =
     let all = subst (λ i. Below (length c.args.func.now.function.types) (operands (instruction_of i))) c.in-TryCallIndirect.is (operands_below (length c.args.func.now.function.types) (instruction_of c.args.added.now.inst) c.requires.line.values) in
-    record { inside = subst (λ (vs : List ℕ). Below (length c.args.func.now.function.types) vs) (sym c.as_slice-then-is_same_type-4.ensures) all.1 }
+    record { inside = subst (λ (vs : List ℕ). Below (length c.args.func.now.function.types) vs) (sym c.as_slice-then-is-4.ensures) all.1 }
 
 pub try_has_types-requires-then-passes_types-2-clause-args : goal.try_has_types-requires-then-passes_types-2-clause-args
 try_has_types-requires-then-passes_types-2-clause-args c =

@@ -29,4 +29,4 @@ returns c =
     let xs = c.self.inside.funcs.items in
     let at = found c.args.name.now xs c.as_slice.result.now c.in_ok-place.place c.in_ok-place.ensures c.as_slice.ensures.value in
     let there = get_mapped function_in xs c.in_ok-place.place c.index.result.now (slice_get_read xs (length xs) c.in_ok-place.place c.index.result.now refl at.0 c.index.ensures) in
-    ap (find_function c.args.name.now) (sym c.self.view_is) ∙ (at.1 ∙ there)
+    ap (find_function c.args.name.now) (sym c.self.view_is) ∙ (at.1 ∙ (there ∙ ap (λ f. Some (function_in f)) (sym c.get.ensures)))

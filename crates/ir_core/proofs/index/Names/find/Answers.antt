@@ -22,13 +22,13 @@ offset_bounds-funcs-place c =
 pub returns-then-is : goal.returns-then-is
 returns-then-is c =
     let e : Some c.in_ok-place.place ≡ place_of_hash (name_hash c.args.name.now) (functions_in c.args.funcs.now) = sym c.in_ok-place.was ∙ place_in c.args.self.now (functions_in c.args.funcs.now) c.args.name.now c.args.hash c.copied.result c.requires.index (c.copied.ensures ∙ c.get.ensures.value) c.requires.hash in
-    let first : is_first c.args.name.now (functions_in c.args.funcs.now) ≡ true = is_first_by c.args.name.now c.in_ok-place.place c.args.funcs.now c.index-funcs-place.result c.name.result.now c.is.result e c.index-funcs-place.is c.name.ensures.value c.is.ensures ∙ c.if-is.true in
+    let first : is_first c.args.name.now (functions_in c.args.funcs.now) ≡ true = is_first_by c.args.name.now c.in_ok-place.place c.args.funcs.now c.index-funcs-place.result c.name.result.now c.is.result e c.index-funcs-place.is (c.name.ensures.value ∙ ap (λ f. f.function.name) c.get-2.ensures) c.is.ensures ∙ c.if-is.true in
     e ∙ first_place c.args.name.now 0 (functions_in c.args.funcs.now) first
 
 pub returns-in-Text : goal.returns-in-Text
 returns-in-Text c =
     let e : Some c.in_ok-place.place ≡ place_of_hash (name_hash c.args.name.now) (functions_in c.args.funcs.now) = sym c.in_ok-place.was ∙ place_in c.args.self.now (functions_in c.args.funcs.now) c.args.name.now c.args.hash c.copied.result c.requires.index (c.copied.ensures ∙ c.get.ensures.value) c.requires.hash in
-    let other : is_first c.args.name.now (functions_in c.args.funcs.now) ≡ false = is_first_by c.args.name.now c.in_ok-place.place c.args.funcs.now c.index-funcs-place.result c.name.result.now c.is.result e c.index-funcs-place.is c.name.ensures.value c.is.ensures ∙ c.if-is.false in
+    let other : is_first c.args.name.now (functions_in c.args.funcs.now) ≡ false = is_first_by c.args.name.now c.in_ok-place.place c.args.funcs.now c.index-funcs-place.result c.name.result.now c.is.result e c.index-funcs-place.is (c.name.ensures.value ∙ ap (λ f. f.function.name) c.get-2.ensures) c.is.ensures ∙ c.if-is.false in
     let named : c.args.name.now ≡ name.Text c.as_slice.result.now = c.in-Text.is ∙ ap (λ z. name.Text z) (sym c.as_slice.ensures) in
     c.copied-in-Text.ensures
     ∙ (c.get-in-Text.ensures.value
@@ -38,7 +38,7 @@ returns-in-Text c =
 pub returns-in-User : goal.returns-in-User
 returns-in-User c =
     let e : Some c.in_ok-place.place ≡ place_of_hash (name_hash c.args.name.now) (functions_in c.args.funcs.now) = sym c.in_ok-place.was ∙ place_in c.args.self.now (functions_in c.args.funcs.now) c.args.name.now c.args.hash c.copied.result c.requires.index (c.copied.ensures ∙ c.get.ensures.value) c.requires.hash in
-    let other : is_first c.args.name.now (functions_in c.args.funcs.now) ≡ false = is_first_by c.args.name.now c.in_ok-place.place c.args.funcs.now c.index-funcs-place.result c.name.result.now c.is.result e c.index-funcs-place.is c.name.ensures.value c.is.ensures ∙ c.if-is.false in
+    let other : is_first c.args.name.now (functions_in c.args.funcs.now) ≡ false = is_first_by c.args.name.now c.in_ok-place.place c.args.funcs.now c.index-funcs-place.result c.name.result.now c.is.result e c.index-funcs-place.is (c.name.ensures.value ∙ ap (λ f. f.function.name) c.get-2.ensures) c.is.ensures ∙ c.if-is.false in
     c.copied-in-User.ensures
     ∙ (c.get-in-User.ensures.value
     ∙ (c.requires.index.users c.in-User.first c.in-User.second (ap (λ z. is_first z (functions_in c.args.funcs.now)) (sym c.in-User.is) ∙ other)

@@ -1,5 +1,5 @@
-use Rattle.std.proofs.Common.{◌≡◌, ◌<◌, ◌≤◌, List, [], ◌∷◌, None, length, take, get_or, refl, sym, ap, subst, ◌∙◌, arith}
-use Rattle.std.specs.Prelude.{is_some}
+use Rattle.std.proofs.Common.{◌≡◌, ℕ, ◌<◌, ◌≤◌, List, [], ◌∷◌, ◌++◌, Option, None, Some, true, false, length, take, get_or, refl, sym, ap, subst, ◌∙◌, arith}
+use Rattle.std.specs.Prelude.{is_some, is_none}
 use Rattle.std.proofs.lemmas.List.{take_all}
 use Rattle.std.proofs.lemmas.Option.{slice_get_read}
 use Rattle.ir_core.specs.Edits.{Body}
@@ -13,21 +13,24 @@ use Rattle.ir_core.proofs.Members.{each_join}
 use Rattle.ir_core.proofs.Wholeness.{names_more}
 use Rattle.ir_core.proofs.index.Names.of.Goals as goal
 
-pub returns-then-is_some-clause-functions : goal.returns-then-is_some-clause-functions
-returns-then-is_some-clause-functions c =
+some_there : (o : Option ℕ) → is_none o ≡ false → is_some o ≡ true
+some_there None e = cc
+some_there (Some k) e = refl
+
+none_there : (o : Option ℕ) → is_none o ≡ true → is_some o ≡ false
+none_there None e = refl
+none_there (Some k) e = cc
+
+pub returns-then-not-branch-clause-functions : goal.returns-then-not-branch-clause-functions
+returns-then-not-branch-clause-functions c =
     let xs = c.args.funcs.now in
     let k = c.functions.place in
     let x = c.index-funcs-place.result in
     let within : k < length xs = omega arith in
     let there : x ≡ get_or xs k x = c.index-funcs-place.is in
-    let place : c.find.result ≡ place_of x.function.name (functions_in (take k xs)) =
-    c.find.ensures ∙ ap (λ n. place_of n (functions_in (take k xs))) c.name-in-functions.ensures.value in
-    met_again xs k x (slice_get_read xs (length xs) k x refl within there) (ap is_some (sym place) ∙ (sym c.is_some.ensures ∙ c.if-is_some.true))
-
-pub add-requires-clause-new : goal.add-requires-clause-new
-add-requires-clause-new c =
-    let before = functions_in (take c.functions.place c.args.funcs.now) in
-    not_met c.index-funcs-place.result.function.name before c.find.result (c.find.ensures ∙ ap (λ n. place_of n before) c.name-in-functions.ensures.value) (sym c.is_some.ensures ∙ c.if-is_some.false)
+    let met = place_of x.function.name (functions_in (take k xs)) in
+    let named = λ (f : Body). is_none (place_of f.function.name (functions_in (take k xs))) in
+    met_again xs k x (slice_get_read xs (length xs) k x refl within there) (some_there met (ap named (sym c.get-func.ensures) ∙ (sym c.in_ok-add_other.ensures.cases ∙ c.if-not-branch.true)))
 
 pub functions-preserved : goal.functions-preserved
 functions-preserved c =
@@ -38,12 +41,14 @@ functions-preserved c =
     let within : k < length xs = omega arith in
     let there : x ≡ get_or xs k x = c.index-funcs-place.is in
     let more = sym (one_more xs k x within there) in
+    let met = place_of x.function.name (functions_in (take k xs)) in
+    let named = λ (f : Body). is_none (place_of f.function.name (functions_in (take k xs))) in
     let new : find_function x.function.name (functions_in (take k xs)) ≡ None =
-    not_met x.function.name (functions_in (take k xs)) c.find.result (c.find.ensures ∙ ap (λ n. place_of n (functions_in (take k xs))) c.name-in-functions.ensures.value) (sym c.is_some.ensures ∙ c.if-is_some.false) in
+    not_met x.function.name (functions_in (take k xs)) met refl (none_there met (ap named (sym c.get-func.ensures) ∙ (sym c.in_ok-add_other.ensures.cases ∙ c.if-not-branch.false))) in
     record {
-      index = subst (IsIndex c.add.new.self) more c.in_ok-add.ensures.ok;
+      index = subst (IsIndex c.add_other.new.self) more (subst (λ (f : Body). IsIndex c.add_other.new.self (functions_in (take k xs) ++ (f.function ∷ []))) c.get-func.ensures (c.in_ok-add_other.ensures.added c.if-not-branch.false));
       apart = subst DifferentNames more (names_more (functions_in (take k xs)) x.function i.apart new);
-      sound = subst (Each IsSound) more (each_join IsSound (functions_in (take k xs)) (x.function ∷ []) i.sound (c.name.ensures.sound, tt));
+      sound = subst (Each IsSound) more (each_join IsSound (functions_in (take k xs)) (x.function ∷ []) i.sound (subst (λ (f : Body). IsSound f.function) c.get-func.ensures c.add_other.ensures.sound, tt));
     }
 
 pub returns : goal.returns

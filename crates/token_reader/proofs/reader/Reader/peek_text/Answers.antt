@@ -22,5 +22,5 @@ returns-clause-some c = λ x xs e.
     let kept = some_taken i.tokens.now i.next.at i.«end» t within.0 c.get-token.ensures in
     let same = spells_name i.text.now (take i.«end» i.tokens.now) i.next.at t x xs kept (shown_not i.text.now (take i.«end» i.tokens.now) i.next.at t i.next kept c.self.invariant.3) (c.self.view_is ∙ e) in
     let spelled = if_some (λ (z : Token). c.spelling.result.now ≡ spelling i.text.now z) _ t c.get-token.ensures c.spelling.ensures in
-    let bytes = c.from_vec.ensures ∙ c.in_ok-from_slice.ensures.items ∙ c.strip_mark-bytes.ensures ∙ ap (name_of t.kind) spelled ∙ same.0 in
+    let bytes = c.in_ok-from_slice.ensures ∙ c.strip_mark-bytes.ensures ∙ ap (name_of t.kind) spelled ∙ same.0 in
     rw (bytes, same.1) refl

@@ -4,7 +4,7 @@ use Rattle.clif_words.specs.Classes.{code}
 use Rattle.token_reader.specs.Reading.{name_at, comma_at, more_at}
 use Rattle.clif_insts.specs.Arguments.{more_values_at}
 use Rattle.token_reader.proofs.Loops.{is_done}
-use Rattle.clif_insts.proofs.arguments.read_more_names.Goals as goal
+use Rattle.clif_insts.proofs.arguments.read_few_more_values.Goals as goal
 
 pub returns-else-next_is-clause-is : goal.returns-else-next_is-clause-is
 unfolding more_at

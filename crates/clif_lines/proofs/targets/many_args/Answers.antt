@@ -2,7 +2,7 @@ use Rattle.clif_insts.specs.declared.raw.RawArg.TheVariants as arg
 use Rattle.clif_names.specs.Limits.{arg_limits}
 use Rattle.clif_lines.specs.Keeping.{Keeps}
 use Rattle.clif_lines.proofs.Parting.{each_part, got_or}
-use Rattle.clif_lines.proofs.targets.args.Goals as goal
+use Rattle.clif_lines.proofs.targets.many_args.Goals as goal
 
 pub arg-requires : goal.arg-requires
 arg-requires c =

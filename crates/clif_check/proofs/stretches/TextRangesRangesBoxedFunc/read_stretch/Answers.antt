@@ -1,7 +1,7 @@
 use Rattle.std.proofs.lemmas.Option.{IfSome_then}
 use Rattle.read_workers.proofs.RangeLaws.{stretch_read}
 use Rattle.clif_check.proofs.MeantLaws.{kept_follow}
-use Rattle.clif_check.proofs.stretches.TextRangesRangesFunc.read_stretch.Goals as goal
+use Rattle.clif_check.proofs.stretches.TextRangesRangesBoxedFunc.read_stretch.Goals as goal
 
 pub returns : goal.returns
 returns c =

@@ -45,7 +45,11 @@ fn copy_bytes(alloc: Global, text: &[u8]) -> Result<List<u8>, AllocError>
 }
 
 /// A test of lines with a text, which is not empty and has no `$`.
-fn line_directive(alloc: Global, check: LineCheck, text: &[u8]) -> Result<Option<Directive>, AllocError>
+fn line_directive(
+    alloc: Global,
+    check: LineCheck,
+    text: &[u8],
+) -> Result<Option<Directive>, AllocError>
     ensures { IfOk result (λ lines. option_map views.directive_of lines
         ≡ spec.line_directive (views.line_test_by check) text.now) }
 {

@@ -1,10 +1,12 @@
 //! Tests of the crates that stand on no other: operations on bits, tokens, exception tables, debug tags, sources and
-//! sinks, the board machine. They stand in a crate of their own, since a crate with tests is proved once more with
-//! them.
+//! sinks, the board machine, numbers that workers draw. They stand in a crate of their own, since a crate with tests is
+//! proved once more with them.
 #![tactic(auto)]
 
 #[cfg(test)]
 mod board;
+#[cfg(test)]
+mod drawing;
 #[cfg(test)]
 mod flow;
 #[cfg(test)]

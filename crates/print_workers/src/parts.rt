@@ -16,10 +16,14 @@ use clif_numbers::func_numbers;
 use clif_print::put_function;
 use clk_flow::{Failed, Sink};
 use ir_core::Func;
+use range_workers::map_drawn;
 use std::alloc::{AllocError, Global};
-use std::thread::{Threads, map_indices};
+use std::thread::Threads;
 use text_output::{MemoryOutput, Output, SinkOutput};
 use thiserror::Error;
+
+/// How many parts are written for each worker: a worker on a slow processor then writes fewer than the others.
+const PARTS: usize = 8;
 
 /// Why the functions were not printed.
 #[derive(Clone, Copy, PartialEq, Eq, Debug, Error)]
@@ -32,7 +36,7 @@ pub enum PrintErr {
     NoMemory,
 }
 
-/// Appends the canonical text of the functions. At most so many workers write it into memory, a part each, before the
+/// Appends the canonical text of the functions. At most so many workers write it into memory, part by part, before the
 /// sink is given the first byte. `Failed` comes only where the sink's count of faults rose; a beginning of the text was
 /// appended then. After `NoMemory` the sink is as it was.
 pub fn print_with<R: Threads + Sync, F: Functions, K: Sink>(
@@ -99,21 +103,33 @@ fn part_texts<R: Threads + Sync, F: Functions>(
     if functions.len() == 0 {
         return Ok(Vec::new(alloc));
     }
-    let parts = workers.min(functions.len());
+    let parts = count_parts(workers).min(functions.len());
     let cuts = even_cuts(alloc, functions, parts)?;
-    all_texts(
-        alloc,
-        texts_between(rt, alloc, functions, parts, cuts.as_slice())?,
-    )
+    let answers = texts_between(rt, alloc, functions, parts, cuts.as_slice(), workers)?;
+    all_texts(alloc, answers)
 }
 
-/// The parts of the functions' text between its cuts, each by a worker, if there was memory for it.
+/// How many parts so many workers write.
+fn count_parts(workers: usize) -> usize
+    requires { 0 < workers }
+    ensures { 0 < result }
+{
+    if workers == 1 {
+        1
+    } else {
+        workers.saturating_mul(PARTS)
+    }
+}
+
+/// The parts of the functions' text between its cuts, if there was memory for them. Each of so many workers draws the
+/// next part when it has written one.
 fn texts_between<R: Threads + Sync, F: Functions>(
     rt: &R,
     alloc: Global,
     functions: &F,
     parts: usize,
     cuts: &[usize],
+    workers: usize,
 ) -> Result<Vec<Result<Vec<u8>, AllocError>>, AllocError>
     requires { AreCuts (length (F.functions functions.now)) parts cuts.now }
     ensures number { IfOk result (λ answers. length answers.items ≡ parts) }
@@ -130,7 +146,7 @@ fn texts_between<R: Threads + Sync, F: Functions>(
             (λ text. IsPart (F.functions functions.entry.now) (slice_index cuts.entry.now i)
             (slice_index cuts.entry.now (i + 1)) text.items) }
     { part_text(alloc, functions, cuts[i], cuts[i + 1]) };
-    map_indices(rt, alloc, parts, &write)
+    map_drawn(rt, alloc, parts, workers, &write)
 }
 
 /// The texts, where each of them was written. Only `AllocError` refuses.

@@ -1,8 +1,10 @@
 //! What stands in a range, found stretch by stretch, by several workers at once.
 #![tactic(auto)]
 
+mod drawing;
 mod ranges;
 mod room;
 
+pub use drawing::map_drawn;
 pub use ranges::{Ranges, join_items, read_by_workers};
 pub use room::make_room;

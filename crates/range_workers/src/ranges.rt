@@ -1,15 +1,19 @@
 //! Ranges read stretch by stretch, by several workers at once.
 
-ghost use Rattle.std.specs.Prelude.{◌≡◌, ◌<◌, ◌≤◌, ◌++◌, ℕ, List, IfSome};
-ghost use Rattle.std.specs.Thread.{IsSync};
-ghost use Rattle.range_workers.specs.Follow.{Follow};
+ghost use Rattle.std.specs.Prelude.{◌≡◌, ◌+◌, ◌<◌, ◌≤◌, ◌++◌, ℕ, List, IfSome, Some, flat_map, length, map};
+ghost use Rattle.std.specs.Prelude.{slice_index, slice_index_or};
+ghost use Rattle.range_workers.specs.Follow.{Follow, AreCuts};
 
+use crate::drawing::map_drawn;
 use crate::room::make_room;
 use std::alloc::Global;
-use std::thread::{Threads, join};
+use std::thread::Threads;
 
 /// More workers than a machine has processors are of no use.
 const MOST_WORKERS: usize = 64;
+
+/// How many parts a range is cut into for each worker: a worker on a slow processor then reads fewer than the others.
+const PARTS: usize = 8;
 
 /// What is read range by range, as places of a text or of the list of its tokens, into items.
 pub trait Ranges<T>: Sync {
@@ -68,38 +72,86 @@ fn read_range<T: Drop, P: Ranges<T>>(
     Some(found)
 }
 
-/// The items of a range, read by so many workers at once. None where anything else stands there, or memory runs
-/// out.
-#[cycle(halves)]
-fn read_halves<R: Threads + Sync, T: Drop + Send, P: Ranges<T>>(
-    rt: &R,
+/// The places at which the parts of a range begin, each about as long as the share, and the place at which the last of
+/// them ends. None where memory runs out.
+fn find_cuts<T, P: Ranges<T>>(
     alloc: Global,
     ranges: &P,
     from: usize,
     end: usize,
+    share: usize,
+) -> Option<Vec<usize>>
+    requires { P.range ranges.now from «end» }
+    ensures { IfSome result (λ cuts. AreCuts (P.range ranges.now) from «end» cuts.items) }
+{
+    let mut cuts = Vec::new(alloc);
+    cuts.push(from).ok()?;
+    let mut at = from;
+    'parts: while at < end {
+        at = ranges.find_stretch_end(at, end, share);
+        cuts.push(at).ok()?;
+    }
+    Some(cuts)
+}
+
+/// The items of each part of a range between its cuts, read by so many workers, each of which draws the next part when
+/// it has read one. None where memory runs out.
+fn read_parts<R: Threads + Sync, T: Drop + Send, P: Ranges<T>>(
+    rt: &R,
+    alloc: Global,
+    ranges: &P,
+    cuts: &[usize],
     workers: usize,
     size: usize,
-) -> Option<Vec<T>>
-    requires { P.range ranges.now from «end» }
-    ensures { IfSome result (λ found. Follow (P.stand ranges.now) from «end» found.items) }
+) -> Option<Vec<Option<Vec<T>>>>
+    requires some { 0 < length cuts.now }
+    requires each { (i : ℕ) → i + 1 < length cuts.now
+        → P.range ranges.now (slice_index cuts.now i) (slice_index cuts.now (i + 1)) }
+    ensures number { IfSome result (λ answers. length answers.items + 1 ≡ length cuts.now) }
+    ensures each { IfSome result
+        (λ answers. (i : ℕ) (d : _) → i + 1 < length cuts.now
+        → IfSome (slice_index_or answers.items i d)
+        (λ found. Follow (P.stand ranges.now) (slice_index cuts.now i) (slice_index cuts.now (i + 1)) found.items)) }
 {
-    if workers <= 1 || end - from <= size {
-        return read_range(alloc, ranges, from, end, size);
+    let read = |i: usize| -> Option<Vec<T>>
+        requires { (i + 1 < length cuts.now)
+            × P.range ranges.now (slice_index cuts.now i) (slice_index cuts.now (i + 1)) }
+        ensures { IfSome result
+            (λ found. Follow (P.stand ranges.entry.now) (slice_index cuts.entry.now i)
+            (slice_index cuts.entry.now (i + 1)) found.items) }
+    { read_range(alloc, ranges, cuts[i], cuts[i + 1], size) };
+    map_drawn(rt, alloc, cuts.len() - 1, workers, &read).ok()
+}
+
+/// The lists, where each of them was read. None where one was not, or memory runs out.
+fn all_found<T: Drop>(alloc: Global, answers: Vec<Option<Vec<T>>>) -> Option<Vec<Vec<T>>>
+    ensures { IfSome result (λ lists. answers.items ≡ map (λ list. Some list) lists.items) }
+{
+    let mut lists = Vec::with_capacity(alloc, answers.len()).ok()?;
+    for answer in answers {
+        lists.push(answer?).ok()?;
     }
-    let few = workers / 2;
-    let others = workers - few;
-    let share = (end - from) / workers;
-    let middle = ranges.find_stretch_end(from, end, share.saturating_mul(few));
-    let low = || -> Option<Vec<T>>
-        requires { IsSync R.row × IsSync P.row × P.range ranges.now from middle }
-        ensures { IfSome result (λ found. Follow (P.stand ranges.entry.now) from middle found.items) }
-    { read_halves(rt, alloc, ranges, from, middle, few, size) };
-    let high = || -> Option<Vec<T>>
-        requires { IsSync R.row × IsSync P.row × P.range ranges.now middle «end» }
-        ensures { IfSome result (λ found. Follow (P.stand ranges.entry.now) middle «end» found.items) }
-    { read_halves(rt, alloc, ranges, middle, end, others, size) };
-    let (front, rest) = join(rt, low, high);
-    join_items(front?, rest?)
+    Some(lists)
+}
+
+/// How many items the lists have.
+fn count_items<T>(lists: &[Vec<T>]) -> usize {
+    let mut count = 0usize;
+    for list in lists {
+        count = count.saturating_add(list.len());
+    }
+    count
+}
+
+/// The items of all lists, one list behind the other. None where memory runs out.
+fn join_lists<T: Drop>(alloc: Global, lists: Vec<Vec<T>>) -> Option<Vec<T>>
+    ensures { IfSome result (λ all. all.items ≡ flat_map (λ list. list.items) lists.items) }
+{
+    let mut all = Vec::with_capacity(alloc, count_items(lists.as_slice())).ok()?;
+    for mut list in lists {
+        all.append(&mut list).ok()?;
+    }
+    Some(all)
 }
 
 /// The items of a range, read by so many workers at once, but by at most 64. None where anything else stands there, or
@@ -116,13 +168,12 @@ pub fn read_by_workers<R: Threads + Sync, T: Drop + Send, P: Ranges<T>>(
     requires { P.range ranges.now from «end» }
     ensures { IfSome result (λ found. Follow (P.stand ranges.now) from «end» found.items) }
 {
-    read_halves(
-        rt,
-        alloc,
-        ranges,
-        from,
-        end,
-        workers.min(MOST_WORKERS),
-        size,
-    )
+    if workers <= 1 || end - from <= size {
+        return read_range(alloc, ranges, from, end, size);
+    }
+    let workers = workers.min(MOST_WORKERS);
+    let share = (end - from) / (workers * PARTS);
+    let cuts = find_cuts(alloc, ranges, from, end, share.max(size))?;
+    let answers = read_parts(rt, alloc, ranges, cuts.as_slice(), workers, size)?;
+    join_lists(alloc, all_found(alloc, answers)?)
 }

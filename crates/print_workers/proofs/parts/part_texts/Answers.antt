@@ -8,4 +8,4 @@ pub returns : goal.returns
 returns g c =
     let are : AreCuts (length (g.F.Functions.functions c.args.functions.now)) c.min-parts.result c.as_slice.result.now = rw c.as_slice.ensures.value c.in_ok-cuts.ensures in
     if_ok c.all_texts.result _ _
-    (λ texts is. whole_text (λ text. text.items) (g.F.Functions.functions c.args.functions.now) c.min-parts.result c.as_slice.result.now c.in_ok-texts_between.field-0.items texts.items are is c.in_ok-texts_between.ensures.number c.in_ok-texts_between.ensures.each) c.all_texts.ensures
+    (λ texts is. whole_text (λ text. text.items) (g.F.Functions.functions c.args.functions.now) c.min-parts.result c.as_slice.result.now c.in_ok-answers.answers.items texts.items are is c.in_ok-answers.ensures.number c.in_ok-answers.ensures.each) c.all_texts.ensures

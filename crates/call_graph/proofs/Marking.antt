@@ -1,5 +1,5 @@
 -- Calls listed by marks are the calls by names.
-use Rattle.std.proofs.Common.{◌≡◌, ℕ, zero, suc, ◌+◌, ◌<◌, List, [], ◌∷◌, ◌++◌, length, map, get_or, take, drop, Option, Some, None, Bool, true, false, ◌||◌, nat_eq, eq-eqb, ne_eqb, inl, inr, refl, sym, ap, ap₂, ◌∙◌, arith}
+use Rattle.std.proofs.Common.{◌≡◌, ℕ, zero, suc, ◌+◌, ◌<◌, ◌≤◌, List, [], ◌∷◌, ◌++◌, length, map, get_or, take, drop, Option, Some, None, Bool, true, false, ◌||◌, nat_eq, eq-eqb, ne_eqb, inl, inr, refl, sym, ap, ap₂, ◌∙◌, arith}
 use Rattle.std.specs.Prelude.{slice_get}
 use Rattle.std.proofs.Math.ListN.{set}
 use Rattle.std.proofs.lemmas.List.{get_or-set_same, get_or-set_other, take_more, map_push}
@@ -119,3 +119,8 @@ targets_in_range m cs ns count e l k t h = let b = targets_below m cs k t (ap (�
 
 pub map_more : {A B : Type 0} (h : A → B) (xs : List A) (i : ℕ) (x : A) → i < length xs → x ≡ get_or xs i x → map h (take i xs) ++ (h x ∷ []) ≡ map h (take (i + 1) xs)
 map_more h xs i x l e = ap (λ z. map h (take i xs) ++ (h z ∷ [])) e ∙ sym (ap (map h) (take_more xs i x l) ∙ map_push h (take i xs) (get_or xs i x))
+
+pub map_one : {A B : Type 0} (h : A → B) (xs : List A) (x : A) → 1 ≤ length xs → length xs < 2 → x ≡ get_or xs 0 x → h x ∷ [] ≡ map h xs
+map_one h [] x l u e = absurd (omega (arith, l))
+map_one h (y ∷ []) x l u e = ap (λ z. h z ∷ []) e
+map_one h (y ∷ z ∷ zs) x l u e = absurd (omega (arith, u))

@@ -5,7 +5,7 @@ ghost use Rattle.call_graph.specs.Calls.{number_of, with_number, put_new, each_o
 ghost use Rattle.call_graph.specs.Marks.{Fresh, Marked, target_by, targets_in, TargetsBelow};
 
 use crate::calls::Graph;
-use ir_core::{Callee, Func, InstData, List, Module};
+use ir_core::{Callee, Few, Func, InstData, List, Module};
 use std::alloc::{AllocError, Global};
 
 /// The calls of a module. Only `AllocError` refuses.
@@ -38,7 +38,7 @@ pub fn find_calls(
     ensures stale { OnOk result (Fresh (stamp + 1) seen.new.items) }
 {
     let numbers = callee_numbers(alloc, module, func.callees())?;
-    let mut calls = Vec::new(alloc);
+    let mut calls = Vec::with_capacity(alloc, func.callees().len())?;
     for block in func.blocks() {
         add_calls(
             numbers.as_slice(),
@@ -56,14 +56,17 @@ fn callee_numbers(
     alloc: Global,
     module: &Module,
     callees: &[Callee],
-) -> Result<Vec<Option<usize>>, AllocError>
-    ensures { IfOk result (λ numbers. numbers.items ≡ map (λ c. number_of «module».now c.name) callees.now) }
+) -> Result<Few<Option<usize>>, AllocError>
+    ensures { IfOk result (λ numbers. numbers ≡ map (λ c. number_of «module».now c.name) callees.now) }
 {
-    let mut numbers = Vec::new(alloc);
+    if let [callee] = callees {
+        return Ok(Few::one(module.find(&callee.name)));
+    }
+    let mut numbers = Vec::with_capacity(alloc, callees.len())?;
     for callee in callees {
         numbers.push(module.find(&callee.name))?;
     }
-    Ok(numbers)
+    Ok(Few::from_vec(numbers))
 }
 
 /// Adds the functions that these instructions call.

@@ -1,50 +1,79 @@
 //! Lists of numbers that grow at one end. Contracts see them with the topmost first.
-ghost use Rattle.std.specs.Prelude.{◌≡◌, List, [], ◌∷◌, ◌++◌, slice_get, OnOk};
+ghost use Rattle.std.specs.Prelude.{◌≡◌, List, [], ◌∷◌, ◌++◌, slice_get, IfOk, OnOk};
 ghost use Rattle.call_graph.specs.Stacks.{tail_of};
 
 use std::alloc::{AllocError, Global};
 use std::marker::Model;
 
+/// A stack of numbers. None or one take no memory but the stack's own.
 #[derive(Drop)]
 pub(crate) struct Stack {
-    items: Vec<usize>,
+    kept: Kept,
+    alloc: Global,
+}
+
+#[derive(Drop)]
+enum Kept {
+    None,
+    One(usize),
+    /// The topmost last.
+    Many(Vec<usize>),
 }
 
 impl Model for Stack {
-    ghost use Rattle.std.specs.Prelude.{ℕ, List, reverse};
+    ghost use Rattle.std.specs.Prelude.{ℕ, List};
+    ghost use Rattle.call_graph.specs.Stacks.{stacked};
 
     ghost Value = { List ℕ };
 
-    ghost view = { λ s. reverse s.items.items };
+    ghost view = { λ s. stacked s.kept };
 }
 
 impl Stack {
+    /// The empty stack. It takes no memory.
     pub(crate) fn new(alloc: Global) -> Stack
         ensures { result ≡ [] }
     {
         Stack {
-            items: Vec::new(alloc),
+            kept: Kept::None,
+            alloc,
         }
     }
 
     pub(crate) fn push(&mut self, item: usize) -> Result<(), AllocError>
         ensures { OnOk result (self.new ≡ item ∷ self.old) }
     {
-        self.items.push(item)?;
+        match &mut self.kept {
+            Kept::None => self.kept = Kept::One(item),
+            Kept::One(below) => self.kept = Kept::Many(two(self.alloc, *below, item)?),
+            Kept::Many(items) => items.push(item)?,
+        }
         Ok(())
     }
 
     pub(crate) fn top(&self) -> Option<usize>
         ensures { result ≡ slice_get self.now 0 }
     {
-        self.items.last().copied()
+        match &self.kept {
+            Kept::None => None,
+            Kept::One(item) => Some(*item),
+            Kept::Many(items) => items.last().copied(),
+        }
     }
 
     pub(crate) fn pop(&mut self) -> Option<usize>
         ensures top { result ≡ slice_get self.old 0 }
         ensures rest { self.new ≡ tail_of self.old }
     {
-        self.items.pop()
+        match &mut self.kept {
+            Kept::None => None,
+            Kept::One(item) => {
+                let item = *item;
+                self.kept = Kept::None;
+                Some(item)
+            }
+            Kept::Many(items) => items.pop(),
+        }
     }
 
     /// Moves all items to the end of a list, the topmost first.
@@ -57,4 +86,14 @@ impl Stack {
         }
         Ok(())
     }
+}
+
+/// A vector of two numbers, with room for more.
+fn two(alloc: Global, first: usize, second: usize) -> Result<Vec<usize>, AllocError>
+    ensures { IfOk result (λ items. items.items ≡ first ∷ second ∷ []) }
+{
+    let mut items = Vec::with_capacity(alloc, 4)?;
+    items.push(first)?;
+    items.push(second)?;
+    Ok(items)
 }

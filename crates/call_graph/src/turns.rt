@@ -114,6 +114,7 @@ fn filled(alloc: Global, graph: &Graph, piece: &[usize]) -> Result<Placing, Allo
     let mut members = stacks(alloc, count)?;
     let mut callees = stacks(alloc, count)?;
     let mut woken = Stack::new(alloc);
+    let list = Vec::with_capacity(alloc, count)?;
     let mut rest = count;
     'functions: while rest > 0 {
         rest -= 1;
@@ -129,7 +130,7 @@ fn filled(alloc: Global, graph: &Graph, piece: &[usize]) -> Result<Placing, Allo
         placed: vec![in alloc; false; count]?,
         ready: Ready::new(alloc),
         woken,
-        list: Vec::new(alloc),
+        list,
     })
 }
 

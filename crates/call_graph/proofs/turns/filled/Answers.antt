@@ -19,4 +19,4 @@ returns c =
     let i = c.functions.invariant in
     let placed : c.in_ok-vec.field-0.items ≡ replicate (length c.args.piece.now) false = search rules in
     fresh_as c.args.graph.now c.args.piece.now c.functions.members.items c.functions.callees.items c.functions.woken c.functions.rest i.filled c.functions-test.false c.in_ok-stacks.field-0.items
-    c.in_ok-vec.field-0.items c.new.result c.new-2.result.items c.in_ok-stacks.ensures placed c.new.ensures c.new-2.ensures.items
+    c.in_ok-vec.field-0.items c.new.result c.in_ok-list.list.items c.in_ok-stacks.ensures placed c.new.ensures c.in_ok-list.ensures.items

@@ -130,7 +130,7 @@ fn append_values(order: &mut Vec<u32>, values: &[Value]) -> Result<(), AllocErro
 fn block_order(alloc: Global, func: &Func) -> Result<Vec<u32>, AllocError>
     ensures { IfOk result (λ blocks. blocks.items ≡ block_numbers func.now.function.blocks) }
 {
-    let mut order = Vec::new(alloc);
+    let mut order = Vec::with_capacity(alloc, func.blocks().count())?;
     for block in func.blocks() {
         order.push(block.number())?;
     }

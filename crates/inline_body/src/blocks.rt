@@ -80,8 +80,9 @@ pub fn inline_blocks(
         ≡ map (inlined_block names.now outer.now after starts.now count) callee.now.function.blocks) }
     ensures as_many { IfOk result (λ b. length b.block_params ≡ length b.block_lines) }
 {
-    let mut block_params = Vec::new(alloc);
-    let mut block_lines = Vec::new(alloc);
+    let block_count = names.blocks.as_slice().len();
+    let mut block_params = Vec::with_capacity(alloc, block_count)?;
+    let mut block_lines = Vec::with_capacity(alloc, block_count)?;
     for block in callee.blocks() {
         block_params.push(renumber_values(alloc, names, callee.params(block))?)?;
         block_lines.push(inline_block(alloc, names, outer, after, starts, count, callee, block)?)?;

@@ -151,6 +151,9 @@ pub fn copy_tags(
     requires { Each (Moves names.now.slots) (slots_shown inner.now) }
     ensures { IfOk result (λ t. t ≡ outer.now ++ map (tag_under (names_of names.now)) inner.now) }
 {
+    if outer.list().is_empty() && inner.list().is_empty() {
+        return Ok(Tags::new(Vec::new(alloc)));
+    }
     let mut list = Vec::from_slice(alloc, outer.list())?;
     names.push_tags(&mut list, inner.list())?;
     Ok(Tags::new(list))

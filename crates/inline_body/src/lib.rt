@@ -29,5 +29,5 @@ pub use placing::put_body;
 pub use prepare::{body_room, call_args, prepare_body};
 pub use results::{NewResults, new_types, number_results, result_types};
 pub use site::{Opened, append_lines, open};
-pub use splice::{count_blocks, splice_plain};
-pub use tables::number_blocks;
+pub use splice::splice_plain;
+pub use tables::{count_blocks, number_blocks};

@@ -1,5 +1,5 @@
 //! Lines of a callee's body.
-ghost use Rattle.std.specs.Prelude.{◌≡◌, ◌++◌, map, IfOk, OnOk};
+ghost use Rattle.std.specs.Prelude.{◌≡◌, ◌∷◌, [], ◌++◌, map, IfOk, OnOk};
 ghost use Rattle.ir_core.specs.Lists.{Each};
 ghost use Rattle.ir_semantics.specs.Renaming.{tag_under};
 ghost use Rattle.ir_core.specs.Viewed.{instruction_of, line_of};
@@ -107,6 +107,64 @@ pub fn line_with(
     })
 }
 
+/// Appends a copy of a line.
+fn push_copy(
+    alloc: Global,
+    names: &Names,
+    outer: &Tags,
+    line: &InstData,
+    list: &mut Vec<InstData>,
+) -> Result<(), AllocError>
+    requires { Reached names.now (line_of line.now) }
+    ensures { OnOk result (map line_of list.new.items ≡ map line_of list.old.items
+        ++ copied_line names.now outer.now (line_of line.now) ∷ []) }
+{
+    list.push(copy_line(alloc, names, outer, line)?)?;
+    Ok(())
+}
+
+/// Appends a jump with the values that the callee returns.
+fn push_return(
+    alloc: Global,
+    names: &Names,
+    after: Block,
+    values: &Values,
+    list: &mut Vec<InstData>,
+) -> Result<(), AllocError>
+    requires { Each (Moves names.now.values) values.now }
+    ensures { OnOk result (map line_of list.new.items ≡ map line_of list.old.items
+        ++ jump_line after (map (names_of names.now).value values.now) ∷ []) }
+{
+    let values = names.of_values(alloc, values)?;
+    list.push(jump(alloc, after, values.as_slice())?)?;
+    Ok(())
+}
+
+/// Appends a call in the place of a tail call, and a jump with its results.
+fn push_call(
+    alloc: Global,
+    names: &Names,
+    outer: &Tags,
+    after: Block,
+    results: &Values,
+    line: &InstData,
+    inst: Inst,
+    list: &mut Vec<InstData>,
+) -> Result<(), AllocError>
+    requires { Each (Moves names.now.slots) (slots_shown line.now.tags) }
+    ensures { OnOk result (map line_of list.new.items ≡ map line_of list.old.items
+        ++ (record {
+          inst = instruction_of inst;
+          ty = line.now.ty;
+          results = results.now;
+          tags = outer.now ++ map (tag_under (names_of names.now)) line.now.tags;
+        }) ∷ jump_line after results.now ∷ []) }
+{
+    list.push(line_with(alloc, names, outer, line, inst, results.clone()?)?)?;
+    list.push(jump(alloc, after, results.as_slice())?)?;
+    Ok(())
+}
+
 /// Appends what a line becomes.
 fn push_inlined(
     alloc: Global,
@@ -122,19 +180,13 @@ fn push_inlined(
         ++ inlined_line names.now outer.now after results.now (line_of line.now) (instruction_of line.now.inst)) }
 {
     match &line.inst {
-        Inst::Return(values) => {
-            let values = names.of_values(alloc, values)?;
-            list.push(jump(alloc, after, values.as_slice())?)?;
-            Ok(())
-        }
+        Inst::Return(values) => push_return(alloc, names, after, values, list),
         Inst::ReturnCall { callee, args } => {
             let inst = Inst::Call {
                 callee: names.callee(*callee),
                 args: names.of_values(alloc, args)?,
             };
-            list.push(line_with(alloc, names, outer, line, inst, results.clone()?)?)?;
-            list.push(jump(alloc, after, results.as_slice())?)?;
-            Ok(())
+            push_call(alloc, names, outer, after, results, line, inst, list)
         }
         Inst::ReturnCallIndirect { sig, address, args } => {
             let inst = Inst::CallIndirect {
@@ -142,14 +194,9 @@ fn push_inlined(
                 address: names.value(*address),
                 args: names.of_values(alloc, args)?,
             };
-            list.push(line_with(alloc, names, outer, line, inst, results.clone()?)?)?;
-            list.push(jump(alloc, after, results.as_slice())?)?;
-            Ok(())
+            push_call(alloc, names, outer, after, results, line, inst, list)
         }
-        _ => {
-            list.push(copy_line(alloc, names, outer, line)?)?;
-            Ok(())
-        }
+        _ => push_copy(alloc, names, outer, line, list),
     }
 }
 

@@ -101,7 +101,7 @@ impl Names {
         requires { Each (Moves self.now.values) (arg_values_used args.now) }
         ensures { IfOk result (λ list. list ≡ map (arg_under (names_of self.now)) args.now) }
     {
-        let mut list = Vec::new(alloc);
+        let mut list = Vec::with_capacity(alloc, args.len())?;
         for arg in args {
             list.push(self.arg(*arg))?;
         }
@@ -143,7 +143,7 @@ impl Names {
         requires blocks { Below (length self.now.blocks) (blocks_of targets.now) }
         ensures { IfOk result (λ list. list ≡ map (target_under (names_of self.now)) targets.now) }
     {
-        let mut list = Vec::new(alloc);
+        let mut list = Vec::with_capacity(alloc, targets.len())?;
         for target in targets {
             list.push(self.target(alloc, target)?)?;
         }
@@ -160,7 +160,7 @@ impl Names {
         requires blocks { Below (length self.now.blocks) (blocks_of (table_targets entries.now)) }
         ensures { IfOk result (λ list. list.items ≡ map (entry_under (names_of self.now)) entries.now) }
     {
-        let mut list = Vec::new(alloc);
+        let mut list = Vec::with_capacity(alloc, entries.len())?;
         for entry in entries {
             list.push(Entry {
                 tag: entry.tag,

@@ -23,7 +23,7 @@ pub fn args_of_values(alloc: Global, values: &[Value]) -> Result<Few<Arg>, Alloc
 fn many_args_of_values(alloc: Global, values: &[Value]) -> Result<Few<Arg>, AllocError>
     ensures { IfOk result (λ list. list ≡ map arg.Value values.now) }
 {
-    let mut list = Vec::new(alloc);
+    let mut list = Vec::with_capacity(alloc, values.len())?;
     for value in values {
         list.push(Arg::Value(*value))?;
     }
@@ -39,19 +39,31 @@ pub fn renumber_values(
     requires { Each (Moves names.now.values) values.now }
     ensures { IfOk result (λ list. list ≡ map (names_of names.now).value values.now) }
 {
-    let mut list = Vec::new(alloc);
+    let mut list = Vec::with_capacity(alloc, values.len())?;
     for value in values {
         list.push(names.value(*value))?;
     }
     Ok(List::from_vec(list))
 }
 
-/// So many values from a number on.
+/// So many values from a number on. None or one takes no memory.
 pub fn new_values(alloc: Global, start: u32, count: u32) -> Result<Values, AllocError>
     requires { start + count ≤ 2 ^ 32 }
     ensures { IfOk result (λ list. list ≡ map (λ i. start + i) (from 0 count)) }
 {
-    let mut list = Vec::new(alloc);
+    match count {
+        0 => Ok(Values::none()),
+        1 => Ok(Values::one(Value::new(start))),
+        _ => many_new_values(alloc, start, count),
+    }
+}
+
+/// So many values from a number on, however many.
+fn many_new_values(alloc: Global, start: u32, count: u32) -> Result<Values, AllocError>
+    requires { start + count ≤ 2 ^ 32 }
+    ensures { IfOk result (λ list. list ≡ map (λ i. start + i) (from 0 count)) }
+{
+    let mut list = Vec::with_capacity(alloc, count as usize)?;
     for index in 0..count {
         list.push(Value::new(start + index))?;
     }

@@ -6,6 +6,7 @@ ghost use Rattle.ir_core.specs.Viewed.{instruction_of, line_of};
 ghost use Rattle.inline_body.specs.Results.{is_tail_call as spec_is_tail_call, tail_calls, tail_calls_in, starts_along};
 ghost use Rattle.inline_body.specs.Results.{repeated};
 
+use crate::tables::count_blocks;
 use ir_core::{Func, Inst, InstData, List, Ty, Value};
 use std::alloc::{AllocError, Global};
 
@@ -55,10 +56,7 @@ pub fn number_results(
         ≡ starts_along first count callee.now.function.blocks) }
     ensures tail_calls { IfOk result (λ r. r.tail_calls ≡ tail_calls_in callee.now.function.blocks) }
 {
-    let mut table = Vec::new(alloc);
-    for _block in callee.blocks() {
-        table.push(0)?;
-    }
+    let mut table = vec![in alloc; 0; count_blocks(callee)]?;
     let mut number = first as usize;
     let mut tails = 0;
     'written: for block in callee.blocks() {
@@ -78,7 +76,7 @@ pub fn result_types(alloc: Global, caller: &Func, values: &[Value]) -> Result<Ve
     requires { Below (length caller.now.function.types) values.now }
     ensures { IfOk result (λ list. map Some list.items ≡ map (type_of caller.now.function) values.now) }
 {
-    let mut list = Vec::new(alloc);
+    let mut list = Vec::with_capacity(alloc, values.len())?;
     for value in values {
         list.push(caller.ty(*value))?;
     }

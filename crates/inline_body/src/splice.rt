@@ -1,19 +1,13 @@
 //! A plain call replaced by its callee's body.
-ghost use Rattle.std.specs.Prelude.{◌≡◌, length, OnOk, OnErr};
+ghost use Rattle.std.specs.Prelude.{◌≡◌, OnOk, OnErr};
 ghost use Rattle.inline_body.specs.PlainCall.{CanSplice, IsSplice};
 
 use crate::piece::put_piece;
 use crate::prepare::{body_room, prepare_body};
+use crate::tables::count_blocks;
 use body_import::{index_declarations, plan_import};
 use ir_core::{Func, Point};
 use std::alloc::{AllocError, Global};
-
-/// The number of blocks.
-pub fn count_blocks(func: &Func) -> usize
-    ensures { result ≡ length func.now.function.blocks }
-{
-    func.blocks().count()
-}
 
 /// Replaces a plain call by its callee's body. After `AllocError` the caller is as before. Time is the size of both,
 /// times the logarithm of the number of declarations.

@@ -47,8 +47,9 @@ pub fn copy_blocks(
         ≡ map (copied_block names.now outer.now) callee.now.function.blocks) }
     ensures as_many { IfOk result (λ b. length b.block_params ≡ length b.block_lines) }
 {
-    let mut block_params = Vec::new(alloc);
-    let mut block_lines = Vec::new(alloc);
+    let block_count = names.blocks.as_slice().len();
+    let mut block_params = Vec::with_capacity(alloc, block_count)?;
+    let mut block_lines = Vec::with_capacity(alloc, block_count)?;
     for block in callee.blocks() {
         block_params.push(renumber_values(alloc, names, callee.params(block))?)?;
         block_lines.push(copy_block(alloc, names, outer, callee, block)?)?;

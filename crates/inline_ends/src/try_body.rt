@@ -113,13 +113,14 @@ fn push_block(
         ≡ made_blocks made ++ tried_block names.now site.now (block_at callee.now.function.blocks block)) }
     ensures as_many { IfOk result AsMany }
 {
+    let lines = callee.inst_slice(block);
     let mut current = OpenBlock {
         made,
         block: names.block(block),
         params: renumber_values(alloc, names, callee.params(block))?,
-        lines: Vec::new(alloc),
+        lines: Vec::with_capacity(alloc, lines.len())?,
     };
-    for line in callee.inst_slice(block) {
+    for line in lines {
         current = push_tried(alloc, names, site, current, line)?;
     }
     close(current)
@@ -138,9 +139,10 @@ pub fn try_blocks(
         ≡ tried_blocks names.now site.now callee.now.function.blocks) }
     ensures as_many { IfOk result (λ b. length b.block_params ≡ length b.block_lines) }
 {
+    let block_count = names.blocks.as_slice().len();
     let mut made = MadeBlocks {
-        block_params: Vec::new(alloc),
-        block_lines: Vec::new(alloc),
+        block_params: Vec::with_capacity(alloc, block_count)?,
+        block_lines: Vec::with_capacity(alloc, block_count)?,
     };
     for block in callee.blocks() {
         made = push_block(alloc, names, site, made, callee, block)?;

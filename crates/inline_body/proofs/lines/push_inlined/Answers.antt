@@ -38,9 +38,5 @@ made_default n outer after results l (inst.CallIndirect x0 x1 x2) a b d = refl
 made_default n outer after results l (inst.ReturnCallIndirect x0 x1 x2) a b d = absurd (d x0 x1 x2 refl)
 made_default n outer after results l (inst.TryCallIndirect x0 x1 x2 x3 x4) a b d = refl
 
-pub returns-in_ok-push-in_default : goal.returns-in_ok-push-in_default
-returns-in_ok-push-in_default c =
-    ap (map line_of) c.in_ok-push-in_default.ensures.items
-    ∙ (map_push line_of c.args.list.now.items c.in_ok-copy_line-in_default.field-0
-    ∙ (ap (λ (z : Line). map line_of c.args.list.now.items ++ (z ∷ [])) c.in_ok-copy_line-in_default.ensures
-    ∙ ap (λ (z : List Line). map line_of c.args.list.now.items ++ z) (sym (made_default c.args.names.now c.args.outer.now c.args.after c.args.results.now (line_of c.args.line.now) c.args.line.now.inst c.in_default.not-Return c.in_default.not-ReturnCall c.in_default.not-ReturnCallIndirect))))
+pub returns-in_default : goal.returns-in_default
+returns-in_default c = rw (made_default c.args.names.now c.args.outer.now c.args.after c.args.results.now (line_of c.args.line.now) c.args.line.now.inst c.in_default.not-Return c.in_default.not-ReturnCall c.in_default.not-ReturnCallIndirect) c.push_copy.ensures

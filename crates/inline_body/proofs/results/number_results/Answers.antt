@@ -12,16 +12,14 @@ use Rattle.inline_body.proofs.results.number_results.Goals as goal
 pub written-init : goal.written-init
 written-init c =
     let bs = c.args.callee.now.function.blocks in
-    let sound = c.blocks-block-items-2.ensures.sound in
-    let it = c.into_iter-block-iterator-2.result in
-    let numbers : it ≡ block_numbers bs = c.into_iter-block-iterator-2.ensures.into_iter_gives ∙ c.blocks-block-items-2.ensures.numbers in
+    let sound = c.blocks-block-items.ensures.sound in
+    let it = c.into_iter-block-iterator.result in
+    let numbers : it ≡ block_numbers bs = c.into_iter-block-iterator.ensures.into_iter_gives ∙ c.blocks-block-items.ensures.numbers in
     let blocks : map (block_at bs) it ≡ bs = ap (map (block_at bs)) numbers ∙ all_at bs sound.blocks_differ in
-    let none = ap length c.in-None.ensures.steps.0 in
-    let all = c.loop-block.invariant in
     let count = ap tail_calls_in blocks in
     record {
-      left = ap₂ (λ p q. with_values c.loop-block.table.items p (starts_along c.args.first c.args.count q)) numbers blocks;
-      long = omega (arith, none, all);
+      left = ap₂ (λ p q. with_values c.in_ok-table.table.items p (starts_along c.args.first c.args.count q)) numbers blocks;
+      long = omega (arith, c.in_ok-table.ensures.len, c.in_ok-table.table.ok.0, c.count_blocks.ensures);
       below = subst (Below (length bs)) (sym numbers) sound.block_range;
       there = subst (Each (λ n. In n (block_numbers bs))) (sym numbers) (each_in (block_numbers bs) (block_numbers bs) (λ n i. i));
       small = ap (λ q. c.args.first + c.args.count * tail_calls_in q) blocks;
@@ -31,16 +29,16 @@ written-init c =
 pub written-preserved : goal.written-preserved
 written-preserved c =
     let bs = c.args.callee.now.function.blocks in
-    let k = c.in-Some-block.block in
-    let rest = c.next-in-written.new.self in
-    let steps = c.in-Some-block.ensures.steps in
+    let k = c.in-Some.block in
+    let rest = c.next.new.self in
+    let steps = c.in-Some.ensures.steps in
     let tails = c.count_tail_calls-here.ensures ∙ ap tail_calls c.inst_slice.ensures in
     let long = length-set c.written.table.items c.number.result c.written.number in
     let was = c.written.invariant.long in
     let counted = c.written.invariant.counted in
     let parts = ap (λ (z : List ℕ). tail_calls_in (map (block_at bs) z)) steps in
     record {
-      left = next_written c.written.table.items c.written.block-iterator k c.number.result c.written.number c.args.count c.count_tail_calls-here.result rest bs (with_values c.loop-block.table.items (block_numbers bs) (starts_along c.args.first c.args.count bs)) steps c.number.ensures tails c.written.invariant.left;
+      left = next_written c.written.table.items c.written.block-iterator k c.number.result c.written.number c.args.count c.count_tail_calls-here.result rest bs (with_values c.in_ok-table.table.items (block_numbers bs) (starts_along c.args.first c.args.count bs)) steps c.number.ensures tails c.written.invariant.left;
       long = omega (arith, long, was);
       below = (subst (Below (length bs)) steps c.written.invariant.below).1;
       there = (subst (Each (λ n. In n (block_numbers bs))) steps c.written.invariant.there).1;
@@ -54,8 +52,6 @@ returns-clause-starts c =
     let ks = block_numbers bs in
     let vs = starts_along c.args.first c.args.count bs in
     let sound = c.blocks-block-items.ensures.sound in
-    let none = ap length c.in-None.ensures.steps.0 in
-    let all = c.loop-block.invariant in
-    let long : length c.loop-block.table.items ≡ length bs = omega (arith, none, all) in
-    let is : c.written.table.items ≡ with_values c.loop-block.table.items ks vs = ap (λ (z : List ℕ). with_values c.written.table.items z (starts_along c.written.number c.args.count (map (block_at bs) z))) (sym c.in-None-block.ensures.steps.0) ∙ c.written.invariant.left in
-    ap (λ (z : List ℕ). map (λ b. get_or z b 0) ks) is ∙ values_at c.loop-block.table.items ks vs (length-map bs (λ b. b.number) ∙ sym (starts_length c.args.first c.args.count bs)) sound.blocks_differ (subst (λ (n : ℕ). Below n ks) (sym long) sound.block_range)
+    let long : length c.in_ok-table.table.items ≡ length bs = omega (arith, c.in_ok-table.ensures.len, c.in_ok-table.table.ok.0, c.count_blocks.ensures) in
+    let is : c.written.table.items ≡ with_values c.in_ok-table.table.items ks vs = ap (λ (z : List ℕ). with_values c.written.table.items z (starts_along c.written.number c.args.count (map (block_at bs) z))) (sym c.in-None.ensures.steps.0) ∙ c.written.invariant.left in
+    ap (λ (z : List ℕ). map (λ b. get_or z b 0) ks) is ∙ values_at c.in_ok-table.table.items ks vs (length-map bs (λ b. b.number) ∙ sym (starts_length c.args.first c.args.count bs)) sound.blocks_differ (subst (λ (n : ℕ). Below n ks) (sym long) sound.block_range)

@@ -5,9 +5,6 @@ use Rattle.inline_body.specs.Inlined.{block_at}
 use Rattle.inline_body.specs.Results.{tail_calls_in, starts_along, with_values}
 use Rattle.inline_body.proofs.results.number_results.Given as goal
 
-abbrev pub invariant-loop-block : goal.invariant-loop-block
-invariant-loop-block l = length l.table.items + length l._block-iterator ≡ length l.fn.callee.function.blocks
-
 abbrev pub invariant-written : goal.invariant-written
 invariant-written l =
     record {

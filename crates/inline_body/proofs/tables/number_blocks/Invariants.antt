@@ -5,9 +5,6 @@ use Rattle.inline_body.specs.Dense.{numbers_along}
 use Rattle.inline_body.specs.Results.{with_values}
 use Rattle.inline_body.proofs.tables.number_blocks.Given as goal
 
-abbrev pub invariant-loop-block : goal.invariant-loop-block
-invariant-loop-block l = length l.table.items + length l._block-iterator ≡ length l.fn.callee.function.blocks
-
 abbrev pub invariant-written : goal.invariant-written
 invariant-written l =
     record {

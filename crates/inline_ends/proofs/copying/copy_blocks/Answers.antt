@@ -18,8 +18,8 @@ loop-block-init c =
     let blocks : map (block_at bs) c.into_iter-block-iterator.result ≡ bs = ap (map (block_at bs)) numbers ∙ all_at bs c.blocks-block-items.ensures.sound.blocks_differ in
     let f = copied_block c.args.names.now c.args.outer.now in
     record {
-      left = ap₂ (λ p q. blocks_from p q ++ map f (map (block_at bs) c.into_iter-block-iterator.result)) c.new-block_params.ensures.items c.new-block_lines.ensures.items ∙ ap (map f) blocks;
-      as_many = ap length c.new-block_params.ensures.items ∙ sym (ap length c.new-block_lines.ensures.items);
+      left = ap₂ (λ p q. blocks_from p q ++ map f (map (block_at bs) c.into_iter-block-iterator.result)) c.in_ok-block_params.ensures.items c.in_ok-block_lines.ensures.items ∙ ap (map f) blocks;
+      as_many = ap length c.in_ok-block_params.ensures.items ∙ sym (ap length c.in_ok-block_lines.ensures.items);
       there = subst (Each (λ n. In n (block_numbers bs))) (sym numbers) (each_in (block_numbers bs) (block_numbers bs) (λ n i. i));
       reached = subst (Each (CanCopy c.args.names.now)) (sym blocks) c.requires;
     }

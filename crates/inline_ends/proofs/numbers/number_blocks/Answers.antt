@@ -11,13 +11,11 @@ pub returns-clause-numbers : goal.returns-clause-numbers
 returns-clause-numbers c =
     let ks = block_numbers c.args.callee.now.function.blocks in
     let sound = c.blocks-block-items.ensures.sound in
-    let none = ap length c.in-None.ensures.steps.0 in
-    let all = c.loop-block.invariant in
-    let long : length c.loop-block.table.items ≡ length c.args.callee.now.function.blocks = omega (arith, none, all) in
+    let long : length c.in_ok-table.table.items ≡ length c.args.callee.now.function.blocks = omega (arith, c.in_ok-table.ensures.len, c.in_ok-table.table.ok.0, c.count_blocks.ensures) in
     let vs = numbered c.args.first ks in
-    let is : c.written.table.items ≡ with_values c.loop-block.table.items ks vs =
-    ap (λ (z : List ℕ). with_values c.written.table.items z (numbered c.written.number z)) (sym c.in-None-block.ensures.steps.0)
+    let is : c.written.table.items ≡ with_values c.in_ok-table.table.items ks vs =
+    ap (λ (z : List ℕ). with_values c.written.table.items z (numbered c.written.number z)) (sym c.in-None.ensures.steps.0)
     ∙ c.written.invariant.left in
     ap (λ (z : List ℕ). map (λ b. get_or z b 0) ks) (c.from_vec.ensures ∙ is)
-    ∙ values_at c.loop-block.table.items ks vs (sym (numbered_length c.args.first ks)) sound.blocks_differ
+    ∙ values_at c.in_ok-table.table.items ks vs (sym (numbered_length c.args.first ks)) sound.blocks_differ
     (subst (λ (n : ℕ). Below n ks) (sym long) sound.block_range)

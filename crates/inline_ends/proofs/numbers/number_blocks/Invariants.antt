@@ -5,9 +5,6 @@ use Rattle.inline_body.specs.Results.{with_values}
 use Rattle.inline_ends.specs.Ending.{numbered}
 use Rattle.inline_ends.proofs.numbers.number_blocks.Given as goal
 
-abbrev pub invariant-loop-block : goal.invariant-loop-block
-invariant-loop-block l = length l.table.items + length l._block-iterator ≡ length l.fn.callee.function.blocks
-
 abbrev pub invariant-written : goal.invariant-written
 invariant-written l =
     record {

@@ -9,7 +9,7 @@ use Rattle.inline_ends.proofs.try_body.push_block.Goals as goal
 
 pub loop-line-preserved : goal.loop-line-preserved
 loop-line-preserved c =
-    let lines = c.inst_slice-line-items.result.now in
+    let lines = c.inst_slice-lines.result.now in
     let i = c.loop-line.line-index in
     let x = c.line-item.result in
     let rest = map line_of (drop (i + 1) lines) in

@@ -10,9 +10,9 @@ use Rattle.inline_ends.proofs.try_body.push_block.Given as goal
 abbrev pub invariant-loop-line : goal.invariant-loop-line
 invariant-loop-line l =
     record {
-      left : with_rest l.current (tried_lines l.fn.names l.fn.site (l.current.block + 1) (map line_of (drop l.line-index l.line-items))) ≡ made_blocks l.fn.made ++ tried_block l.fn.names l.fn.site (block_at l.fn.callee.function.blocks l.fn.block);
+      left : with_rest l.current (tried_lines l.fn.names l.fn.site (l.current.block + 1) (map line_of (drop l.line-index l.lines))) ≡ made_blocks l.fn.made ++ tried_block l.fn.names l.fn.site (block_at l.fn.callee.function.blocks l.fn.block);
       as_many : AsMany l.current.made;
-      reached : Each (Reached l.fn.names) (map line_of (drop l.line-index l.line-items));
-      few : Each (λ x. length x.results < 2 ^ 32) (map line_of (drop l.line-index l.line-items));
-      number : l.current.block + plain_calls (map line_of (drop l.line-index l.line-items)) + 1 < 2 ^ 32;
+      reached : Each (Reached l.fn.names) (map line_of (drop l.line-index l.lines));
+      few : Each (λ x. length x.results < 2 ^ 32) (map line_of (drop l.line-index l.lines));
+      number : l.current.block + plain_calls (map line_of (drop l.line-index l.lines)) + 1 < 2 ^ 32;
     }

@@ -14,8 +14,8 @@ loop-block-init c =
     let numbers : c.into_iter-block-iterator.result ≡ block_numbers bs = c.into_iter-block-iterator.ensures.into_iter_gives ∙ c.blocks-block-items.ensures.numbers in
     let blocks : map (block_at bs) c.into_iter-block-iterator.result ≡ bs = ap (map (block_at bs)) numbers ∙ all_at bs c.blocks-block-items.ensures.sound.blocks_differ in
     record {
-      left = ap₂ (λ p q. blocks_from p q ++ tried_blocks c.args.names.now c.args.site.now (map (block_at bs) c.into_iter-block-iterator.result)) c.new.ensures.items c.new-2.ensures.items ∙ ap (tried_blocks c.args.names.now c.args.site.now) blocks;
-      as_many = ap length c.new.ensures.items ∙ sym (ap length c.new-2.ensures.items);
+      left = ap₂ (λ p q. blocks_from p q ++ tried_blocks c.args.names.now c.args.site.now (map (block_at bs) c.into_iter-block-iterator.result)) c.in_ok-with_capacity.ensures.items c.in_ok-with_capacity-2.ensures.items ∙ ap (tried_blocks c.args.names.now c.args.site.now) blocks;
+      as_many = ap length c.in_ok-with_capacity.ensures.items ∙ sym (ap length c.in_ok-with_capacity-2.ensures.items);
       there = subst (Each (λ n. In n (block_numbers bs))) (sym numbers) (each_in (block_numbers bs) (block_numbers bs) (λ n i. i));
       can = subst (Each (CanTry c.args.names.now)) (sym blocks) c.requires.can;
     }

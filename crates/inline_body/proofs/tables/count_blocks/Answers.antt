@@ -3,7 +3,7 @@ use Rattle.std.proofs.lemmas.List.{length-map}
 use Rattle.std.proofs.lemmas.Iterator.Consumers.{count_from_yields_List, YieldsList-from_first}
 use Rattle.ir_core.specs.Module.{Block}
 use Rattle.ir_core.specs.Lookup.{block_numbers}
-use Rattle.inline_body.proofs.splice.count_blocks.Goals as goal
+use Rattle.inline_body.proofs.tables.count_blocks.Goals as goal
 
 pub returns : goal.returns
 returns c =

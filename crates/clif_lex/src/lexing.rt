@@ -235,6 +235,19 @@ fn token_at(preamble: bool, text: &[u8], at: usize) -> Result<Token, LexErr>
     other_at(at, &text[at..], c, &text[at + 1..])
 }
 
+/// How many bytes a token of a dense text takes on average, with the blanks behind it.
+const BYTES_OF_A_TOKEN: usize = 3;
+
+/// For how many tokens a list has room at first, at most.
+const MOST_ROOM: usize = 32_768;
+
+/// For how many tokens the list of so many bytes has room at first.
+#[inline]
+fn guess_token_count(byte_count: usize) -> usize {
+    let count = byte_count / BYTES_OF_A_TOKEN;
+    if count < MOST_ROOM { count } else { MOST_ROOM }
+}
+
 /// The tokens that stand from one byte up to another, as if the text ended there, or the first fault between them.
 /// Spans and faults are places in the whole text. `preamble` says whether a Header may stand at the front.
 /// A text of 2^32 bytes or more is refused with NoMemory, since spans are kept in 32 bits.
@@ -256,6 +269,7 @@ pub fn tokens_between(
     }
     let stretch = &text[..end];
     let mut spans = Vec::new(alloc);
+    let _ = spans.reserve(guess_token_count(end - from));
     let mut in_preamble = preamble;
     let mut at = blanks_end(stretch, from);
     'tokens: while at < stretch.len() {

@@ -30,7 +30,8 @@ impl FunctionNames {
     pub fn of(alloc: Global, func: &RawFunction) -> Result<FunctionNames, AllocError>
         ensures { IfOk result (λ names. AreNamesOf func.now names) }
     {
-        let tables = Tables::of_definitions(alloc, func)?;
+        let mut tables = Tables::new(alloc);
+        tables.define(func)?;
         let ends = ends(alloc, &tables.values.words, tables.firsts.as_slice())?;
         let endless = endless(tables.firsts.as_slice(), &ends);
         let values_before = values_before(alloc, tables.firsts.as_slice())?;

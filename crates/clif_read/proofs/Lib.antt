@@ -6,6 +6,7 @@ pub mod Ends
 pub mod LineEnds
 pub mod LineLaws
 pub mod LineLoop
+pub mod DeclLoop
 pub mod ModuleLaws
 pub mod Whole
 pub mod Functions

@@ -1,11 +1,13 @@
 -- Names of functions and declarations, read from left to right.
-use Rattle.std.specs.Prelude.{Bool, true, false, if◌then◌else◌, List, [], ◌∷◌, length, Option, Some, None, Ok}
+use Rattle.std.specs.Prelude.{Bool, true, false, if◌then◌else◌, List, [], ◌∷◌, ◌++◌, length, Option, Some, None}
+use Rattle.std.specs.Prelude.{Result, Ok}
 use Rattle.grammar.specs.Rules.{Lexeme, Unsupported, Out, ◌>>=◌}
 use Rattle.clif_words.specs.declared.class.Class.{Class}
 use Rattle.clif_words.specs.declared.class.Class.TheVariants as classes
 use Rattle.clif_words.specs.Terminals.{codes_of}
 use Rattle.token_reader.specs.declared.raw.RawNumber.{RawNumber}
-use Rattle.token_reader.specs.Reading.{next_is, name_at, refuse, each, with_front}
+use Rattle.token_reader.specs.declared.stop.Stop.{Stop}
+use Rattle.token_reader.specs.Reading.{Gives, next_is, name_at, refuse, each, with_front}
 use Rattle.token_reader.specs.Names.{text_at}
 use Rattle.token_reader.specs.Numbers.{number_at}
 use Rattle.clif_read.specs.declared.raw.RawFuncName.{RawFuncName}
@@ -93,6 +95,14 @@ decl_at ts =
     else if next_is classes.Sig ts then sig_decl_at ts
     else if next_is classes.Callee ts then callee_decl_at ts
     else refuse (classes.RefusedDecl ∷ []) Unsupported ts
+
+-- declarations, and behind them the one that is read
+abbrev pub adding : List RawDecl → Out RawDecl → Out (List RawDecl)
+adding before given = given >>= λ d. Ok (before ++ d.0 ∷ [], d.1)
+
+-- What a reader that adds to declarations left of them, and what it returned, are what reading gives.
+abbrev pub Adds : {X : Type 0} → List RawDecl → List RawDecl → List Lexeme → Result X Stop → Out RawDecl → Type 0
+Adds before after now result given = Gives (λ added. after) now result (adding before given)
 
 -- a declaration, or a word that is refused in its place
 abbrev pub begins_decl : List Class

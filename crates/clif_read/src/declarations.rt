@@ -76,8 +76,8 @@ fn read_opt_align(reader: &mut Reader<'_>) -> Result<Option<RawNumber>, Stop>
 
 /// `ss0 = explicit_slot 8, align = 4`
 #[tactic(auto, unfolding(crate::specs::Declarations::slot_decl_at))]
-fn read_slot_decl(reader: &mut Reader<'_>) -> Result<RawDecl, Stop>
-    ensures is { Gives same reader.new result (spec.slot_decl_at reader.old) }
+fn add_slot_decl(reader: &mut Reader<'_>, decls: &mut Vec<RawDecl>) -> Result<(), Stop>
+    ensures is { spec.Adds decls.old.items decls.new.items reader.new result (spec.slot_decl_at reader.old) }
     ensures shorter { IfOk result (λ _. length reader.new < length reader.old) }
 {
     let slot = reader.take(Class::Slot)?;
@@ -85,19 +85,27 @@ fn read_slot_decl(reader: &mut Reader<'_>) -> Result<RawDecl, Stop>
     reader.take(Class::ExplicitSlot)?;
     let size = read_number(reader)?;
     let align = read_opt_align(reader)?;
-    Ok(RawDecl::Slot { slot, size, align })
+    decls.reserve(1)?;
+    decls.push_reserved(RawDecl::Slot { slot, size, align });
+    Ok(())
 }
 
 /// `sig0 = (i64) -> i64 fast`
 #[tactic(auto, unfolding(crate::specs::Declarations::sig_decl_at))]
-fn read_sig_decl(alloc: Global, reader: &mut Reader<'_>) -> Result<RawDecl, Stop>
-    ensures is { Gives same reader.new result (spec.sig_decl_at reader.old) }
+fn add_sig_decl(
+    alloc: Global,
+    reader: &mut Reader<'_>,
+    decls: &mut Vec<RawDecl>,
+) -> Result<(), Stop>
+    ensures is { spec.Adds decls.old.items decls.new.items reader.new result (spec.sig_decl_at reader.old) }
     ensures shorter { IfOk result (λ _. length reader.new < length reader.old) }
 {
     let sig = reader.take(Class::Sig)?;
     reader.take(Class::Equals)?;
     let signature = read_signature(alloc, reader)?;
-    Ok(RawDecl::Sig { sig, signature })
+    decls.reserve(1)?;
+    decls.push_reserved(RawDecl::Sig { sig, signature });
+    Ok(())
 }
 
 /// Whether there is `colocated`, which is read.
@@ -129,8 +137,12 @@ fn read_callee_sig(alloc: Global, reader: &mut Reader<'_>) -> Result<RawCalleeSi
 
 /// `fn0 = colocated %g sig0`
 #[tactic(auto, unfolding(crate::specs::Declarations::callee_decl_at))]
-fn read_callee_decl(alloc: Global, reader: &mut Reader<'_>) -> Result<RawDecl, Stop>
-    ensures is { Gives same reader.new result (spec.callee_decl_at reader.old) }
+fn add_callee_decl(
+    alloc: Global,
+    reader: &mut Reader<'_>,
+    decls: &mut Vec<RawDecl>,
+) -> Result<(), Stop>
+    ensures is { spec.Adds decls.old.items decls.new.items reader.new result (spec.callee_decl_at reader.old) }
     ensures shorter { IfOk result (λ _. length reader.new < length reader.old) }
 {
     let callee = reader.take(Class::Callee)?;
@@ -138,26 +150,28 @@ fn read_callee_decl(alloc: Global, reader: &mut Reader<'_>) -> Result<RawDecl, S
     let colocated = read_colocated(reader)?;
     let name = read_func_name(alloc, reader)?;
     let sig = read_callee_sig(alloc, reader)?;
-    Ok(RawDecl::Callee {
+    decls.reserve(1)?;
+    decls.push_reserved(RawDecl::Callee {
         callee,
         colocated,
         name,
         sig,
-    })
+    });
+    Ok(())
 }
 
-/// A declaration.
+/// Puts a declaration behind the others.
 #[tactic(auto, unfolding(crate::specs::Declarations::decl_at))]
-fn read_decl(alloc: Global, reader: &mut Reader<'_>) -> Result<RawDecl, Stop>
-    ensures is { Gives same reader.new result (spec.decl_at reader.old) }
+fn add_decl(alloc: Global, reader: &mut Reader<'_>, decls: &mut Vec<RawDecl>) -> Result<(), Stop>
+    ensures is { spec.Adds decls.old.items decls.new.items reader.new result (spec.decl_at reader.old) }
     ensures shorter { IfOk result (λ _. length reader.new < length reader.old) }
 {
     if reader.next_is(Class::Slot) {
-        read_slot_decl(reader)
+        add_slot_decl(reader, decls)
     } else if reader.next_is(Class::Sig) {
-        read_sig_decl(alloc, reader)
+        add_sig_decl(alloc, reader, decls)
     } else if reader.next_is(Class::Callee) {
-        read_callee_decl(alloc, reader)
+        add_callee_decl(alloc, reader, decls)
     } else {
         Err(if reader.next_is(Class::RefusedDecl) {
             Stop::Unsupported
@@ -182,8 +196,7 @@ pub(crate) fn read_decls(alloc: Global, reader: &mut Reader<'_>) -> Result<Vec<R
 {
     let mut list = Vec::new(alloc);
     'list: while begins_decl(reader) {
-        let item = read_decl(alloc, reader)?;
-        list.push(item)?;
+        add_decl(alloc, reader, &mut list)?;
     }
     Ok(list)
 }

@@ -36,5 +36,9 @@ define_block t b =
     fold define_value (record t { blocks = declare t.blocks b.block })
     (flat_map param_defs b.params ++ flat_map line_defs b.lines)
 
+-- tables when the definitions of a function are taken
+abbrev pub define : Tables → RawFunction → Tables
+define t f = fold define_block (fold define_decl t f.decls) f.blocks
+
 abbrev pub defined : RawFunction → Tables
-defined f = fold define_block (fold define_decl no_tables f.decls) f.blocks
+defined f = define no_tables f

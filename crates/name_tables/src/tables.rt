@@ -1,5 +1,5 @@
 //! The words of a function, by kind.
-ghost use Rattle.std.specs.Prelude.{◌≡◌, OnOk, IfOk, fold, flat_map, map};
+ghost use Rattle.std.specs.Prelude.{◌≡◌, OnOk, fold, flat_map, map};
 ghost use Rattle.name_tables.specs.Definitions as text;
 ghost use Rattle.name_tables.specs.Defining as spec;
 
@@ -22,17 +22,8 @@ pub struct Tables {
 }
 
 impl Tables {
-    /// The tables of a function's definitions.
-    pub fn of_definitions(alloc: Global, func: &RawFunction) -> Result<Tables, AllocError>
-        ensures { IfOk result (λ tables. tables ≡ spec.defined func.now) }
-    {
-        let mut tables = Tables::new(alloc);
-        tables.define_decls(func.decls.as_slice())?;
-        tables.define_blocks(func.blocks.as_slice())?;
-        Ok(tables)
-    }
-
-    fn new(alloc: Global) -> Tables
+    /// Tables without a word.
+    pub fn new(alloc: Global) -> Tables
         ensures { result ≡ spec.no_tables }
     {
         Tables {
@@ -43,6 +34,15 @@ impl Tables {
             values: Names::new(alloc),
             firsts: Firsts::new(alloc),
         }
+    }
+
+    /// Takes the definitions of a function.
+    #[inline(never)]
+    pub fn define(&mut self, func: &RawFunction) -> Result<(), AllocError>
+        ensures { OnOk result (self.new ≡ spec.define self.old func.now) }
+    {
+        self.define_decls(func.decls.as_slice())?;
+        self.define_blocks(func.blocks.as_slice())
     }
 
     fn define_decl(&mut self, decl: &RawDecl) -> Result<(), AllocError>

@@ -1,8 +1,6 @@
-//! Functions built and read back, and a module with them.
-ghost use Rattle.std.specs.Prelude.{◌≡◌, ◌≤◌, ◌∷◌, [], IfOk, OnOk, None};
+//! Functions built by the calls that change them, and a module with one.
+ghost use Rattle.std.specs.Prelude.{◌≡◌, ◌≤◌, ◌∷◌, [], IfOk, OnOk};
 ghost use Rattle.ir_core.specs.declared.names.FuncName.TheVariants.{Text};
-ghost use Rattle.ir_core.specs.Lists.{In};
-ghost use Rattle.ir_core.specs.Lookup.{block_numbers};
 ghost use Rattle.ir_core.specs.Sound.{IsWhole};
 ghost use Rattle.ir_core.specs.Viewed.{instruction_of, line_of};
 ghost use Rattle.ir_core.specs.Calling as spec;
@@ -11,13 +9,13 @@ use debug_tags::Tags;
 use exn_tables::{Entry, Table};
 use ir_core::{
     Arg, Block, BlockCall, Boxed, Callee, Conv, Ext, Few, Func, FuncName, FuncRef, Inst, InstData,
-    List, Module, NameBytes, Param, Purpose, Room, Sig, SigRef, SlotDecl, Ty, Value, Values,
+    List, Module, NameBytes, Param, Purpose, Room, Sig, SigRef, Ty, Value, Values,
 };
 use std::alloc::{AllocError, Global};
 use std::process::Abort;
 
 /// A parameter of a signature, of 64 bits.
-const WORD: Param = Param {
+pub(crate) const WORD: Param = Param {
     ty: Ty::I64,
     ext: Ext::No,
     purpose: Purpose::Normal,
@@ -80,10 +78,10 @@ fn returned(alloc: Global, value: Value) -> InstData
 }
 
 /// `jump blockN(vM)`
-fn jump(alloc: Global, block: Block, value: Value) -> Result<InstData, AllocError>
-    ensures { IfOk result (λ line. line_of line ≡ spec.jump block value) }
+fn jump(alloc: Global, block: Block, value: Value) -> InstData
+    ensures { line_of result ≡ spec.jump block value }
 {
-    Ok(line(alloc, Inst::Jump(to(block, Arg::Value(value)))))
+    line(alloc, Inst::Jump(to(block, Arg::Value(value))))
 }
 
 /// `try_call fnC(vA), sig0, blockN(ret0), [ tag3: blockH(exn0) ]`
@@ -112,24 +110,34 @@ fn tried(
     ))
 }
 
-/// `block0(v0: i64): return v0`
+/// `block0(v0: i64): return v0`, in a function that has nothing yet.
+fn add_returning_block(alloc: Global, func: &mut Func) -> Result<(), AllocError>
+    requires values { func.old.function.types ≡ [] }
+    requires blocks { func.old.function.blocks ≡ [] }
+    ensures named { func.new.function.name ≡ func.old.function.name }
+    ensures whole { OnOk result (IsWhole func.new.function) }
+{
+    let value = func.declare(Ty::I64)?;
+    let block = func.add_block()?;
+    func.add_param(block, value)?;
+    func.add_inst(block, returned(alloc, value))
+}
+
+/// A function with one block, which returns its parameter.
 fn one_block(alloc: Global, name: FuncName) -> Result<Func, AllocError>
     ensures named { IfOk result (λ func. func.function.name ≡ name) }
     ensures whole { IfOk result (λ func. IsWhole func.function) }
 {
     let mut func = Func::new(alloc, name, one_param(alloc))?;
-    let value = func.declare(Ty::I64)?;
-    let block = func.add_block()?;
-    func.add_param(block, value)?;
-    func.add_inst(block, returned(alloc, value))?;
+    add_returning_block(alloc, &mut func)?;
     Ok(func)
 }
 
-/// The signature and the callee `%g` of `%f`.
-fn declared_callee(alloc: Global) -> Result<Func, AllocError>
-    ensures { IfOk result (λ func. func.function ≡ record spec.declared { types = [] }) }
+/// A signature and the callee `%g`.
+fn declare_callee(alloc: Global, func: &mut Func) -> Result<(), AllocError>
+    requires { func.old.function ≡ record spec.declared { sigs = []; callees = []; types = [] } }
+    ensures { OnOk result (func.new.function ≡ record spec.declared { types = [] }) }
 {
-    let mut func = Func::new(alloc, named(alloc, 102)?, one_to_one())?;
     let sig = func.add_sig(one_to_one())?;
     let name = named(alloc, 103)?;
     func.add_callee(Callee {
@@ -137,17 +145,27 @@ fn declared_callee(alloc: Global) -> Result<Func, AllocError>
         colocated: false,
         sig,
     })?;
-    Ok(func)
+    Ok(())
 }
 
-/// The declarations of `%f`: a signature, the callee `%g` and three values.
+/// Three values.
+fn declare_values(func: &mut Func) -> Result<(), AllocError>
+    requires { func.old.function ≡ record spec.declared { types = [] } }
+    ensures { OnOk result (func.new.function ≡ spec.declared) }
+{
+    func.declare(Ty::I64)?;
+    func.declare(Ty::I64)?;
+    func.declare(Ty::I64)?;
+    Ok(())
+}
+
+/// `%f` with its declarations: a signature, the callee `%g` and three values.
 fn declared(alloc: Global) -> Result<Func, AllocError>
     ensures { IfOk result (λ func. func.function ≡ spec.declared) }
 {
-    let mut func = declared_callee(alloc)?;
-    func.declare(Ty::I64)?;
-    func.declare(Ty::I64)?;
-    func.declare(Ty::I64)?;
+    let mut func = Func::new(alloc, named(alloc, 102)?, one_to_one())?;
+    declare_callee(alloc, &mut func)?;
+    declare_values(&mut func)?;
     Ok(func)
 }
 
@@ -258,17 +276,12 @@ fn put_insts(func: &mut Func, enter: InstData, call: InstData, leave: InstData)
     func.put_inst(Block::new(4), leave);
 }
 
-/// `%f` with its call replaced by the body of `%g`, by the calls that change a function in place.
-fn inlined(alloc: Global) -> Result<Func, AllocError>
-    ensures { IfOk result (λ func. func.function ≡ spec.inlined) }
+/// The call of `%g` is replaced by the instructions of its body.
+fn replace_call(alloc: Global, func: &mut Func) -> Result<(), AllocError>
+    requires function { func.old.function ≡ spec.linked }
+    requires room { 3 ≤ func.old.room.insts }
+    ensures { OnOk result (func.new.function ≡ spec.inlined) }
 {
-    let mut func = declared(alloc)?;
-    add_blocks(&mut func)?;
-    add_call(alloc, &mut func)?;
-    add_returns(alloc, &mut func)?;
-    append_declarations(alloc, &mut func)?;
-    insert_blocks(alloc, &mut func)?;
-    let enter = jump(alloc, Block::new(3), Value::new(0))?;
     let call = tried(
         alloc,
         FuncRef::new(1),
@@ -276,21 +289,55 @@ fn inlined(alloc: Global) -> Result<Func, AllocError>
         Block::new(4),
         Block::new(2),
     )?;
-    let leave = jump(alloc, Block::new(1), Value::new(4))?;
-    take_call(&mut func);
-    put_insts(&mut func, enter, call, leave);
+    let enter = jump(alloc, Block::new(3), Value::new(0));
+    let leave = jump(alloc, Block::new(1), Value::new(4));
+    take_call(func);
+    put_insts(func, enter, call, leave);
+    Ok(())
+}
+
+/// `%f`, which calls `%g`.
+fn calling(alloc: Global) -> Result<Func, AllocError>
+    ensures { IfOk result (λ func. func.function ≡ spec.calling) }
+{
+    let mut func = declared(alloc)?;
+    add_blocks(&mut func)?;
+    add_call(alloc, &mut func)?;
+    add_returns(alloc, &mut func)?;
     Ok(func)
+}
+
+/// `%f` with its call replaced by the body of `%g`, by the calls that change a function in place.
+pub(crate) fn inlined(alloc: Global) -> Result<Func, AllocError>
+    ensures { IfOk result (λ func. func.function ≡ spec.inlined) }
+{
+    let mut func = calling(alloc)?;
+    append_declarations(alloc, &mut func)?;
+    insert_blocks(alloc, &mut func)?;
+    replace_call(alloc, &mut func)?;
+    Ok(func)
+}
+
+/// The size of a copy of the function.
+fn size_of_copy(func: &Func) -> Result<usize, AllocError> {
+    let copy = func.copy()?;
+    Ok(copy.size())
+}
+
+/// Reads a function with one block, and a copy of it.
+fn reads_one_block<A: Abort>(rt: &A, func: &Func) -> Result<(), AllocError> {
+    assert!(rt; func.whole());
+    assert_eq!(rt; func.size(), 4);
+    assert_eq!(rt; func.blocks().count(), 1);
+    let copied = size_of_copy(func)?;
+    assert_eq!(rt; copied, 4);
+    Ok(())
 }
 
 #[test]
 fn reads_back(rt: HostRuntime) -> Result<(), AllocError> {
     let func = one_block(rt.alloc(), FuncName::User(0, 1))?;
-    assert!(rt; func.whole());
-    assert_eq!(rt; func.size(), 4);
-    assert_eq!(rt; func.blocks().count(), 1);
-    let copy = func.copy()?;
-    assert_eq!(rt; copy.size(), 4);
-    Ok(())
+    reads_one_block(&rt, &func)
 }
 
 #[test]
@@ -304,90 +351,4 @@ fn finds_what_was_pushed(rt: HostRuntime) -> Result<(), AllocError> {
     assert_eq!(rt; module.find(&name), Some(0));
     assert_eq!(rt; module.len(), 1);
     Ok(())
-}
-
-/// A block as it is read back: its number, how many parameters it has, and its one instruction by opcode, first value
-/// and the block where it goes on.
-type Told = (u32, usize, &'static str, u32, Option<u32>);
-
-fn told(func: &Func, block: Block) -> Told
-    requires { In block (block_numbers func.now.function.blocks) }
-{
-    let number = block.number();
-    let params = func.params(block).len();
-    let mut insts = func.insts(block);
-    let (Some(first), None) = (insts.next(), insts.next()) else {
-        return (number, params, "", 0, None);
-    };
-    match &first.inst {
-        Inst::Jump(target) => {
-            let next = target.block.number();
-            (number, params, "jump", first_argument(target), Some(next))
-        }
-        Inst::TryCall { args, normal, .. } => {
-            let next = normal.get().block.number();
-            (number, params, "try_call", first_value(args), Some(next))
-        }
-        Inst::Return(values) => (number, params, "return", first_value(values), None),
-        _ => (number, params, "", 0, None),
-    }
-}
-
-/// The blocks in order.
-fn all_told(alloc: Global, func: &Func) -> Result<Vec<Told>, AllocError> {
-    let mut list = Vec::new(alloc);
-    for block in func.blocks() {
-        list.push(told(func, block))?;
-    }
-    Ok(list)
-}
-
-/// The number of the first of some values.
-fn first_value(values: &Values) -> u32 {
-    match values.as_slice() {
-        [first, ..] => first.number(),
-        [] => 0,
-    }
-}
-
-/// The number of a target's first argument, where it is a value.
-fn first_argument(target: &BlockCall) -> u32 {
-    match target.args.as_slice() {
-        [Arg::Value(value), ..] => value.number(),
-        _ => 0,
-    }
-}
-
-/// Reads the name, the signature and the declarations of what was inlined.
-fn reads_declarations<A: Abort>(rt: &A, func: &Func) {
-    assert!(rt; matches!(func.name(), FuncName::Text(text) if text.as_slice() == b"f".as_slice()));
-    assert_eq!(rt; func.sig().params.as_slice(), [WORD].as_slice());
-    assert_eq!(rt; func.sig().results.as_slice(), [WORD].as_slice());
-    assert!(rt; func.slots().is_empty());
-    assert_eq!(rt; func.sigs().len(), 1);
-    assert_eq!(rt; func.callees().len(), 2);
-    assert_eq!(rt; func.values(), 5);
-    assert_eq!(rt; func.ty(Value::new(4)), Ty::I64);
-}
-
-/// Reads the blocks of what was inlined.
-fn reads_blocks<A: Abort>(rt: &A, alloc: Global, func: &Func) -> Result<(), AllocError> {
-    assert!(rt; func.whole());
-    assert_eq!(rt; func.size(), 28);
-    let expected = [
-        (0, 1, "jump", 0, Some(3)),
-        (3, 1, "try_call", 3, Some(4)),
-        (4, 1, "jump", 4, Some(1)),
-        (1, 1, "return", 1, None),
-        (2, 1, "return", 2, None),
-    ];
-    assert!(rt; all_told(alloc, func)?.as_slice() == expected.as_slice());
-    Ok(())
-}
-
-#[test]
-fn reads_back_what_was_inlined(rt: HostRuntime) -> Result<(), AllocError> {
-    let func = inlined(rt.alloc())?;
-    reads_declarations(&rt, &func);
-    reads_blocks(&rt, rt.alloc(), &func)
 }

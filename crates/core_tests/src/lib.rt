@@ -5,4 +5,6 @@
 #[cfg(test)]
 mod functions;
 #[cfg(test)]
+mod reading;
+#[cfg(test)]
 mod values;

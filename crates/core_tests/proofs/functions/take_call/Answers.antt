@@ -1,4 +1,4 @@
-use Rattle.std.proofs.Common.{◌≡◌, ℕ, ap₂, ◌∙◌}
+use Rattle.std.proofs.Common.{ℕ, ap₂, ◌∙◌}
 use Rattle.ir_core.specs.Module.{Function}
 use Rattle.ir_core.specs.Edits.{at_block}
 use Rattle.ir_core.specs.Viewed.{line_of}

@@ -1,7 +1,7 @@
 use Rattle.std.proofs.Common.{◌≡◌, ℕ, List, ◌∷◌, refl, inl, inr, rules}
 use Rattle.ir_core.specs.Lists.{In}
 use Rattle.ir_core.specs.Lookup.{block_numbers}
-use Rattle.core_tests.proofs.functions.all_told.Goals as goal
+use Rattle.core_tests.proofs.reading.all_told.Goals as goal
 
 first_in : (ns it rest : List ℕ) (b : ℕ) → it ≡ b ∷ rest → ((n : ℕ) → In n it → In n ns) → In b ns
 first_in ns it rest b e h = h b (rw e (inl refl))

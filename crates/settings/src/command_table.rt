@@ -13,20 +13,14 @@ use std::alloc::{AllocError, Global};
 pub(crate) fn command_table<'a>(alloc: Global) -> Result<Command<'a>, AllocError>
     ensures { IfOk result (λ c. app_of c ≡ spec.table) }
 {
-    let check = plain_command(alloc, "check");
-    let print = plain_command(alloc, "print");
-    let inline = inline_command(alloc)?;
-    let run = run_command(alloc)?;
-    let generating = gen_command(alloc)?;
-    let testing = plain_command(alloc, "test");
     Command::new(alloc, "clifinl")
         .subcommand_required(true)
-        .subcommand(check)?
-        .subcommand(print)?
-        .subcommand(inline)?
-        .subcommand(run)?
-        .subcommand(generating)?
-        .subcommand(testing)
+        .subcommand(plain_command(alloc, "check"))?
+        .subcommand(plain_command(alloc, "print"))?
+        .subcommand(inline_command(alloc)?)?
+        .subcommand(run_command(alloc)?)?
+        .subcommand(gen_command(alloc)?)?
+        .subcommand(plain_command(alloc, "test"))
 }
 
 fn plain_command<'a>(alloc: Global, name: &'a str) -> Command<'a>

@@ -14,4 +14,4 @@ returns c =
       plain = ap (λ (f : Command-F Command). f.has_globals) c.subcommand_required.ensures ∙ c.new.ensures.local;
     } in
     IfOk-weaker c.subcommand-6.result _ _ (λ r added. (adds_command added (adds_command c.in_ok-subcommand-5.ensures (adds_command c.in_ok-subcommand-4.ensures (adds_command c.in_ok-subcommand-3.ensures (adds_command c.in_ok-subcommand-2.ensures
-    (adds_command c.in_ok-subcommand.ensures program c.plain_command-check.ensures) c.plain_command-print.ensures) c.in_ok-inline.ensures) c.in_ok-run.ensures) c.in_ok-generating.ensures) c.plain_command-testing.ensures).app) c.subcommand-6.ensures
+    (adds_command c.in_ok-subcommand.ensures program c.plain_command.ensures) c.plain_command-2.ensures) c.in_ok-inline_command.ensures) c.in_ok-run_command.ensures) c.in_ok-gen_command.ensures) c.plain_command-3.ensures).app) c.subcommand-6.ensures

@@ -85,8 +85,7 @@ fn add_slot_decl(reader: &mut Reader<'_>, decls: &mut Vec<RawDecl>) -> Result<()
     reader.take(Class::ExplicitSlot)?;
     let size = read_number(reader)?;
     let align = read_opt_align(reader)?;
-    decls.reserve(1)?;
-    decls.push_reserved(RawDecl::Slot { slot, size, align });
+    decls.push(RawDecl::Slot { slot, size, align })?;
     Ok(())
 }
 
@@ -103,8 +102,7 @@ fn add_sig_decl(
     let sig = reader.take(Class::Sig)?;
     reader.take(Class::Equals)?;
     let signature = read_signature(alloc, reader)?;
-    decls.reserve(1)?;
-    decls.push_reserved(RawDecl::Sig { sig, signature });
+    decls.push(RawDecl::Sig { sig, signature })?;
     Ok(())
 }
 
@@ -150,13 +148,12 @@ fn add_callee_decl(
     let colocated = read_colocated(reader)?;
     let name = read_func_name(alloc, reader)?;
     let sig = read_callee_sig(alloc, reader)?;
-    decls.reserve(1)?;
-    decls.push_reserved(RawDecl::Callee {
+    decls.push(RawDecl::Callee {
         callee,
         colocated,
         name,
         sig,
-    });
+    })?;
     Ok(())
 }
 

@@ -36,7 +36,7 @@ impl Tables {
         }
     }
 
-    /// Takes the definitions of a function.
+    /// Takes the definitions of a function. Only `AllocError` refuses; some may have been taken then.
     #[inline(never)]
     pub fn define(&mut self, func: &RawFunction) -> Result<(), AllocError>
         ensures { OnOk result (self.new ≡ spec.define self.old func.now) }

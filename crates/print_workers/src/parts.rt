@@ -16,14 +16,11 @@ use clif_numbers::func_numbers;
 use clif_print::put_function;
 use clk_flow::{Failed, Sink};
 use ir_core::Func;
-use range_workers::map_drawn;
+use range_workers::{PARTS_OF_A_WORKER, map_drawn};
 use std::alloc::{AllocError, Global};
 use std::thread::Threads;
 use text_output::{MemoryOutput, Output, SinkOutput};
 use thiserror::Error;
-
-/// How many parts are written for each worker: a worker on a slow processor then writes fewer than the others.
-const PARTS: usize = 8;
 
 /// Why the functions were not printed.
 #[derive(Clone, Copy, PartialEq, Eq, Debug, Error)]
@@ -117,7 +114,7 @@ fn count_parts(workers: usize) -> usize
     if workers == 1 {
         1
     } else {
-        workers.saturating_mul(PARTS)
+        workers.saturating_mul(PARTS_OF_A_WORKER)
     }
 }
 

@@ -3,7 +3,7 @@ use Rattle.std.proofs.Common.{◌≡◌, ℕ, suc, ◌+◌, ◌<◌, List, [], �
 use Rattle.std.proofs.lemmas.List.{append-nil, length-map, get_or-map}
 use Rattle.std.specs.List.{flat_map}
 use Rattle.std.specs.Prelude.{slice_index}
-use Rattle.range_workers.specs.Follow.{Follow, AreCuts}
+use Rattle.range_workers.specs.Follow.{Follow, ArePartEnds}
 
 -- lists each of which leads from one place of a row to the next
 follow_all : {T V : Type 0} (stand : ℕ → ℕ → List T → Type 0) (view : V → List T) (row : ℕ → ℕ) (lists : List V)
@@ -14,7 +14,7 @@ follow_all {T} stand view row (v ∷ vs) each = λ start before h.
     (follow_all stand view (λ i. row (suc i)) vs (λ i d l. each (suc i) d (omega arith)) start (before ++ view v) (each 0 v (omega arith) start before h))
 
 pub whole_range : {T V : Type 0} (range : ℕ → ℕ → Type 0) (stand : ℕ → ℕ → List T → Type 0) (view : V → List T) (from to : ℕ) (cuts : List ℕ) (answers : List (Option V)) (lists : List V)
-    → AreCuts range from to cuts → answers ≡ map (λ v. Some v) lists → length answers + 1 ≡ length cuts
+    → ArePartEnds range from to cuts → answers ≡ map (λ v. Some v) lists → length answers + 1 ≡ length cuts
     → ((i : ℕ) (d : Option V) → i + 1 < length cuts → IfSome (get_or answers i d) (λ v. Follow stand (slice_index cuts i) (slice_index cuts (i + 1)) (view v))) → Follow stand from to (flat_map view lists)
 whole_range {T} {V} range stand view from to cuts answers lists are is number each =
     let count : length lists ≡ length answers = sym (length-map lists (λ (v : V). Some v)) ∙ ap length (sym is) in

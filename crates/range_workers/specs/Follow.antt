@@ -7,7 +7,7 @@ Follow {T} stand from to items =
     (start : ℕ) (before : List T) → stand start from before → stand start to (before ++ items)
 
 -- Places from one place to another, each of which is the end of a range that begins at the place before it.
-pub record AreCuts (range : ℕ → ℕ → Type 0) (from to : ℕ) (cuts : List ℕ) : Type 0 where
+pub record ArePartEnds (range : ℕ → ℕ → Type 0) (from to : ℕ) (cuts : List ℕ) : Type 0 where
   pub some : 0 < length cuts
   pub first : slice_index cuts 0 ≡ from
   pub last : slice_index cuts (length cuts - 1) ≡ to

@@ -7,6 +7,9 @@ use std::alloc::{AllocError, Global};
 use std::sync::atomic::{AtomicUsize, Ordering};
 use std::thread::{Threads, map_indices};
 
+/// How many parts work is cut into for each worker: a worker on a slow processor then does fewer than the others.
+pub const PARTS_OF_A_WORKER: usize = 8;
+
 /// A number that was drawn, and what was given there.
 #[derive(Drop)]
 struct Drawn<X> {
@@ -15,7 +18,8 @@ struct Drawn<X> {
 }
 
 /// Calls `f` at each number below `count`, in at most so many threads, each of which draws the next number when it is
-/// done with one, and gives the results in order. `Err` where memory runs out.
+/// done with one, and gives the results in order. `Err` where memory runs out. It would come too where a number was not
+/// drawn, which no clause excludes: each below the count is drawn by one of the threads before the first of them ends.
 pub fn map_drawn<R: Threads + Sync, X: Send + Drop, F: Fn(usize) -> X + Sync>(
     rt: &R,
     alloc: Global,
@@ -110,9 +114,8 @@ fn make_places<X: Drop>(alloc: Global, count: usize) -> Result<Vec<Option<X>>, A
     Ok(places)
 }
 
-/// What stands at the places. `Err` where memory runs out, or a place is empty: that does not come, since each number
-/// below the count is drawn by a worker before the first of them ends.
-fn take_all<X: Drop>(alloc: Global, places: Vec<Option<X>>) -> Result<Vec<X>, AllocError>
+/// What stands at the places. `Err` where one is empty, or memory runs out.
+pub(crate) fn take_all<X: Drop>(alloc: Global, places: Vec<Option<X>>) -> Result<Vec<X>, AllocError>
     ensures { IfOk result (λ all. places.items ≡ map (λ x. Some x) all.items) }
 {
     let mut all = Vec::with_capacity(alloc, places.len())?;

@@ -1,19 +1,16 @@
 //! Ranges read stretch by stretch, by several workers at once.
 
-ghost use Rattle.std.specs.Prelude.{◌≡◌, ◌+◌, ◌<◌, ◌≤◌, ◌++◌, ℕ, List, IfSome, Some, flat_map, length, map};
+ghost use Rattle.std.specs.Prelude.{◌≡◌, ◌+◌, ◌<◌, ◌≤◌, ◌++◌, ℕ, List, IfSome, flat_map, length};
 ghost use Rattle.std.specs.Prelude.{slice_index, slice_index_or};
-ghost use Rattle.range_workers.specs.Follow.{Follow, AreCuts};
+ghost use Rattle.range_workers.specs.Follow.{Follow, ArePartEnds};
 
-use crate::drawing::map_drawn;
+use crate::drawing::{PARTS_OF_A_WORKER, map_drawn, take_all};
 use crate::room::make_room;
 use std::alloc::Global;
 use std::thread::Threads;
 
 /// More workers than a machine has processors are of no use.
 const MOST_WORKERS: usize = 64;
-
-/// How many parts a range is cut into for each worker: a worker on a slow processor then reads fewer than the others.
-const PARTS: usize = 8;
 
 /// What is read range by range, as places of a text or of the list of its tokens, into items.
 pub trait Ranges<T>: Sync {
@@ -82,7 +79,7 @@ fn find_cuts<T, P: Ranges<T>>(
     share: usize,
 ) -> Option<Vec<usize>>
     requires { P.range ranges.now from «end» }
-    ensures { IfSome result (λ cuts. AreCuts (P.range ranges.now) from «end» cuts.items) }
+    ensures { IfSome result (λ cuts. ArePartEnds (P.range ranges.now) from «end» cuts.items) }
 {
     let mut cuts = Vec::new(alloc);
     cuts.push(from).ok()?;
@@ -123,17 +120,6 @@ fn read_parts<R: Threads + Sync, T: Drop + Send, P: Ranges<T>>(
     map_drawn(rt, alloc, cuts.len() - 1, workers, &read).ok()
 }
 
-/// The lists, where each of them was read. None where one was not, or memory runs out.
-fn all_found<T: Drop>(alloc: Global, answers: Vec<Option<Vec<T>>>) -> Option<Vec<Vec<T>>>
-    ensures { IfSome result (λ lists. answers.items ≡ map (λ list. Some list) lists.items) }
-{
-    let mut lists = Vec::with_capacity(alloc, answers.len()).ok()?;
-    for answer in answers {
-        lists.push(answer?).ok()?;
-    }
-    Some(lists)
-}
-
 /// How many items the lists have.
 fn count_items<T>(lists: &[Vec<T>]) -> usize {
     let mut count = 0usize;
@@ -172,8 +158,11 @@ pub fn read_by_workers<R: Threads + Sync, T: Drop + Send, P: Ranges<T>>(
         return read_range(alloc, ranges, from, end, size);
     }
     let workers = workers.min(MOST_WORKERS);
-    let share = (end - from) / (workers * PARTS);
+    let share = (end - from) / (workers * PARTS_OF_A_WORKER);
     let cuts = find_cuts(alloc, ranges, from, end, share.max(size))?;
     let answers = read_parts(rt, alloc, ranges, cuts.as_slice(), workers, size)?;
-    join_lists(alloc, all_found(alloc, answers)?)
+    let Ok(lists) = take_all(alloc, answers) else {
+        return None;
+    };
+    join_lists(alloc, lists)
 }

@@ -1,5 +1,5 @@
 -- What the functions of a text mean, one stretch behind another.
-use Rattle.std.proofs.Common.{◌≡◌, ◌≢◌, ℕ, zero, suc, ◌<◌, ◌≤◌, Bool, true, false, List, [], ◌∷◌, ◌++◌, length, slice_get, Option, None, Some, Ok, refl, sym, ap, ap₂, subst, ◌∙◌, arith, inl, inr}
+use Rattle.std.proofs.Common.{◌≡◌, ◌≢◌, ℕ, zero, suc, ◌<◌, ◌≤◌, ◌⊎◌, Bool, true, false, List, [], ◌∷◌, ◌++◌, length, slice_get, Option, None, Some, Ok, refl, sym, ap, ap₂, subst, ◌∙◌, arith, inl, inr}
 use Rattle.std.specs.Prelude.{if◌then◌else◌, IfSome}
 use Rattle.std.proofs.lemmas.List.{map-append}
 use Rattle.grammar.specs.Rules.{Lexeme}
@@ -23,8 +23,8 @@ use Rattle.clif_read.specs.declared.raw.RawModule.{RawModule}
 use Rattle.clif_read.specs.Modules.{function_at}
 use Rattle.clif_read.specs.Texts.{IsModuleText, Functions}
 use Rattle.clif_read.proofs.Functions.{function_read}
-use Rattle.read_workers.specs.Ranges.{AreFunctions, IsFront, with_functions}
-use Rattle.read_workers.proofs.RangeLaws.{no_functions, range_follows, whole_text}
+use Rattle.read_workers.specs.Ranges.{IsFront, with_functions}
+use Rattle.read_workers.proofs.RangeLaws.{range_follows, front_goes_on, front_is_some, front_is_text, empty_text}
 use Rattle.range_workers.specs.Follow.{Follow}
 use Rattle.clif_resolve.proofs.BlockWords.{have_blocks}
 use Rattle.clif_names.specs.Faults.{NoFault, ListFault, SameName}
@@ -36,7 +36,7 @@ use Rattle.clif_meaning.specs.Reads.{Reads}
 use Rattle.clif_meaning.proofs.Lists.{each_got}
 use Rattle.clif_check.specs.declared.parts.Part.{Part}
 use Rattle.clif_check.specs.Declarations.{KeepsOwnRules}
-use Rattle.clif_check.specs.Stretches.{AreMeant, AreKept, KeptOfRange, KeptOfText, part_of}
+use Rattle.clif_check.specs.Stretches.{AreMeant, AreKept, KeptFrom, KeptOfFront, KeptOfRange, KeptOfText, part_of}
 
 -- ---- each function of the grammar has a block
 
@@ -88,19 +88,27 @@ kept_join p rs ss ks ls (fs, meant, parts) (gs, were, others) = (
 
 -- ---- stretches
 
-pub kept_follow : (p : Part) (text : List ℕ) (a b : ℕ) (rs : List RawFunction) (fs : List Body) → IsCut text a → AreFunctions text a b rs → AreKept p rs fs → Follow (KeptOfRange p text) a b fs
-kept_follow p text a b rs fs cut stand kept start before (ss, stood, were) =
-    (ss ++ rs, range_follows text a b rs cut stand start ss stood, kept_join p ss rs before fs were kept)
+-- a front stands from the text's beginning on
+pub front_follows : (p : Part) (text : List ℕ) (from to : ℕ) (fs : List Body) → from ≡ 0 → KeptOfFront p text to fs → Follow (KeptFrom p text) from to fs
+front_follows p text from to fs first (raw, is, kept) zero before (inl (at, none)) = inr (raw, is, subst (λ (ks : List Body). AreKept p raw.functions (ks ++ fs)) (sym none) kept)
+front_follows p text from to fs first (raw, is, kept) zero before (inr (early, front, were)) = absurd (front_is_some text early (subst (λ (at : ℕ). IsFront text at early) first front))
+front_follows p text from to fs first (raw, is, kept) (suc start) before (ss, stood, were) = let ordered = stood.stretch.ordered in absurd (omega (arith, first, ordered))
+
+-- functions stand behind a front, and behind functions
+pub kept_follow : (p : Part) (text : List ℕ) (a b : ℕ) (fs : List Body) → 0 < a → IsCut text a → KeptOfRange p text a b fs → Follow (KeptFrom p text) a b fs
+kept_follow p text a b fs behind cut (rs, stand, kept) zero before (inl (at, none)) = absurd (omega (arith, behind, at))
+kept_follow p text a b fs behind cut (rs, stand, kept) zero before (inr (raw, is, were)) =
+    inr (with_functions raw rs, front_goes_on text a b raw rs cut is stand, kept_join p raw.functions rs before fs were kept)
+kept_follow p text a b fs behind cut (rs, stand, kept) (suc start) before (ss, stood, were) =
+    (ss ++ rs, range_follows text a b rs cut stand (suc start) ss stood, kept_join p ss rs before fs were kept)
 
 -- the raw module of a text, and what stays of its functions
-pub text_kept : (p : Part) (text : List ℕ) (at : ℕ) (front : RawModule) (first rest all : List Body) → IsCut text at → IsFront text at front → AreKept p front.functions first
-    → Follow (KeptOfRange p text) at (length text) rest → all ≡ first ++ rest → KeptOfText p text all
-text_kept p text at front first rest all cut is kept follow joined =
-    let (more, stand, were) = follow at [] ([], no_functions text at cut, kept_none p) in (
-      with_functions front more,
-      whole_text text at front more cut is stand,
-      subst (AreKept p (front.functions ++ more)) (sym joined) (kept_join p front.functions more first rest kept were),
-    )
+pub text_kept : (p : Part) (text : List ℕ) (kept : List Body) → Follow (KeptFrom p text) 0 (length text) kept → KeptOfText p text kept
+text_kept p text kept follow = go (follow 0 [] (inl (refl, refl)))
+  where
+    go : ((length text ≡ 0) × (kept ≡ [])) ⊎ KeptOfFront p text (length text) kept → KeptOfText p text kept
+    go (inl (none, nothing)) = (record { headers = []; functions = [] }, empty_text text none, subst (AreKept p []) (sym nothing) (kept_none p))
+    go (inr (raw, is, were)) = (raw, front_is_text text raw is, were)
 
 -- ---- names
 

@@ -1,5 +1,5 @@
 -- What stays in memory of the functions between two places of a text.
-use Rattle.std.specs.Prelude.{◌≡◌, ℕ, List, map}
+use Rattle.std.specs.Prelude.{◌≡◌, ◌⊎◌, ℕ, zero, suc, List, [], map}
 use Rattle.ir_core.specs.Edits.{Body, head_of}
 use Rattle.ir_core.specs.Lists.{Each}
 use Rattle.ir_core.specs.Module.{Function}
@@ -8,7 +8,7 @@ use Rattle.grammar.specs.Rules.{Lexeme}
 use Rattle.clif_read.specs.declared.raw.RawFunction.{RawFunction}
 use Rattle.clif_read.specs.declared.raw.RawModule.{RawModule}
 use Rattle.clif_read.specs.Texts.{Functions, IsModuleText}
-use Rattle.read_workers.specs.Ranges.{AreFunctions}
+use Rattle.read_workers.specs.Ranges.{AreFunctions, IsFront}
 use Rattle.clif_names.specs.FunctionNames.{NoFunctionFault}
 use Rattle.clif_meaning.specs.Meaning.{FunctionsMean}
 use Rattle.clif_check.specs.declared.parts.Part.{Part}
@@ -39,6 +39,16 @@ KeptOfTokens p ts kept = (rs : List RawFunction) × Functions ts rs × AreKept p
 -- between two places of the text stand functions of which these stay, and nothing else
 abbrev pub KeptOfRange : Part → List ℕ → ℕ → ℕ → List Body → Type 0
 KeptOfRange p text from to kept = (rs : List RawFunction) × AreFunctions text from to rs × AreKept p rs kept
+
+-- up to a place the text is a module, behind which no Header may stand, and of its functions these stay
+abbrev pub KeptOfFront : Part → List ℕ → ℕ → List Body → Type 0
+KeptOfFront p text to kept = (raw : RawModule) × IsFront text to raw × AreKept p raw.functions kept
+
+-- What stays of all that stands from one place of the text up to another: from the text's beginning on a front, unless
+-- nothing is read yet, and from any later place on functions alone.
+abbrev pub KeptFrom : Part → List ℕ → ℕ → ℕ → List Body → Type 0
+KeptFrom p text zero to kept = ((to ≡ 0) × (kept ≡ [])) ⊎ KeptOfFront p text to kept
+KeptFrom p text (suc from) to kept = KeptOfRange p text (suc from) to kept
 
 -- the text is a raw module of whose functions these stay
 abbrev pub KeptOfText : Part → List ℕ → List Body → Type 0

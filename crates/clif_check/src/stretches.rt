@@ -1,9 +1,9 @@
 //! Texts read stretch by stretch: of the raw functions only one for each worker is there at a time.
-ghost use Rattle.std.specs.Prelude.{◌≡◌, ◌≢◌, ◌≤◌, ◌++◌, [], length, IfSome};
+ghost use Rattle.std.specs.Prelude.{◌≢◌, ◌≤◌, [], length, IfSome};
 ghost use Rattle.ir_core.specs.Lists.{Each};
 ghost use Rattle.read_workers.specs.Ranges.{IsTextRange};
 ghost use Rattle.clif_names.specs.Sizes.{most_functions};
-ghost use Rattle.clif_check.specs.Stretches.{AreKept, KeptOfRange, KeptOfText, KeptOfTokens};
+ghost use Rattle.clif_check.specs.Stretches.{AreKept, KeptFrom, KeptOfRange, KeptOfFront, KeptOfText, KeptOfTokens};
 
 use crate::parts::{Part, keep_function};
 use clif_lex::tokens_between;
@@ -53,45 +53,59 @@ fn read_functions(alloc: Global, reader: &mut Reader<'_>, part: Part) -> Option<
     Some(functions)
 }
 
-/// A text whose functions are read range by range, and what stays of each.
+/// A text whose functions are read range by range, and what stays of each. Its first stretch is its front, which alone
+/// may have Headers.
 #[derive(Drop)]
 struct TextRanges<'t> {
     text: &'t [u8],
     part: Part,
 }
 
-impl<'t> Ranges<Boxed<Func>> for TextRanges<'t> {
-    ghost range = { λ ranges from to. IsTextRange ranges.text.now from to };
-
-    ghost stand = { λ ranges from to kept. KeptOfRange ranges.part ranges.text.now from to kept };
-
-    fn find_stretch_end(&self, from: usize, end: usize, size: usize) -> usize {
-        find_stretch_end(self.text, from, end, size)
+impl TextRanges<'_> {
+    /// What stays of the functions of the front of the text, up to this place.
+    fn keep_front(&self, alloc: Global, end: usize) -> Option<Vec<Boxed<Func>>>
+        requires { end ≤ length self.now.text.now }
+        ensures { IfSome result (λ kept. KeptOfFront self.now.part self.now.text.now end kept.items) }
+    {
+        let front = read_front(alloc, self.text, end)?;
+        keep_functions(alloc, front.functions.as_slice(), self.part)
     }
 
-    fn read_stretch(&self, alloc: Global, from: usize, end: usize) -> Option<Vec<Boxed<Func>>> {
+    /// What stays of the functions between two places of the text.
+    fn keep_stretch(&self, alloc: Global, from: usize, end: usize) -> Option<Vec<Boxed<Func>>>
+        requires { IsTextRange self.now.text.now from end }
+        ensures { IfSome result (λ kept. KeptOfRange self.now.part self.now.text.now from end kept.items) }
+    {
         let Ok(tokens) = tokens_between(alloc, self.text, from, end, false) else {
             return None;
         };
         let mut reader = Reader::new(self.text, &tokens, 0);
         read_functions(alloc, &mut reader, self.part)
     }
-
-    ghost ordered = { λ ranges from to range. range.ordered };
 }
 
-/// The functions of both lists, one list behind the other. The second, which may be long, is kept as it is.
-fn join_functions(first: Vec<Boxed<Func>>, rest: Vec<Boxed<Func>>) -> Option<Vec<Boxed<Func>>>
-    ensures { IfSome result (λ all. all.items ≡ first.items ++ rest.items) }
-{
-    let mut front = first;
-    let mut all = rest;
-    let count = front.len();
-    if all.append(&mut front).is_err() {
-        return None;
+impl<'t> Ranges<Boxed<Func>> for TextRanges<'t> {
+    ghost range = { λ ranges from to. IsTextRange ranges.text.now from to };
+
+    ghost stand = { λ ranges from to kept. KeptFrom ranges.part ranges.text.now from to kept };
+
+    fn find_stretch_end(&self, from: usize, end: usize, size: usize) -> usize {
+        if from > 0 {
+            return find_stretch_end(self.text, from, end, size);
+        }
+        let front = find_front_end(self.text, 0);
+        if 0 < front && front < end { front } else { end }
     }
-    all.rotate_right(count);
-    Some(all)
+
+    fn read_stretch(&self, alloc: Global, from: usize, end: usize) -> Option<Vec<Boxed<Func>>> {
+        if from > 0 {
+            self.keep_stretch(alloc, from, end)
+        } else {
+            self.keep_front(alloc, end)
+        }
+    }
+
+    ghost ordered = { λ ranges from to range. range.ordered };
 }
 
 /// What stays of the functions of a text, read by so many workers at once, by stretches of this size. `None` where the
@@ -108,14 +122,10 @@ pub(crate) fn read_parts<R: Threads + Sync>(
     ensures kept { IfSome result (λ kept. KeptOfText part text.now kept.items) }
     ensures few { IfSome result (λ kept. length kept.items ≤ most_functions) }
 {
-    let end = find_front_end(text, 0);
-    let front = read_front(alloc, text, end)?;
-    let first = keep_functions(alloc, front.functions.as_slice(), part)?;
     let ranges = TextRanges { text, part };
-    let rest = read_by_workers(rt, alloc, &ranges, end, text.len(), workers, size)?;
-    let all = join_functions(first, rest)?;
-    if all.len() > MOST_FUNCTIONS {
+    let kept = read_by_workers(rt, alloc, &ranges, 0, text.len(), workers, size)?;
+    if kept.len() > MOST_FUNCTIONS {
         return None;
     }
-    Some(all)
+    Some(kept)
 }

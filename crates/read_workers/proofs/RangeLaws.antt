@@ -1,14 +1,15 @@
 -- What stands in the stretches of a text stands in the text.
-use Rattle.std.proofs.Common.{◌≡◌, ℕ, ◌+◌, ◌-◌, ◌≤◌, true, false, Bool, cond, List, [], ◌∷◌, ◌++◌, length, take, drop, slice_range, take-add, drop-drop, Ok, refl, sym, ap, subst, ◌∙◌, arith, inl}
+use Rattle.std.proofs.Common.{◌≡◌, ℕ, ◌+◌, ◌-◌, ◌≤◌, true, false, Bool, cond, List, [], ◌∷◌, ◌++◌, length, take, drop, slice_range, take-add, drop-drop, Result, Ok, refl, sym, ap, subst, ◌∙◌, arith, inl}
 use Rattle.std.proofs.lemmas.List.{append-nil, map-append, take_rest}
 use Rattle.grammar.specs.Rules.{Lexeme, Many, Tree, Derives, read}
 use Rattle.grammar.proofs.Binds.{ok_is}
 use Rattle.grammar.proofs.Exactness.{complete}
 use Rattle.grammar.proofs.Joins.{each_join, seq_join}
 use Rattle.clif_lex.specs.declared.spans.Token.{Token}
+use Rattle.clif_lex.specs.declared.faults.LexErr.{LexErr}
 use Rattle.clif_lex.specs.Lexing.{tokens_of}
 use Rattle.clif_lex.specs.Stretches.{IsCut, IsStretch, stretch_tokens, preamble_after}
-use Rattle.clif_lex.proofs.Stretches.{stretches_join, whole_stretch, empty_stretch, tokens_are_in}
+use Rattle.clif_lex.proofs.Stretches.{stretches_join, whole_stretch, empty_stretch, tokens_are_in, preamble_further}
 use Rattle.clif_words.specs.Lexemes.{lexeme, lexemes, is_comment}
 use Rattle.clif_words.specs.Terminals.{header}
 use Rattle.clif_read.specs.declared.raw.RawFunction.{RawFunction}
@@ -76,16 +77,45 @@ more_functions text a b c fs gs cut f g = record {
 pub range_follows : (text : List ℕ) (a b : ℕ) (fs : List RawFunction) → IsCut text a → AreFunctions text a b fs → Follow (AreFunctions text) a b fs
 range_follows text a b fs cut f start before s = more_functions text start a b before fs cut s f
 
-pub whole_text : (text : List ℕ) (at : ℕ) (m : RawModule) (fs : List RawFunction) → IsCut text at → IsFront text at m → AreFunctions text at (length text) fs → IsModuleText text (with_functions m fs)
-whole_text text at m fs cut front more =
-    let behind = subst (λ (p : Bool). IsStretch text p at (length text) more.tokens) (sym front.no_headers) more.stretch in
-    let stretch = stretches_join text true 0 at (length text) front.tokens more.tokens front.stretch cut behind in
+-- ---- the front
+
+-- a front with functions behind it is a front
+pub front_goes_on : (text : List ℕ) (at to : ℕ) (m : RawModule) (fs : List RawFunction) → IsCut text at → IsFront text at m → AreFunctions text at to fs → IsFront text to (with_functions m fs)
+front_goes_on text at to m fs cut front more =
+    let behind = subst (λ (p : Bool). IsStretch text p at to more.tokens) (sym front.no_headers) more.stretch in
     record {
       tokens = front.tokens ++ more.tokens;
-      lexed = whole_stretch text (front.tokens ++ more.tokens) stretch;
+      stretch = stretches_join text true 0 at to front.tokens more.tokens front.stretch cut behind;
       read = subst (λ (ts : List Lexeme). IsModule ts (with_functions m fs)) (sym (lexemes-append text front.tokens more.tokens))
           (more_of_module (lexemes text front.tokens) (lexemes text more.tokens) m fs front.read more.read);
+      no_headers = preamble_further true front.tokens more.tokens ∙ ap (λ (p : Bool). preamble_after p more.tokens) front.no_headers;
     }
+
+-- no front is empty
+pub front_is_some : (text : List ℕ) (m : RawModule) → IsFront text 0 m → ⊥
+front_is_some text m front =
+    let none : [] ≡ front.tokens = lexed_same [] front.tokens (sym (empty_stretch text true 0 (omega arith)).lexed ∙ front.stretch.lexed) in
+    let ended : preamble_after true [] ≡ false = subst (λ (ts : List Token). preamble_after true ts ≡ false) (sym none) front.no_headers in
+    absurd cc
+  where
+    lexed_same : (ts us : List Token) → (let read : Result (List Token) LexErr = Ok ts in read) ≡ Ok us → ts ≡ us
+    lexed_same ts us e = cc
+
+-- a front up to the text's end is the text's module
+pub front_is_text : (text : List ℕ) (m : RawModule) → IsFront text (length text) m → IsModuleText text m
+front_is_text text m front = record { tokens = front.tokens; lexed = whole_stretch text front.tokens front.stretch; read = front.read }
+
+pub whole_text : (text : List ℕ) (at : ℕ) (m : RawModule) (fs : List RawFunction) → IsCut text at → IsFront text at m → AreFunctions text at (length text) fs → IsModuleText text (with_functions m fs)
+whole_text text at m fs cut front more = front_is_text text (with_functions m fs) (front_goes_on text at (length text) m fs cut front more)
+
+-- a text of no bytes is a module of no functions
+pub empty_text : (text : List ℕ) → length text ≡ 0 → IsModuleText text (record { headers = []; functions = [] })
+unfolding lexemes
+empty_text text none = record {
+  tokens = [];
+  lexed = whole_stretch text [] (subst (λ (to : ℕ). IsStretch text true 0 to []) (sym none) (empty_stretch text true 0 (omega arith)));
+  read = is_module [] ([], []) ([], [], refl, (refl, refl));
+}
 
 -- ---- ranges of a list of tokens
 

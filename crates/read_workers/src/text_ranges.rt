@@ -77,7 +77,11 @@ fn may_go_on_with_headers(tokens: &Tokens) -> bool
 pub fn find_front_end(text: &[u8], size: usize) -> usize
     ensures { IsCut text.now result }
 {
-    let first = next_line_with(text, 0, b"function");
+    let first = if text.starts_with(b"function") {
+        0
+    } else {
+        next_line_with(text, 0, b"function")
+    };
     next_line_with(text, first.max(size).min(text.len()), b"function")
 }
 

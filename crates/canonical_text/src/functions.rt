@@ -9,7 +9,7 @@ ghost use Rattle.clif_check.specs.Declarations.{KeepsOwnRules};
 ghost use Rattle.text_output.specs.Output.{Start, Puts};
 ghost use Rattle.canonical_text.specs.Printed.{PutsOfTokens, PutsPrinted};
 
-use clif_numbers::func_numbers;
+use clif_numbers::FuncNumbers;
 use clif_print::put_function;
 use clif_read::{RawFunction, read_function};
 use clif_resolve::meant_function;
@@ -23,15 +23,15 @@ use token_reader::Reader;
 /// Puts an empty line and behind it a whole function. Only `AllocError` refuses.
 fn put_further_function<O: Output>(
     out: &mut O,
-    alloc: Global,
+    numbers: &mut FuncNumbers,
     func: &Func,
 ) -> Result<(), AllocError>
     requires { IsWhole func.now.function }
     ensures { OnOk result (Puts O.holds out.old out.new (10 ∷ function_text_of func.now.function)) }
 {
-    let numbers = func_numbers(alloc, func)?;
+    numbers.renumber(func)?;
     out.put(b"\n");
-    put_function(out, func, &numbers);
+    put_function(out, func, numbers);
     Ok(())
 }
 
@@ -43,15 +43,21 @@ pub(crate) fn put_module<O: Output>(
 ) -> Result<(), AllocError>
     ensures { OnOk result (Puts O.holds out.old out.new (spelled (more_functions «module».now))) }
 {
+    let mut numbers = FuncNumbers::new(alloc);
     for i in 0..module.len() {
-        put_further_function(out, alloc, module.func(i))?;
+        put_further_function(out, &mut numbers, module.func(i))?;
     }
     Ok(())
 }
 
 /// Puts a whole function behind an empty line, once it is known to keep every rule but that on its callee declarations.
 /// Its body is let go, and its head is left. `None` where it breaks such a rule, or memory runs out.
-fn put_checked<O: Output>(out: &mut O, alloc: Global, func: Func) -> Option<Boxed<Func>>
+fn put_checked<O: Output>(
+    out: &mut O,
+    alloc: Global,
+    numbers: &mut FuncNumbers,
+    func: Func,
+) -> Option<Boxed<Func>>
     requires { IsWhole func.function }
     ensures own { IfSome result (λ head. KeepsOwnRules func.function) }
     ensures head { IfSome result (λ head. head.function ≡ head_of func.function) }
@@ -60,7 +66,7 @@ fn put_checked<O: Output>(out: &mut O, alloc: Global, func: Func) -> Option<Boxe
     if !keeps_own_rules(alloc, &func) {
         return None;
     }
-    let Ok(()) = put_further_function(out, alloc, &func) else {
+    let Ok(()) = put_further_function(out, numbers, &func) else {
         return None;
     };
     let mut head = func;
@@ -73,14 +79,19 @@ fn put_checked<O: Output>(out: &mut O, alloc: Global, func: Func) -> Option<Boxe
 
 /// Puts the function that is meant, and answers its head. `None` where it has a fault of names or numbers or breaks a
 /// rule of its own, or memory runs out.
-fn put_meant<O: Output>(out: &mut O, alloc: Global, raw: &RawFunction) -> Option<Boxed<Func>>
+fn put_meant<O: Output>(
+    out: &mut O,
+    alloc: Global,
+    numbers: &mut FuncNumbers,
+    raw: &RawFunction,
+) -> Option<Boxed<Func>>
     requires { raw.now.blocks ≢ [] }
     ensures { IfSome result (λ head. PutsPrinted O.holds out.old out.new (raw.now ∷ []) (head ∷ [])) }
 {
     let Ok(Some(func)) = meant_function(alloc, raw) else {
         return None;
     };
-    put_checked(out, alloc, func)
+    put_checked(out, alloc, numbers, func)
 }
 
 /// Puts the functions that these mean, and answers their heads. `None` where one of them is not put.
@@ -93,8 +104,9 @@ pub(crate) fn put_all_meant<O: Output>(
     ensures { IfSome result (λ heads. PutsPrinted O.holds out.old out.new raws.now heads.items) }
 {
     let mut heads = Vec::new(alloc);
+    let mut numbers = FuncNumbers::new(alloc);
     for raw in raws {
-        let head = put_meant(out, alloc, raw)?;
+        let head = put_meant(out, alloc, &mut numbers, raw)?;
         if heads.push(head).is_err() {
             return None;
         }
@@ -112,11 +124,12 @@ pub(crate) fn put_tokens<O: Output>(
     ensures { IfSome result (λ heads. PutsOfTokens O.holds out.old out.new reader.old heads.items) }
 {
     let mut heads = Vec::new(alloc);
+    let mut numbers = FuncNumbers::new(alloc);
     'functions: while reader.next_is(Class::Function) {
         let Ok(raw) = read_function(alloc, reader) else {
             return None;
         };
-        let head = put_meant(out, alloc, &raw)?;
+        let head = put_meant(out, alloc, &mut numbers, &raw)?;
         if heads.push(head).is_err() {
             return None;
         }

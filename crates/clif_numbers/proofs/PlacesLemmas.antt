@@ -5,7 +5,7 @@ use Rattle.std.specs.Prelude.{if◌then◌else◌}
 use Rattle.std.proofs.lemmas.Bool.{eqb-true}
 use Rattle.ir_core.specs.Lists.{In, Different, Below}
 use Rattle.ir_core.specs.Lookup.{number_in}
-use Rattle.clif_numbers.specs.Placed.{IsEntry}
+use Rattle.clif_numbers.specs.Placed.{IsEntry, ArePlaces}
 
 -- the place of n, counted from k, and d where n is not there
 abbrev pub place_from : ℕ → ℕ → List ℕ → ℕ → ℕ
@@ -85,3 +85,6 @@ placed order places n e = subst (IsEntry order n) (sym e) (go (place_from 0 (len
     go : (entry : ℕ) → Entered 0 (length order) order n entry (number_in order n) → IsEntry order n entry
     go entry (inl h) = inl (h.0, omega (arith, h.1))
     go entry (inr h) = inr h
+
+pub none_placed : ArePlaces [] []
+none_placed = record { small = omega arith; placed = λ n. inr (refl, omega arith) }

@@ -1,5 +1,5 @@
 //! Canonical numbers: values in order of definition in the text, blocks in order of the list.
-ghost use Rattle.std.specs.Prelude.{◌≡◌, ◌<◌, ◌++◌, List, IfOk, OnOk, Some, length, map, slice_get};
+ghost use Rattle.std.specs.Prelude.{◌≡◌, ◌<◌, ◌++◌, [], List, IfOk, OnOk, Some, length, map, slice_get};
 ghost use Rattle.ir_core.specs.Lookup.{block_numbers, definitions, line_definitions, number_in};
 ghost use Rattle.ir_text.specs.Numbering.{Numbering, numbering_of, numberings_of};
 ghost use Rattle.ir_core.specs.Sound.{IsWhole};
@@ -26,6 +26,30 @@ impl Model for FuncNumbers {
 }
 
 impl FuncNumbers {
+    /// No numbers. Takes no memory.
+    pub fn new(alloc: Global) -> FuncNumbers
+        ensures values { result.values ≡ [] }
+        ensures blocks { result.blocks ≡ [] }
+    {
+        FuncNumbers {
+            values: Places::new(alloc),
+            blocks: Places::new(alloc),
+        }
+    }
+
+    /// The numbers of a whole function in place of those before, in their memory. Only `AllocError` refuses, and leaves
+    /// numbers of no function.
+    pub fn renumber(&mut self, func: &Func) -> Result<(), AllocError>
+        requires { IsWhole func.now.function }
+        ensures { OnOk result (self.new ≡ numbering_of func.now.function) }
+    {
+        let values = definitions(self.values.take(), func)?;
+        self.values.set(func.values(), values)?;
+        let blocks = block_order(self.blocks.take(), func)?;
+        let count = blocks.len();
+        self.blocks.set(count, blocks)
+    }
+
     /// The number of a value.
     pub fn value(&self, value: Value) -> u64
         ensures { result ≡ number_in self.now.values value }
@@ -83,20 +107,18 @@ pub fn func_numbers(alloc: Global, func: &Func) -> Result<FuncNumbers, AllocErro
     requires { IsWhole func.now.function }
     ensures { IfOk result (λ numbers. numbers ≡ numbering_of func.now.function) }
 {
-    let values = definitions(alloc, func)?;
-    let blocks = block_order(alloc, func)?;
-    let count = blocks.len();
-    Ok(FuncNumbers {
-        values: Places::new(alloc, func.values(), values)?,
-        blocks: Places::new(alloc, count, blocks)?,
-    })
+    let mut numbers = FuncNumbers::new(alloc);
+    numbers.renumber(func)?;
+    Ok(numbers)
 }
 
-/// The values of a function in order of definition.
-fn definitions(alloc: Global, func: &Func) -> Result<Vec<u32>, AllocError>
+/// The values of a function in order of definition, in the memory of an empty list.
+fn definitions(empty: Vec<u32>, func: &Func) -> Result<Vec<u32>, AllocError>
+    requires { empty.items ≡ [] }
     ensures { IfOk result (λ values. values.items ≡ definitions func.now.function.blocks) }
 {
-    let mut order = Vec::with_capacity(alloc, func.values())?;
+    let mut order = empty;
+    order.reserve(func.values())?;
     for block in func.blocks() {
         append_values(&mut order, func.params(block))?;
         append_results(&mut order, func.inst_slice(block))?;
@@ -126,11 +148,13 @@ fn append_values(order: &mut Vec<u32>, values: &[Value]) -> Result<(), AllocErro
     Ok(())
 }
 
-/// The numbers of a function's blocks in list order.
-fn block_order(alloc: Global, func: &Func) -> Result<Vec<u32>, AllocError>
+/// The numbers of a function's blocks in list order, in the memory of an empty list.
+fn block_order(empty: Vec<u32>, func: &Func) -> Result<Vec<u32>, AllocError>
+    requires { empty.items ≡ [] }
     ensures { IfOk result (λ blocks. blocks.items ≡ block_numbers func.now.function.blocks) }
 {
-    let mut order = Vec::with_capacity(alloc, func.blocks().count())?;
+    let mut order = empty;
+    order.reserve(func.blocks().count())?;
     for block in func.blocks() {
         order.push(block.number())?;
     }

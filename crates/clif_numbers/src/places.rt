@@ -1,11 +1,12 @@
 //! The places of numbers in a list.
-ghost use Rattle.std.specs.Prelude.{◌≡◌, ◌+◌, ◌<◌, ◌^◌, IfOk, length};
+ghost use Rattle.std.specs.Prelude.{◌≡◌, ◌+◌, ◌<◌, ◌^◌, [], OnOk, length};
 ghost use Rattle.ir_core.specs.Lists.{Below, Different};
 ghost use Rattle.ir_core.specs.Lookup.{number_in};
 ghost use Rattle.clif_numbers.specs.Placed.{IsEntry};
 
 use std::alloc::{AllocError, Global};
 use std::marker::Model;
+use std::mem;
 
 /// A list of different numbers, and the place of each. Contracts see the list.
 #[derive(Drop)]
@@ -28,19 +29,43 @@ impl Model for Places {
 }
 
 impl Places {
-    /// The places of these numbers, which are below `bound`. Only `AllocError` refuses.
-    pub(crate) fn new(alloc: Global, bound: usize, order: Vec<u32>) -> Result<Places, AllocError>
+    /// No numbers. Takes no memory.
+    pub(crate) fn new(alloc: Global) -> Places
+        ensures { result ≡ [] }
+    {
+        Places {
+            order: Vec::new(alloc),
+            places: Vec::new(alloc),
+        }
+    }
+
+    /// An empty list in the memory of this one. No numbers are left.
+    pub(crate) fn take(&mut self) -> Vec<u32>
+        ensures { result.items ≡ [] }
+    {
+        let alloc = *self.order.allocator();
+        let mut order = mem::replace(&mut self.order, Vec::new(alloc));
+        order.clear();
+        self.places.clear();
+        order
+    }
+
+    /// The places of other numbers, which are below `bound`. Only `AllocError` refuses, and leaves no numbers.
+    pub(crate) fn set(&mut self, bound: usize, order: Vec<u32>) -> Result<(), AllocError>
         requires range { Below bound order.items }
         requires different { Different order.items }
         requires small { bound < 2 ^ 32 }
-        ensures { IfOk result (λ places. places ≡ order.items) }
+        ensures { OnOk result (self.new ≡ order.items) }
     {
         let count = order.len() as u32;
-        let mut places = vec![in alloc; count; bound]?;
+        self.order.clear();
+        self.places.clear();
+        self.places.resize(bound, count)?;
         for (i, number) in order.iter().enumerate() {
-            places[*number as usize] = i as u32;
+            self.places[*number as usize] = i as u32;
         }
-        Ok(Places { order, places })
+        self.order = order;
+        Ok(())
     }
 
     /// The place of a number. What the list does not have comes behind all that it has.

@@ -12,7 +12,7 @@ ghost use Rattle.print_workers.specs.declared.parts.PrintErr.TheVariants as why;
 
 use crate::cuts::even_cuts;
 use crate::functions::Functions;
-use clif_numbers::func_numbers;
+use clif_numbers::FuncNumbers;
 use clif_print::put_function;
 use clk_flow::{Failed, Sink};
 use ir_core::Func;
@@ -186,9 +186,10 @@ fn put_part<O: Output, F: Functions>(
     requires { (from ≤ end) × (end ≤ length (F.functions functions.now)) }
     ensures { OnOk result (PutsPart O.holds out.old out.new (F.functions functions.now) from end) }
 {
+    let mut numbers = FuncNumbers::new(alloc);
     for i in from..end {
         put_before_function(out, i);
-        put_alone(out, alloc, functions.func(i))?;
+        put_alone(out, &mut numbers, functions.func(i))?;
     }
     Ok(())
 }
@@ -203,11 +204,15 @@ fn put_before_function<O: Output>(out: &mut O, place: usize)
 }
 
 /// Numbers a whole function and puts it. Only `AllocError` refuses.
-fn put_alone<O: Output>(out: &mut O, alloc: Global, func: &Func) -> Result<(), AllocError>
+fn put_alone<O: Output>(
+    out: &mut O,
+    numbers: &mut FuncNumbers,
+    func: &Func,
+) -> Result<(), AllocError>
     requires { IsWhole func.now.function }
     ensures { OnOk result (Puts O.holds out.old out.new (function_text_of func.now.function)) }
 {
-    let numbers = func_numbers(alloc, func)?;
-    put_function(out, func, &numbers);
+    numbers.renumber(func)?;
+    put_function(out, func, numbers);
     Ok(())
 }

@@ -1,4 +1,4 @@
-use Rattle.std.proofs.Common.{◌≡◌, rules}
+use Rattle.std.proofs.Common.{◌≡◌, ◌∙◌, rules}
 use Rattle.ir_core.specs.Lookup.{block_numbers}
 use Rattle.clif_numbers.proofs.Blocks.{begun, first_in, rest_in, listed}
 use Rattle.clif_numbers.proofs.numbers.definitions.Goals as goal
@@ -6,7 +6,7 @@ use Rattle.clif_numbers.proofs.numbers.definitions.Goals as goal
 pub loop-block-init : goal.loop-block-init
 loop-block-init c =
     let it : c.into_iter-block-iterator.result ≡ block_numbers c.args.func.now.function.blocks = search rules in
-    record { left = begun c.args.func.now.function.blocks c.in_ok-order.order.items c.into_iter-block-iterator.result c.in_ok-order.ensures.items it c.blocks-block-items.ensures.sound.blocks_differ; there = λ n h. rw it at h }
+    record { left = begun c.args.func.now.function.blocks c.reserve.new.self.items c.into_iter-block-iterator.result (c.reserve.ensures.items ∙ c.requires) it c.blocks-block-items.ensures.sound.blocks_differ; there = λ n h. rw it at h }
 
 pub params-requires : goal.params-requires
 params-requires c = first_in _ _ _ _ c.in-Some.ensures.steps c.loop-block.invariant.there

@@ -238,17 +238,14 @@ fn append_declarations(alloc: Global, func: &mut Func) -> Result<(), AllocError>
 }
 
 /// Two blocks behind block0: one for the body of `%g`, and one behind its call.
-fn insert_blocks(alloc: Global, func: &mut Func) -> Result<(), AllocError>
+fn insert_blocks(func: &mut Func)
     requires function { func.old.function ≡ spec.appended }
     requires room { 2 ≤ func.old.room.blocks }
-    ensures function { OnOk result (func.new.function ≡ spec.linked) }
-    ensures room { OnOk result (func.new.room.insts ≡ func.old.room.insts) }
+    ensures function { func.new.function ≡ spec.linked }
+    ensures room { func.new.room.insts ≡ func.old.room.insts }
 {
-    let of_body = List::from_vec(vec![in alloc; Value::new(3)]?);
-    let of_back = List::from_vec(vec![in alloc; Value::new(4)]?);
-    let body = func.insert_block(Block::new(0), of_body);
-    func.insert_block(body, of_back);
-    Ok(())
+    let body = func.insert_block(Block::new(0), Values::one(Value::new(3)));
+    func.insert_block(body, Values::one(Value::new(4)));
 }
 
 /// The call of `%g` is taken away.
@@ -313,7 +310,7 @@ pub(crate) fn inlined(alloc: Global) -> Result<Func, AllocError>
 {
     let mut func = calling(alloc)?;
     append_declarations(alloc, &mut func)?;
-    insert_blocks(alloc, &mut func)?;
+    insert_blocks(&mut func);
     replace_call(alloc, &mut func)?;
     Ok(func)
 }

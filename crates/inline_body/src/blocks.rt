@@ -12,7 +12,7 @@ use crate::lines::inline_lines;
 use crate::names::Names;
 use crate::numbers::{new_values, renumber_values};
 use debug_tags::Tags;
-use ir_core::{Block, Func, InstData, List, Value};
+use ir_core::{Block, Func, InstData, List, Values};
 use std::alloc::{AllocError, Global};
 
 /// A block's number and its lines.
@@ -25,7 +25,7 @@ pub struct BlockLines {
 /// Blocks: the parameters of each, and the lines of each.
 #[derive(Drop)]
 pub struct InlinedBlocks {
-    pub block_params: List<List<Value>>,
+    pub block_params: List<Values>,
     pub block_lines: List<BlockLines>,
 }
 

@@ -4,10 +4,10 @@ ghost use Rattle.ir_core.specs.Lookup.{block_numbers, definitions};
 ghost use Rattle.ir_core.specs.Lists.{In, Different, Below};
 ghost use Rattle.inline_body.specs.WithBody.{behind, empty_from, all_of};
 
-use ir_core::{Block, Func, List, Value};
+use ir_core::{Block, Func, List, Values};
 
 /// Puts empty blocks with these parameters directly behind a block, in order.
-pub fn insert_blocks(caller: &mut Func, first: Block, block_params: List<List<Value>>)
+pub fn insert_blocks(caller: &mut Func, first: Block, block_params: List<Values>)
     requires there { In first (block_numbers caller.old.function.blocks) }
     requires room { length block_params ≤ caller.old.room.blocks }
     requires few { length caller.old.function.blocks + length block_params < 2 ^ 32 - 1 }

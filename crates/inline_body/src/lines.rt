@@ -119,7 +119,10 @@ fn push_copy(
     ensures { OnOk result (map line_of list.new.items ≡ map line_of list.old.items
         ++ copied_line names.now outer.now (line_of line.now) ∷ []) }
 {
-    list.push(copy_line(alloc, names, outer, line)?)?;
+    let Ok(copied) = copy_line(alloc, names, outer, line) else {
+        return Err(AllocError);
+    };
+    list.push(copied)?;
     Ok(())
 }
 

@@ -38,7 +38,7 @@ impl Names {
         requires { Each (Moves self.now.values) values.now }
         ensures { IfOk result (λ list. list ≡ map (names_of self.now).value values.now) }
     {
-        values.shifted(alloc, self.values)
+        Values::from_shifted(alloc, values.as_slice(), self.values)
     }
 
     /// The number of a slot.

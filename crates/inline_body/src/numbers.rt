@@ -6,7 +6,7 @@ ghost use Rattle.ir_semantics.specs.Splice.{from};
 ghost use Rattle.inline_body.specs.Named.{names_of, Moves};
 
 use crate::names::Names;
-use ir_core::{Arg, Few, List, Value, Values};
+use ir_core::{Arg, Few, Value, Values};
 use std::alloc::{AllocError, Global};
 
 /// The values as arguments of a target.
@@ -31,19 +31,11 @@ fn many_args_of_values(alloc: Global, values: &[Value]) -> Result<Few<Arg>, Allo
 }
 
 /// The numbers of a callee's values in the caller.
-pub fn renumber_values(
-    alloc: Global,
-    names: &Names,
-    values: &[Value],
-) -> Result<List<Value>, AllocError>
+pub fn renumber_values(alloc: Global, names: &Names, values: &[Value]) -> Result<Values, AllocError>
     requires { Each (Moves names.now.values) values.now }
     ensures { IfOk result (λ list. list ≡ map (names_of names.now).value values.now) }
 {
-    let mut list = Vec::with_capacity(alloc, values.len())?;
-    for value in values {
-        list.push(names.value(*value))?;
-    }
-    Ok(List::from_vec(list))
+    Values::from_shifted(alloc, values, names.values)
 }
 
 /// So many values from a number on. None or one takes no memory.

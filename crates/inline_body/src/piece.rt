@@ -7,7 +7,7 @@ ghost use Rattle.inline_body.specs.Prepared.{IsBodyOf, IsReady, room_of};
 
 use crate::blocks::BlockLines;
 use crate::placing::put_body;
-use ir_core::{Callee, Func, InstData, List, Point, Sig, SlotDecl, Ty, Value};
+use ir_core::{Callee, Func, InstData, List, Point, Sig, SlotDecl, Ty, Values};
 
 /// A callee's body as it stands in its caller in the place of a call: new declarations, the jump into the body, the
 /// site's results (none where the call ends its block), the parameters of the body's first block and of its others, and
@@ -19,9 +19,9 @@ pub struct PreparedBody {
     pub callees: List<Callee>,
     pub types: List<Ty>,
     pub jump: InstData,
-    pub results: List<Value>,
-    pub first: List<Value>,
-    pub block_params: List<List<Value>>,
+    pub results: Values,
+    pub first: Values,
+    pub block_params: List<Values>,
     pub block_lines: List<BlockLines>,
 }
 

@@ -13,7 +13,7 @@ use crate::appending::append_to_blocks;
 use crate::blocks::BlockLines;
 use crate::inserting::insert_blocks;
 use crate::site::{Opened, open};
-use ir_core::{Func, InstData, List, Point, Value};
+use ir_core::{Func, InstData, List, Point, Values};
 
 /// Puts a body in the place of a call and answers the call. The block of the call ends in the jump. The body's blocks
 /// stand behind it: the first has the parameters `first`, the others those of `block_params`. A block with the lines
@@ -22,9 +22,9 @@ pub fn put_body(
     caller: &mut Func,
     site: Point,
     jump: InstData,
-    results: List<Value>,
-    first: List<Value>,
-    block_params: List<List<Value>>,
+    results: Values,
+    first: Values,
+    block_params: List<Values>,
     block_lines: List<BlockLines>,
 ) -> InstData
     requires there { IsPoint caller.old.function site }

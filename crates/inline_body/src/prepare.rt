@@ -111,7 +111,7 @@ pub fn prepare_body(
         callees: callees.added,
         types: new_types(alloc, callee, types.as_slice(), new_results.tail_calls)?,
         jump: jump(alloc, Block::new(block_count), call_args(&call.inst))?,
-        results: List::from_vec(Vec::from_slice(alloc, results)?),
+        results: call.results.clone()?,
         first,
         block_params: List::from_vec(block_params),
         block_lines: body.block_lines,

@@ -8,7 +8,7 @@ ghost use Rattle.ir_core.specs.Edits.{IsPoint, lines_of, at_block};
 ghost use Rattle.ir_core.specs.Viewed.{line_of};
 ghost use Rattle.inline_body.specs.Opened.{taken, parted, with_more};
 
-use ir_core::{Block, Func, InstData, List, Point, Value};
+use ir_core::{Block, Func, InstData, List, Point, Values};
 
 /// What an opened site has: the call, the block in its place, and the block behind that.
 #[derive(Drop)]
@@ -19,7 +19,7 @@ pub struct Opened {
 }
 
 /// Takes the call out of its block. A new block behind it has the lines that stood behind the call.
-fn take_call(caller: &mut Func, site: Point, params: List<Value>) -> (InstData, Block)
+fn take_call(caller: &mut Func, site: Point, params: Values) -> (InstData, Block)
     requires there { IsPoint caller.old.function site }
     requires fits { site.index + 1 < 2 ^ 32 }
     requires room { 0 < caller.old.room.blocks }
@@ -41,7 +41,7 @@ fn take_call(caller: &mut Func, site: Point, params: List<Value>) -> (InstData, 
 }
 
 /// Moves the lines of a block to a new block behind it.
-fn move_lines(caller: &mut Func, block: Block, params: List<Value>) -> Block
+fn move_lines(caller: &mut Func, block: Block, params: Values) -> Block
     requires there { In block (block_numbers caller.old.function.blocks) }
     requires room { 0 < caller.old.room.blocks }
     requires few { length caller.old.function.blocks + 1 < 2 ^ 32 - 1 }
@@ -60,7 +60,7 @@ fn move_lines(caller: &mut Func, block: Block, params: List<Value>) -> Block
 
 /// Takes the call out of its block, whose place `first` takes; what stood behind the call goes to a block behind that
 /// one, whose parameters are the call's results.
-pub fn open(caller: &mut Func, site: Point, params: List<Value>, results: List<Value>) -> Opened
+pub fn open(caller: &mut Func, site: Point, params: Values, results: Values) -> Opened
     requires there { IsPoint caller.old.function site }
     requires fits { site.index + 1 < 2 ^ 32 }
     requires room { 1 < caller.old.room.blocks }

@@ -11,7 +11,7 @@ ghost use Rattle.inline_ends.specs.Ending.{with_last_body};
 ghost use Rattle.inline_body.specs.WithBody.{empty_from, all_of, lines_in, numbers_of, counts_with};
 
 use inline_body::{BlockLines, append_to_blocks, insert_blocks};
-use ir_core::{Func, InstData, List, Point, Value};
+use ir_core::{Func, InstData, List, Point, Values};
 
 /// Puts a body in the place of a call that ends its block, and answers the call. The block ends in the jump. The body's
 /// blocks stand behind it: the first has the parameters `first`, the others those of `block_params`. It takes no
@@ -20,8 +20,8 @@ pub fn put_last_body(
     caller: &mut Func,
     site: Point,
     jump: InstData,
-    first: List<Value>,
-    block_params: List<List<Value>>,
+    first: Values,
+    block_params: List<Values>,
     block_lines: List<BlockLines>,
 ) -> InstData
     requires there { IsPoint caller.old.function site }

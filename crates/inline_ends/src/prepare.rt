@@ -8,7 +8,7 @@ use crate::copying::copy_blocks;
 use crate::numbers::number_blocks;
 use body_import::Import;
 use inline_body::{Names, PreparedBody, call_args, jump, new_types};
-use ir_core::{Block, Func, List, Point};
+use ir_core::{Block, Func, List, Point, Values};
 use std::alloc::{AllocError, Global};
 
 /// A callee's body for a tail call of a caller that has so many blocks, and takes over the import. The caller stays as
@@ -48,7 +48,7 @@ pub fn prepare_tail(
         callees: callees.added,
         types: new_types(alloc, callee, &[], 0)?,
         jump: jump(alloc, Block::new(block_count), call_args(&call.inst))?,
-        results: List::from_vec(Vec::new(alloc)),
+        results: Values::none(),
         first,
         block_params: List::from_vec(block_params),
         block_lines: body.block_lines,

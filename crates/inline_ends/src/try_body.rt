@@ -13,13 +13,13 @@ ghost use Rattle.inline_ends.specs.TriedParts.{made_blocks, AsMany, with_rest, C
 
 use crate::trying::{TrySite, is_plain_call, tried_line};
 use inline_body::{BlockLines, InlinedBlocks, Names, renumber_values};
-use ir_core::{Block, Func, InstData, List, Value};
+use ir_core::{Block, Func, InstData, List, Values};
 use std::alloc::{AllocError, Global};
 
 /// Blocks that are made: the parameters of each, and the lines of each.
 #[derive(Drop)]
 pub struct MadeBlocks {
-    pub block_params: Vec<List<Value>>,
+    pub block_params: Vec<Values>,
     pub block_lines: Vec<BlockLines>,
 }
 
@@ -28,7 +28,7 @@ pub struct MadeBlocks {
 pub struct OpenBlock {
     pub made: MadeBlocks,
     pub block: Block,
-    pub params: List<Value>,
+    pub params: Values,
     pub lines: Vec<InstData>,
 }
 

@@ -11,7 +11,7 @@ use crate::try_numbers::number_try_blocks;
 use crate::trying::TrySite;
 use body_import::Import;
 use inline_body::{Names, PreparedBody, call_args, jump, new_types};
-use ir_core::{Block, Callee, Func, Inst, InstData, List, Point};
+use ir_core::{Block, Callee, Func, Inst, InstData, List, Point, Values};
 use std::alloc::{AllocError, Global};
 
 /// A `try_call` as a site, where its function has these callee declarations and takes over others.
@@ -79,7 +79,7 @@ pub fn prepare_try(
         callees: callees.added,
         types: new_types(alloc, callee, &[], 0)?,
         jump: jump(alloc, Block::new(block_count), call_args(&call.inst))?,
-        results: List::from_vec(Vec::new(alloc)),
+        results: Values::none(),
         first,
         block_params: List::from_vec(block_params),
         block_lines: body.block_lines,

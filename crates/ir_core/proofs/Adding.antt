@@ -20,14 +20,14 @@ module _ (s : Inside) (w : Body) (laid : IsLaidOut s) (is : body_of s ≡ w) (a 
   old : slice_get s.blocks.items a ≡ Some k
   old = found s w a k laid is there at
 
-  module _ (params : k'.params.items ≡ k.params.items) where
+  module _ (params : k'.params ≡ k.params) where
     pub held_invariant : (bs : List BlockData) → bs ≡ set s.blocks.items a k' → Laid s.insts.items bs s.first s.last × (blocks_in s.insts.items bs s.first ≡ (function_of s).blocks)
     held_invariant bs e = (
       subst (λ z. Laid s.insts.items z s.first s.last) (sym e) (held_laid s.insts.items s.blocks.items s.first s.last a k k' laid.laid old start len cap next params),
       ap (λ z. blocks_in s.insts.items z s.first) e ∙ held_blocks s.insts.items s.blocks.items s.first s.last a k k' laid.laid old start len cap next params,
     )
 
-  module _ (params : k'.params.items ≡ k.params.items ++ (v ∷ [])) (declared : v < length w.function.types) (undefined : In v (definitions w.function.blocks) → ⊥) where
+  module _ (params : k'.params ≡ k.params ++ (v ∷ [])) (declared : v < length w.function.types) (undefined : In v (definitions w.function.blocks) → ⊥) where
     pub param_put : blocks_in s.insts.items (set s.blocks.items a k') s.first ≡ at_block a (put_param v) (function_of s).blocks
     param_put = param_blocks s.insts.items s.blocks.items s.first s.last a v k k' laid.laid old start len cap next params
 

@@ -51,7 +51,7 @@ module _ (xs xs' : List InstData) (ks : List BlockData) (o last : Option ℕ) (a
     where
       kept : (b : ℕ) → (b ≡ a → ⊥) → (p : Option BlockData) → slice_get ks b ≡ p → block_by xs' b p ≡ block_by xs b p
       kept b n None e = refl
-      kept b n (Some j) e = ap (λ r. record { number = b; params = j.params.items; lines = r }) (others b j e n)
+      kept b n (Some j) e = ap (λ r. record { number = b; params = j.params; lines = r }) (others b j e n)
 
       here : block_at xs' (set ks a k') a ≡ g (block_at xs ks a)
       here = ap (block_by xs' a) (get_set_same ks a k' (slice_get_within ks a k old)) ∙ (inside ∙ ap (λ z. g (block_by xs a z)) (sym old))
@@ -62,14 +62,14 @@ module _ (xs xs' : List InstData) (ks : List BlockData) (o last : Option ℕ) (a
     where
       kept : (b : ℕ) → (b ≡ a → ⊥) → (p : Option BlockData) → slice_get ks b ≡ p → block_by xs' b p ≡ block_by xs b p
       kept b n None e = refl
-      kept b n (Some j) e = ap (λ r. record { number = b; params = j.params.items; lines = r }) (others b j e n)
+      kept b n (Some j) e = ap (λ r. record { number = b; params = j.params; lines = r }) (others b j e n)
 
       here : block_at xs ks a ≡ g (block_at xs' (set ks a k') a)
       here = ap (block_by xs a) old ∙ (inside ∙ ap (λ z. g (block_by xs' a z)) (sym (get_set_same ks a k' (slice_get_within ks a k old))))
 
 -- the lines of a block changed alone
 abbrev lines_put : List InstData → ℕ → BlockData → List Line → Block
-lines_put xs a k ls = record { number = a; params = k.params.items; lines = ls }
+lines_put xs a k ls = record { number = a; params = k.params; lines = ls }
 
 one : (n : ℕ) → n + 1 ≡ suc n
 one n = omega arith
@@ -149,7 +149,7 @@ module _ (xs : List InstData) (ks : List BlockData) (o last : Option ℕ) (a : �
         (ap (lines_put xs a k) (ap (λ n. map line_of (take n (drop k.start (xs ++ (x ∷ []))))) (one k.len) ∙ (ap (map line_of) (sub_end xs x k.start k.len (omega (arith, full, at_end))) ∙ map_append line_of (take k.len (drop k.start xs)) (x ∷ []))))
 
   -- the first of a block
-  module _ (empty : k.cap ≡ 0) (k' : BlockData) (next : k'.next ≡ k.next) (params : k'.params.items ≡ k.params.items) (start : k'.start ≡ length xs) (len : k'.len ≡ 1) (cap : k'.cap ≡ 1) where
+  module _ (empty : k.cap ≡ 0) (k' : BlockData) (next : k'.next ≡ k.next) (params : k'.params ≡ k.params) (start : k'.start ≡ length xs) (len : k'.len ≡ 1) (cap : k'.cap ≡ 1) where
     first_long : length (xs ++ (x ∷ [])) ≡ length xs + 1
     first_long = length-append xs (x ∷ [])
 
@@ -305,7 +305,7 @@ range_tail xs ys k s n = ap₂ (λ a b. map line_of (take a (drop b (xs ++ ys)))
 pub if_ok : {T E X : Type 0} (r : Result T E) (a b : X) → IsOk r → (if is_ok r then a else b) ≡ a
 if_ok r a b h = ap (λ c. if c then a else b) h
 
-pub params_found : (xs : List InstData) (ks : List BlockData) (bs : List ℕ) (a : ℕ) (k : BlockData) → In a bs → slice_get ks a ≡ Some k → params_of a (map (block_at xs ks) bs) ≡ k.params.items
+pub params_found : (xs : List InstData) (ks : List BlockData) (bs : List ℕ) (a : ℕ) (k : BlockData) → In a bs → slice_get ks a ≡ Some k → params_of a (map (block_at xs ks) bs) ≡ k.params
 params_found xs ks [] a k i h = elim i [ ]
 params_found xs ks (b ∷ bs) a k i h =
     elim (cases_eq b a) [
@@ -332,7 +332,7 @@ next_found xs ks o (b ∷ bs) a k (e, (p, g, l)) i h =
     some_next x y e = cc
 
 -- a parameter put at a block's end
-module _ (xs : List InstData) (ks : List BlockData) (o last : Option ℕ) (a v : ℕ) (k k' : BlockData) (laid : Laid xs ks o last) (old : slice_get ks a ≡ Some k) (start : k'.start ≡ k.start) (len : k'.len ≡ k.len) (cap : k'.cap ≡ k.cap) (next : k'.next ≡ k.next) (params : k'.params.items ≡ k.params.items ++ (v ∷ [])) where
+module _ (xs : List InstData) (ks : List BlockData) (o last : Option ℕ) (a v : ℕ) (k k' : BlockData) (laid : Laid xs ks o last) (old : slice_get ks a ≡ Some k) (start : k'.start ≡ k.start) (len : k'.len ≡ k.len) (cap : k'.cap ≡ k.cap) (next : k'.next ≡ k.next) (params : k'.params ≡ k.params ++ (v ∷ [])) where
   param_apart : (b : ℕ) (j : BlockData) → slice_get ks b ≡ Some j → (b ≡ a → ⊥) → Apart k' j
   param_apart b j g n p e1 e2 e3 e4 = laid.apart a b k j old g (λ e. n (sym e)) p (omega (arith, e1, start)) (omega (arith, e2, start, cap)) e3 e4
 
@@ -352,7 +352,7 @@ at_block_same a (b ∷ bs) = elim (cases_eq b.number a) [
   | inr e ↦ ap₂ (λ x xs. x ∷ xs) (ap (λ c. if c then b else b) (ne_eqb b.number a e)) (at_block_same a bs)
 ]
 
-module _ (xs : List InstData) (ks : List BlockData) (o last : Option ℕ) (a : ℕ) (k k' : BlockData) (laid : Laid xs ks o last) (old : slice_get ks a ≡ Some k) (start : k'.start ≡ k.start) (len : k'.len ≡ k.len) (cap : k'.cap ≡ k.cap) (next : k'.next ≡ k.next) (params : k'.params.items ≡ k.params.items) where
+module _ (xs : List InstData) (ks : List BlockData) (o last : Option ℕ) (a : ℕ) (k k' : BlockData) (laid : Laid xs ks o last) (old : slice_get ks a ≡ Some k) (start : k'.start ≡ k.start) (len : k'.len ≡ k.len) (cap : k'.cap ≡ k.cap) (next : k'.next ≡ k.next) (params : k'.params ≡ k.params) where
   held_apart : (b : ℕ) (j : BlockData) → slice_get ks b ≡ Some j → (b ≡ a → ⊥) → Apart k' j
   held_apart b j g n p e1 e2 e3 e4 = laid.apart a b k j old g (λ e. n (sym e)) p (omega (arith, e1, start)) (omega (arith, e2, start, cap)) e3 e4
 

@@ -85,7 +85,7 @@ pub defined_room : (f : Function) (a : ℕ) (ps : List ℕ) → IsSound f → In
 defined_room f a ps sound there few declared different undefined = omega (arith, length_insert f a (length f.blocks) ps sound there few refl declared different undefined, defined_bound (with_blocks f (insert_after a (record { number = length f.blocks; params = ps; lines = [] }) f.blocks)) (sound_insert f a (length f.blocks) ps sound there few refl declared different undefined))
 
 -- a block linked in behind another
-module _ (s : Inside) (w : Body) (laid : IsLaidOut s) (is : body_of s ≡ w) (a n : ℕ) (k k' new : BlockData) (ks : List BlockData) (ps : List ℕ) (there : In a (block_numbers w.function.blocks)) (at : k ≡ get_or s.blocks.items a k) (at' : k' ≡ get_or ks a k') (pushed : ks ≡ s.blocks.items ++ (new ∷ [])) (next : new.next ≡ k.next) (start : new.start ≡ length s.insts.items) (len : new.len ≡ 0) (cap : new.cap ≡ 0) (number : n ≡ length s.blocks.items) (params : new.params.items ≡ ps) where
+module _ (s : Inside) (w : Body) (laid : IsLaidOut s) (is : body_of s ≡ w) (a n : ℕ) (k k' new : BlockData) (ks : List BlockData) (ps : List ℕ) (there : In a (block_numbers w.function.blocks)) (at : k ≡ get_or s.blocks.items a k) (at' : k' ≡ get_or ks a k') (pushed : ks ≡ s.blocks.items ++ (new ∷ [])) (next : new.next ≡ k.next) (start : new.start ≡ length s.insts.items) (len : new.len ≡ 0) (cap : new.cap ≡ 0) (number : n ≡ length s.blocks.items) (params : new.params ≡ ps) where
   abbrev linked : List BlockData
   linked = set ks a (record k' { next = Some n })
 
@@ -112,7 +112,7 @@ module _ (s : Inside) (w : Body) (laid : IsLaidOut s) (is : body_of s ≡ w) (a 
   linked_blocks =
       ap (λ z. blocks_in s.insts.items z s.first) same_linked
       ∙ (inserted_blocks s.insts.items s.insts.items s.blocks.items s.first s.last (last_of (put_after a (length s.blocks.items) (order s.blocks.items s.first))) a k k' new laid.laid present_here old_here at_here next refl (omega arith) (omega (arith, len, cap)) (omega (arith, start, cap)) (λ p u v. omega (arith, u, v, cap)) (λ b y g. refl)
-      ∙ (ap (λ z. insert_after a (record { number = z; params = new.params.items; lines = range s.insts.items new }) (function_of s).blocks) (sym number)
+      ∙ (ap (λ z. insert_after a (record { number = z; params = new.params; lines = range s.insts.items new }) (function_of s).blocks) (sym number)
       ∙ ap₂ (λ p l. insert_after a (record { number = n; params = p; lines = l }) (function_of s).blocks) params (ap (λ z. map line_of (take z (drop new.start s.insts.items))) len)))
 
   -- the new block is the last where the other was

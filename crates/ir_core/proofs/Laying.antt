@@ -127,12 +127,12 @@ module _ (xs xs' : List InstData) (ks : List BlockData) (o last last' : Option �
     ];
   }
 
-  pub inserted_blocks : ((b : ℕ) (k : BlockData) → slice_get ks b ≡ Some k → range xs' k ≡ range xs k) → map (block_at xs' ins) (order ins o) ≡ insert_after a (record { number = length ks; params = new.params.items; lines = range xs' new }) (map (block_at xs ks) (order ks o))
-  inserted_blocks same = ap (map (block_at xs' ins)) ins_order ∙ blocks_put_after (block_at xs' ins) (block_at xs ks) a (length ks) (record { number = length ks; params = new.params.items; lines = range xs' new }) (order ks o) (λ b. refl) (λ b i. kept b i) new_one
+  pub inserted_blocks : ((b : ℕ) (k : BlockData) → slice_get ks b ≡ Some k → range xs' k ≡ range xs k) → map (block_at xs' ins) (order ins o) ≡ insert_after a (record { number = length ks; params = new.params; lines = range xs' new }) (map (block_at xs ks) (order ks o))
+  inserted_blocks same = ap (map (block_at xs' ins)) ins_order ∙ blocks_put_after (block_at xs' ins) (block_at xs ks) a (length ks) (record { number = length ks; params = new.params; lines = range xs' new }) (order ks o) (λ b. refl) (λ b i. kept b i) new_one
     where
       seen : (b : ℕ) (p : Option BlockData) → slice_get ks b ≡ p → block_by xs' b p ≡ block_by xs b p
       seen b None e = refl
-      seen b (Some y) e = ap (λ r. record { number = b; params = y.params.items; lines = r }) (same b y e)
+      seen b (Some y) e = ap (λ r. record { number = b; params = y.params; lines = r }) (same b y e)
 
       kept : (b : ℕ) → In b (order ks o) → block_at xs' ins b ≡ block_at xs ks b
       kept b i =
@@ -146,7 +146,7 @@ module _ (xs xs' : List InstData) (ks : List BlockData) (o last last' : Option �
                 ap (block_by xs' b) (get_set_other (ks ++ (new ∷ [])) a b (record k' { next = Some (length ks) }) e ∙ get_push_below ks b new (omega (arith, lt, length_nexts ks))) ∙ seen b (slice_get ks b) refl
           ]
 
-      new_one : block_at xs' ins (length ks) ≡ record { number = length ks; params = new.params.items; lines = range xs' new }
+      new_one : block_at xs' ins (length ks) ≡ record { number = length ks; params = new.params; lines = range xs' new }
       new_one =
           let lt : a < length ks = slice_get_within ks a k old in
           ap (block_by xs' (length ks)) (get_set_other (ks ++ (new ∷ [])) a (length ks) (record k' { next = Some (length ks) }) (λ e. omega (arith, e, lt)) ∙ get_push_new ks new)

@@ -216,15 +216,15 @@ module _ (xs : List InstData) (ks : List BlockData) (o last : Option ℕ) (a : �
     where
       kept : (b : ℕ) → (b ≡ a → ⊥) → (p : Option BlockData) → slice_get ks b ≡ p → block_at between moved b ≡ block_by xs b (slice_get ks b)
       kept b n None g = ap (block_by between b) (get_shifted_none e (set ks a longer_k) b (get_set_other ks a b longer_k n ∙ g)) ∙ ap (block_by xs b) (sym g)
-      kept b n (Some z) g = ap (block_by between b) (get_shifted e (set ks a longer_k) b z (get_set_other ks a b longer_k n ∙ g)) ∙ (ap (λ r. record { number = b; params = z.params.items; lines = r }) (range_moved b z g n) ∙ ap (block_by xs b) (sym g))
+      kept b n (Some z) g = ap (block_by between b) (get_shifted e (set ks a longer_k) b z (get_set_other ks a b longer_k n ∙ g)) ∙ (ap (λ r. record { number = b; params = z.params; lines = r }) (range_moved b z g n) ∙ ap (block_by xs b) (sym g))
 
       here : block_at between moved a ≡ put_line (line_of x) (block_at xs ks a)
       here =
           let up : k.len + 1 ≡ suc k.len = omega arith in
           ap (block_by between a) (get_shifted e (set ks a longer_k) a longer_k (get_set_same ks a longer_k (slice_get_within ks a k old)))
-          ∙ (ap₂ (λ s n. record { number = a; params = k.params.items; lines = map line_of (take n (drop s between)) }) here_start up
-          ∙ (ap (λ r. record { number = a; params = k.params.items; lines = map line_of r }) (sub_here xs x e k.start k.len is_end inside)
-          ∙ (ap (λ r. record { number = a; params = k.params.items; lines = r }) (map_append line_of (take k.len (drop k.start xs)) (x ∷ []))
+          ∙ (ap₂ (λ s n. record { number = a; params = k.params; lines = map line_of (take n (drop s between)) }) here_start up
+          ∙ (ap (λ r. record { number = a; params = k.params; lines = map line_of r }) (sub_here xs x e k.start k.len is_end inside)
+          ∙ (ap (λ r. record { number = a; params = k.params; lines = r }) (map_append line_of (take k.len (drop k.start xs)) (x ∷ []))
           ∙ ap (λ z. put_line (line_of x) (block_by xs a z)) (sym old))))
 
 -- where the ranges start before the move

@@ -3,7 +3,7 @@ use Rattle.std.specs.Prelude.{◌≡◌}
 use Rattle.ir_core.specs.declared.func.BlockData.{BlockData}
 
 pub record Alike (k j : BlockData) : Type 0 where
-  pub params : j.params.items ≡ k.params.items
+  pub params : j.params ≡ k.params
   pub start : j.start ≡ k.start
   pub len : j.len ≡ k.len
   pub cap : j.cap ≡ k.cap

@@ -37,7 +37,7 @@ range xs k = map line_of (take k.len (drop k.start xs))
 
 abbrev pub params_at : Option BlockData → List ℕ
 params_at None = []
-params_at (Some k) = k.params.items
+params_at (Some k) = k.params
 
 abbrev pub lines_at : List InstData → Option BlockData → List Line
 lines_at xs None = []

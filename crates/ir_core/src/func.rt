@@ -12,10 +12,10 @@ mod splicing;
 
 use crate::declarations::{Callee, SlotDecl};
 use crate::instructions::InstData;
-use crate::lists::List;
 use crate::names::FuncName;
 use crate::numbers::{Block, FuncRef, SigRef, Slot, Value};
 use crate::signatures::{Sig, Ty};
+use crate::values::Values;
 pub use reading::{Blocks, Insts};
 use std::alloc::{AllocError, Global};
 use std::marker::Model;
@@ -24,7 +24,7 @@ use std::marker::Model;
 /// `cap` places from `start` on hold its instructions.
 #[derive(Drop)]
 struct BlockData {
-    params: Vec<Value>,
+    params: Values,
     start: usize,
     len: usize,
     cap: usize,
@@ -161,17 +161,15 @@ impl Func {
         ensures room { self.new.room ≡ record self.old.room { blocks = self.new.room.blocks } }
     {
         self.blocks.reserve(1)?;
-        let params = Vec::new(self.alloc);
         Ok(match self.last {
-            Some(last) => self.insert_block(last, List::from_vec(params)),
-            None => self.begin(params),
+            Some(last) => self.insert_block(last, Values::none()),
+            None => self.begin(),
         })
     }
 
     /// Puts the first block. There is room for it.
-    fn begin(&mut self, params: Vec<Value>) -> Block
+    fn begin(&mut self) -> Block
         requires none { self.old.function.blocks ≡ [] }
-        requires empty { params.items ≡ [] }
         requires room { 0 < self.old.room.blocks }
         ensures body { self.new.function
             ≡ record self.old.function { blocks = record { number = 0; params = []; lines = [] } ∷ [] } }
@@ -180,7 +178,7 @@ impl Func {
     {
         let block = Block::new(0);
         self.blocks.push_reserved(BlockData {
-            params,
+            params: Values::none(),
             start: 0,
             len: 0,
             cap: 0,
@@ -202,7 +200,9 @@ impl Func {
         ensures err { OnErr result (self.new.function ≡ self.old.function) }
         ensures room { self.new.room ≡ self.old.room }
     {
-        self.blocks[block.number() as usize].params.push(value)?;
+        self.blocks[block.number() as usize]
+            .params
+            .push(self.alloc, value)?;
         self.defined += 1;
         Ok(())
     }

@@ -1,5 +1,5 @@
 //! Lists of values, as instructions have them.
-ghost use Rattle.std.specs.Prelude.{◌≡◌, ◌∷◌, ◌<◌, ◌+◌, ◌^◌, [], IfOk, OnErr, length, map};
+ghost use Rattle.std.specs.Prelude.{◌≡◌, ◌∷◌, ◌++◌, ◌<◌, ◌+◌, ◌^◌, [], IfOk, OnErr, OnOk, length, map};
 ghost use Rattle.ir_core.specs.Lists.{Each};
 
 use crate::numbers::Value;
@@ -75,13 +75,32 @@ impl Values {
         Ok(Values { items })
     }
 
-    /// The list with a number added to that of each value. Only `AllocError` refuses, and only four or more.
-    pub fn shifted(&self, alloc: Global, by: u32) -> Result<Values, AllocError>
-        requires { Each (λ v. by + v < 2 ^ 32) self.now }
-        ensures ok { IfOk result (λ list. list ≡ map (λ v. by + v) self.now) }
-        ensures err { OnErr result (3 < length self.now) }
+    /// Appends a value. Only `AllocError` refuses, and only where there are four or more then; the list is then as before.
+    pub fn push(&mut self, alloc: Global, value: Value) -> Result<(), AllocError>
+        ensures ok { OnOk result (self.new ≡ self.old ++ value ∷ []) }
+        ensures err { OnErr result (self.new ≡ self.old) }
     {
+        if let Items::Many(values) = &mut self.items {
+            values.push(value)?;
+            return Ok(());
+        }
         let items = match self.as_slice() {
+            [] => Items::One([value]),
+            [a] => Items::Two([*a, value]),
+            [a, b] => Items::Three([*a, *b, value]),
+            few => Items::Many(Box::new(alloc, with_one_more(alloc, few, value)?)?),
+        };
+        self.items = items;
+        Ok(())
+    }
+
+    /// These values with a number added to that of each. Only `AllocError` refuses, and only four or more.
+    pub fn from_shifted(alloc: Global, values: &[Value], by: u32) -> Result<Values, AllocError>
+        requires { Each (λ v. by + v < 2 ^ 32) values.now }
+        ensures ok { IfOk result (λ list. list ≡ map (λ v. by + v) values.now) }
+        ensures err { OnErr result (3 < length values.now) }
+    {
+        let items = match values {
             [] => Items::None,
             [a] => Items::One([moved(*a, by)]),
             [a, b] => Items::Two([moved(*a, by), moved(*b, by)]),
@@ -104,6 +123,16 @@ impl Values {
             Items::Many(values) => values.as_slice(),
         }
     }
+}
+
+/// The values with another one behind them.
+fn with_one_more(alloc: Global, values: &[Value], value: Value) -> Result<Vec<Value>, AllocError>
+    ensures { IfOk result (λ list. list.items ≡ values.now ++ value ∷ []) }
+{
+    let mut list = Vec::with_capacity(alloc, values.len().saturating_add(1))?;
+    list.extend_from_slice(values)?;
+    list.push(value)?;
+    Ok(list)
 }
 
 /// The value with a number added to its own.

@@ -11,7 +11,7 @@ impl Clone for BlockData {
 
     fn clone(&self) -> Result<BlockData, AllocError> {
         Ok(BlockData {
-            params: Vec::from_slice(*self.params.allocator(), self.params.as_slice())?,
+            params: self.params.clone()?,
             start: self.start,
             len: self.len,
             cap: self.cap,

@@ -142,7 +142,7 @@ impl Func {
     }
 
     /// Puts an empty block directly after `after` and answers its number.
-    pub fn insert_block(&mut self, after: Block, params: List<Value>) -> Block
+    pub fn insert_block(&mut self, after: Block, params: Values) -> Block
         requires there { In after (block_numbers self.old.function.blocks) }
         requires room { 0 < self.old.room.blocks }
         requires few { CanAdd (length self.old.function.blocks) }
@@ -161,8 +161,7 @@ impl Func {
     {
         let number = Block::new(self.blocks.len() as u32);
         let start = self.insts.len();
-        let params = params.into_vec();
-        self.defined += params.len();
+        self.defined += params.as_slice().len();
         let place = after.number() as usize;
         let next = self.blocks[place].next;
         self.blocks.push_reserved(BlockData {

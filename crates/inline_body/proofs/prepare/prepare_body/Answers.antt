@@ -35,6 +35,6 @@ returns c =
     c.in_ok-new_results.new_results.tail_calls c.in_ok-new_results.ensures.tail_calls
     _ (c.from_vec.ensures ∙ (c.in_ok-from_slice.ensures.items ∙ c.slots-2.ensures)) refl refl c.in_ok-new_types.ensures
     c.call_args.result.now c.call_args.ensures c.in_ok-jump.ensures
-    (c.from_vec-2.ensures ∙ c.in_ok-from_slice-2.ensures.items)
-    body.block_params (ap (λ z. c.remove-first.result ∷ z) c.from_vec-3.ensures ∙ (removed c.into_vec-block_params.result.items c.remove-first.new.self.items c.remove-first.result some c.remove-first.ensures.value c.remove-first.ensures.items ∙ c.into_vec-block_params.ensures))
+    (c.in_ok-clone.ensures.cases ∙ sym c.as_slice-results.ensures)
+    body.block_params (ap (λ z. c.remove-first.result ∷ z) c.from_vec-2.ensures ∙ (removed c.into_vec-block_params.result.items c.remove-first.new.self.items c.remove-first.result some c.remove-first.ensures.value c.remove-first.ensures.items ∙ c.into_vec-block_params.ensures))
     c.in_ok-body.ensures.blocks c.in_ok-body.ensures.as_many

@@ -24,7 +24,7 @@ returns c =
     let body = c.in_ok-body.body in
     let many : length body.block_params ≡ length g.blocks = listed (copied_block n c.inst-call.result.now.tags) body.block_params body.block_lines g.blocks c.in_ok-body.ensures.as_many c.in_ok-body.ensures.blocks in
     let some : 0 < length c.into_vec-block_params.result.items = let e = ap length c.into_vec-block_params.ensures in let h = c.requires.can.has_block in omega (arith, e, many, h) in
-    let params = ap (λ z. c.remove-first.result ∷ z) c.from_vec-3.ensures ∙ (removed c.into_vec-block_params.result.items c.remove-first.new.self.items c.remove-first.result some c.remove-first.ensures.value c.remove-first.ensures.items ∙ c.into_vec-block_params.ensures) in
+    let params = ap (λ z. c.remove-first.result ∷ z) c.from_vec-2.ensures ∙ (removed c.into_vec-block_params.result.items c.remove-first.new.self.items c.remove-first.result some c.remove-first.ensures.value c.remove-first.ensures.items ∙ c.into_vec-block_params.ensures) in
     tail_prepared f g c.args.site c.values.ensures.sound c.values-2.ensures.sound c.requires.can l c.inst-call.ensures
     c.args.import c.requires.imported n
     c.values-3.ensures.count (ap length c.slots.ensures) c.in_ok-number_blocks.ensures.as_many refl refl

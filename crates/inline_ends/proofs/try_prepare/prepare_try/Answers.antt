@@ -49,7 +49,7 @@ returns c =
     let many : length body.block_params ≡ length (tried_blocks n s g.blocks) = sym (blocks_listed body.block_params body.block_lines c.in_ok-body.ensures.as_many) ∙ ap length c.in_ok-body.ensures.blocks in
     let long = tried_length n s g.blocks in
     let some : 0 < length c.into_vec-block_params.result.items = let e = ap length c.into_vec-block_params.ensures in let h = c.requires.can.has_block in omega (arith, e, many, long, h) in
-    let params = ap (λ z. c.remove-first.result ∷ z) c.from_vec-3.ensures ∙ (removed c.into_vec-block_params.result.items c.remove-first.new.self.items c.remove-first.result some c.remove-first.ensures.value c.remove-first.ensures.items ∙ c.into_vec-block_params.ensures) in
+    let params = ap (λ z. c.remove-first.result ∷ z) c.from_vec-2.ensures ∙ (removed c.into_vec-block_params.result.items c.remove-first.new.self.items c.remove-first.result some c.remove-first.ensures.value c.remove-first.ensures.items ∙ c.into_vec-block_params.ensures) in
     try_prepared f g c.args.site c.values.ensures.sound c.values-2.ensures.sound c.requires.can l c.inst-call.ensures
     c.args.import c.requires.imported n
     c.values-3.ensures.count (ap length c.slots.ensures) c.in_ok-number_try_blocks.ensures.as_many refl refl

@@ -39,7 +39,7 @@ returns-clause-ok c =
       | in-Some w ↦
           ap (λ z. z.function) w.self-is
           ∙ (w.insert_block.ensures.body
-          ∙ (ap₂ (λ l p. with_blocks (function_of c.self.inside) (insert_after w.in-Some.last (record { number = w.insert_block.result; params = p; lines = [] }) (blocks_in c.self.inside.insts.items l c.self.inside.first))) c.in_ok-reserve.ensures.items (w.from_vec.ensures ∙ c.new-params.ensures.items)
+          ∙ (ap₂ (λ l p. with_blocks (function_of c.self.inside) (insert_after w.in-Some.last (record { number = w.insert_block.result; params = p; lines = [] }) (blocks_in c.self.inside.insts.items l c.self.inside.first))) c.in_ok-reserve.ensures.items (w.none.ensures)
           ∙ (ap (with_blocks (function_of c.self.inside)) (insert_last w.in-Some.last (record { number = w.insert_block.result; params = []; lines = [] }) (function_of c.self.inside).blocks (ap last_of (names_blocks c.self.inside.insts.items c.self.inside.blocks.items (order c.self.inside.blocks.items c.self.inside.first)) ∙ (sym c.self.invariant.laid.ends ∙ w.in-Some.is)) c.self.invariant.sound.blocks_differ)
           ∙ (ap (λ z. with_blocks z.function (z.function.blocks ++ (record { number = w.insert_block.result; params = []; lines = [] } ∷ []))) c.self.view_is
           ∙ ap (λ n. with_blocks c.args.self.now.function (c.args.self.now.function.blocks ++ (record { number = n; params = []; lines = [] } ∷ []))) (sym w.result-is)))))

@@ -75,7 +75,7 @@ impl Values {
         Ok(Values { items })
     }
 
-    /// Appends a value. Only `AllocError` refuses, and only where there are four or more then; the list is then as before.
+    /// Appends a value. Only `AllocError` refuses, where there are four or more then, and the list is as before.
     pub fn push(&mut self, alloc: Global, value: Value) -> Result<(), AllocError>
         ensures ok { OnOk result (self.new ≡ self.old ++ value ∷ []) }
         ensures err { OnErr result (self.new ≡ self.old) }

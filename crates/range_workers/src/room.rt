@@ -8,8 +8,8 @@ const ROOM: usize = 1_048_576;
 /// A block about as large as the largest of which the C library takes note.
 const KEPT: usize = 33_488_896;
 
-/// Has the allocator keep what is let go. The C library gives large blocks back to the system, whose pages are then seen
-/// for the first time again, until one as large as this was let go: it is asked for here, and none of its bytes is
+/// Has the allocator keep what is let go. The C library gives large blocks back to the system, whose pages are then
+/// seen for the first time again, until one as large as this was let go: so it is asked for, and none of its bytes
 /// touched. Where there is no such block nothing is lost.
 pub(crate) fn keep_room(alloc: Global) {
     let _ = Vec::<u8>::with_capacity(alloc, KEPT);

@@ -8,7 +8,8 @@ chains of calls, the same with fans and `try_call`s, and 60 MB of large bodies (
 four workers: the median of five runs by the clock, as a multiple of `wc -w`, how much is written, and the most memory
 that a run held, a byte of input and output together. Beside the second text, where it is installed, LLVM's `opt`
 inlines the same functions, read and written as LLVM IR, by its own policy. Then modules of one shape each and their
-halves, with one worker: twice the sites should take at most 2.2 times the time, by the processor's clock.
+halves, with one worker, each run between two of the half: twice the sites should take at most 2.2 times the time, by
+the processor's clock.
 
 A function has at most 262,144 parts. A site of the least callee has four of them once it is inlined, so 40,000 sites
 before 200,000 lines cannot all be, nor can 1,000 calls under a table of 1,000 entries: the shapes below have one of the
@@ -19,8 +20,9 @@ import subprocess
 import sys
 import tempfile
 
-from check import bodies, medians
+from check import TURNS, bodies, medians
 from small_functions import clif_functions, llvm_functions
+from timing import twice
 
 WIDEST = ['--callee-size', '262144', '--caller-size', '262144']
 
@@ -155,13 +157,9 @@ def measure_texts(program, scale, path):
 
 def measure_shapes(program, path):
     for count, name, make, options in SHAPES:
-        took = []
-        for number in (count // 2, count):
-            with open(path, 'w') as file:
-                file.write(make(number))
-            job = {'inline': [program, 'inline', '--workers', '1', *options]}
-            took.append(medians(job, path)['inline'].processor)
-        print('%d %s: %.3f s, %.2f times its half' % (count, name, took[1], took[1] / took[0]))
+        words = [program, 'inline', '--workers', '1', *options]
+        found = twice(words, make(count // 2), make(count), path, TURNS)
+        print('%d %s: %.3f s, %.2f times its half' % (count, name, *found))
 
 
 def main():

@@ -42,5 +42,22 @@ def median(runs):
                max(it.memory for it in runs))
 
 
+def twice(words, half, whole, path, turns):
+    """The processor's time of these words over a text, and how many times that of another it is: medians of runs that
+    stand each between two of the other, since a processor changes its speed."""
+    other = path + '.half'
+    for name, text in ((other, half), (path, whole)):
+        with open(name, 'w') as file:
+            file.write(text)
+    took, times = [], []
+    before = run(words, other).processor
+    for _ in range(turns):
+        took.append(run(words, path).processor)
+        behind = run(words, other).processor
+        times.append(2 * took[-1] / (before + behind))
+        before = behind
+    return statistics.median(took), statistics.median(times)
+
+
 if __name__ == '__main__':
     print(json.dumps(measured(sys.argv[2:], sys.argv[1])))

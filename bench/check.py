@@ -6,13 +6,14 @@
 `rt ci`, or `rt run` in crates/clifinl, builds the program and leaves it in out/. First 14 MB of small functions in
 chains of calls and 60 MB of large bodies (SCALE times as much): the median of five runs by the clock, on all processors
 and on one of them, as a multiple of `wc -w`, and the most memory that a run held, a byte of text. Then texts of one
-shape each, once and twice as large: twice the text should take at most 2.2 times the time, by the processor's clock."""
+shape each, each run between two of its half: twice the text should take at most 2.2 times the time, by the
+processor's clock."""
 import os
 import sys
 import tempfile
 
 from small_functions import clif_functions
-from timing import median, run
+from timing import median, run, twice
 
 TURNS = 5
 
@@ -114,14 +115,10 @@ def main():
                 print('  %-22s %.3f s, %.2f times wc -w, %.1f bytes a byte of text'
                       % (job, clock, clock / words, memory / len(text)))
         for name, (count, make) in SHAPES.items():
-            both = []
-            for text in (make(count), make(2 * count)):
-                with open(path, 'w') as file:
-                    file.write(text)
-                both.append(medians({it: [program, it] for it in ('check', 'print')}, path))
-            times = {it: (both[0][it].processor, both[1][it].processor) for it in ('check', 'print')}
-            print('%d %s:' % (count, name), ', '.join('%s %.3f s, twice %.2f times' % (it, once, twice / once)
-                                                      for it, (once, twice) in times.items()))
+            once, text = make(count), make(2 * count)
+            found = {it: twice([program, it], once, text, path, TURNS) for it in ('check', 'print')}
+            print('%d %s:' % (2 * count, name), ', '.join('%s %.3f s, %.2f times its half' % (it, *times)
+                                                          for it, times in found.items()))
 
 
 if __name__ == '__main__':

@@ -3,7 +3,7 @@
 ghost use Rattle.std.specs.Prelude.{◌≡◌, ◌<◌, ◌≤◌, ◌⊎◌, ℕ, length};
 ghost use Rattle.clif_lex.specs.Stretches.{IsCut, IsLineWith};
 
-use memchr::memchr;
+use memchr::memmem::Finder;
 
 /// The first place behind another at which a line begins with these bytes, or the text's end.
 pub fn next_line_with(text: &[u8], from: usize, word: &[u8]) -> usize
@@ -13,10 +13,14 @@ pub fn next_line_with(text: &[u8], from: usize, word: &[u8]) -> usize
     ensures there { (result ≡ length text.now) ⊎ ((from < result) × IsLineWith word.now text.now result) }
     ensures none_before { (at : ℕ) → from < at → at < result → IsLineWith word.now text.now at → ⊥ }
 {
+    let words = Finder::new(word);
     let mut at = from;
-    'lines: while let Some(length) = memchr(b'\n', text.split_at(at).1) {
+    'words: while at < text.len() {
+        let Some(length) = words.find(text.split_at(at + 1).1) else {
+            return text.len();
+        };
         at += length + 1;
-        if text.split_at(at).1.starts_with(word) {
+        if text[at - 1] == b'\n' {
             return at;
         }
     }

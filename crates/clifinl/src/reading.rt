@@ -20,6 +20,16 @@ use std::thread::Threads;
 /// The most bytes that a text may have.
 const LIMIT: usize = 67_108_864;
 
+/// A block about as large as the largest of which the C library takes note.
+const KEPT: usize = 33_488_896;
+
+/// Has the allocator keep what is let go. The C library gives large blocks back to the system, whose pages are then
+/// seen for the first time again, until one as large as this was let go: so it is asked for, and none of its bytes
+/// touched. Where there is no such block nothing is lost.
+fn keep_room(alloc: Global) {
+    let _ = Vec::<u8>::with_capacity(alloc, KEPT);
+}
+
 /// The bytes of the source, up to its end.
 ///
 /// # Errors
@@ -30,6 +40,7 @@ pub(crate) fn read_input<I: Source>(alloc: Global, input: &mut I) -> Result<Vec<
     ensures stopped { IfErr result (λ status. Stopped NoText (I.left input.old) (I.left input.new)
         (I.faults input.old) (I.faults input.new) status) }
 {
+    keep_room(alloc);
     match read_whole(alloc, input, LIMIT) {
         Ok(bytes) => Ok(bytes),
         Err(ReadErr::Failed) => Err(Status::ReadFault),

@@ -116,6 +116,16 @@ fn each_fault_of_the_outside(rt: HostRuntime) -> Result<(), AllocError> {
 }
 
 #[test]
+fn a_text_beyond_the_limit(rt: HostRuntime) -> Result<(), AllocError> {
+    let blanks = vec![in rt.alloc(); b' '; 67_108_865]?;
+    let ran = run(&rt, rt.alloc(), blanks.as_slice(), u64::MAX, 1000)?;
+    assert!(rt; ran.status.code() == 1);
+    assert!(rt; ran.out.bytes().is_empty());
+    assert!(rt; ran.err.bytes() == b"error TooLong\n".as_slice());
+    Ok(())
+}
+
+#[test]
 fn refused_words(rt: HostRuntime) -> Result<(), AllocError> {
     for (words, told) in [
         (

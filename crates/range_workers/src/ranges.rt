@@ -5,7 +5,7 @@ ghost use Rattle.std.specs.Prelude.{slice_index, slice_index_or};
 ghost use Rattle.range_workers.specs.Follow.{Follow, ArePartEnds};
 
 use crate::drawing::{PARTS_OF_A_WORKER, map_drawn, take_all};
-use crate::room::{keep_room, make_room};
+use crate::room::make_room;
 use std::alloc::Global;
 use std::thread::Threads;
 
@@ -154,7 +154,6 @@ pub fn read_by_workers<R: Threads + Sync, T: Drop + Send, P: Ranges<T>>(
     requires { P.range ranges.now from «end» }
     ensures { IfSome result (λ found. Follow (P.stand ranges.now) from «end» found.items) }
 {
-    keep_room(alloc);
     if workers <= 1 || end - from <= size {
         return read_range(alloc, ranges, from, end, size);
     }

@@ -68,10 +68,30 @@ block0(v0: i64):
 }
 ";
 
+/// How often a held worker looks whether it may go on.
+const TURNS: u64 = 100_000_000;
+
 /// Holds the worker that starts ticket 0 until ticket 2 is started.
 #[derive(Drop)]
 struct HeldGate {
     later: AtomicBool,
+    /// Whether the worker went on while ticket 2 was not started.
+    gave_up: AtomicBool,
+}
+
+impl HeldGate {
+    /// The gate at which nothing was started.
+    fn new() -> HeldGate {
+        HeldGate {
+            later: AtomicBool::new(false),
+            gave_up: AtomicBool::new(false),
+        }
+    }
+
+    /// Whether ticket 2 was started while ticket 0 was held.
+    fn saw_both(&self) -> bool {
+        self.later.load(Ordering::SeqCst) && !self.gave_up.load(Ordering::SeqCst)
+    }
 }
 
 impl Gate for HeldGate {
@@ -81,12 +101,13 @@ impl Gate for HeldGate {
         }
         if ticket == 0 {
             let backoff = Backoff::new();
-            for _ in 0..u64::MAX {
+            for _ in 0..TURNS {
                 if self.later.load(Ordering::SeqCst) {
                     return;
                 }
                 backoff.snooze();
             }
+            self.gave_up.store(true, Ordering::SeqCst);
         }
     }
 }
@@ -219,14 +240,13 @@ fn workers_make_what_one_thread_makes(rt: HostRuntime) {
         );
     }
     for workers in [2, 4] {
-        let gate = HeldGate {
-            later: AtomicBool::new(false),
-        };
+        let gate = HeldGate::new();
         let made = made(&rt, alloc, &module, workers, &gate);
         assert!(rt;
             made.is_some_and(|made| made.0 == text && made.1 == inlined),
             "{workers} held workers"
         );
+        assert!(rt; gate.saw_both());
     }
 }
 

@@ -49,6 +49,22 @@ pub struct Rejected {
     pub err: CheckErr,
 }
 
+impl fmt::Debug for Rejected {
+    fn fmt<W: fmt::Write>(&self, f: &mut fmt::Formatter<W>) -> fmt::Result {
+        f.debug_struct("Rejected")
+            .field("err", &self.err)
+            .finish_non_exhaustive()
+    }
+}
+
+impl fmt::Display for Rejected {
+    fn fmt<W: fmt::Write>(&self, f: &mut fmt::Formatter<W>) -> fmt::Result {
+        write!(f, "{}", self.err)
+    }
+}
+
+impl Error for Rejected {}
+
 /// The first fault of a module. Availability is looked at after all other rules. Only `AllocError` refuses.
 fn find_fault(alloc: Global, module: &Module) -> Result<Option<Fault>, AllocError>
     ensures { IfOk result (λ found. FindsAny «module».now (checks «module».now) found) }

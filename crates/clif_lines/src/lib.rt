@@ -14,6 +14,6 @@ mod words;
 
 pub use lines::line;
 pub use narrowing::{alignment, entity_number, slot_size, word_number};
-pub use operations::{access, operation, type_of_width};
+pub use operations::{access, operation};
 pub use signatures::{func_name, signature};
 pub use words::WordNumbers;

@@ -1,13 +1,11 @@
 //! What opcodes of the text mean, and the numbers that stand behind them.
 ghost use Rattle.std.specs.Prelude.{◌≡◌};
 ghost use Rattle.clk_num.specs.Views.{data_of};
-ghost use Rattle.ir_core.specs.Lookup.{ty_of};
 ghost use Rattle.ir_text.specs.Writable.{by_zeros};
 ghost use Rattle.clif_meaning.specs.Instructions.{constant, immediate};
 ghost use Rattle.clif_meaning.specs.Operations as spec;
 
-use clif_names::width;
-use clif_words::Opcode;
+use clif_words::{Opcode, width_of_type};
 use clk_num::{Bits, Cc, Op, Width};
 use ir_core::{Access, Ty};
 
@@ -52,9 +50,9 @@ pub fn operation(opcode: Opcode, ty: Ty) -> Op
         Opcode::Bswap => Op::Bswap,
         Opcode::Isplit => Op::Isplit,
         Opcode::Select => Op::Select,
-        Opcode::Uextend => Op::Uextend(width(ty)),
-        Opcode::Sextend => Op::Sextend(width(ty)),
-        Opcode::Ireduce => Op::Ireduce(width(ty)),
+        Opcode::Uextend => Op::Uextend(width_of_type(ty)),
+        Opcode::Sextend => Op::Sextend(width_of_type(ty)),
+        Opcode::Ireduce => Op::Ireduce(width_of_type(ty)),
         _ => Op::Icmp(Cc::Eq),
     }
 }
@@ -90,7 +88,7 @@ pub fn stored_bytes(opcode: Opcode) -> Option<u8>
 pub fn constant_of(ty: Ty, number: i128) -> Bits
     ensures { data_of result ≡ constant ty number }
 {
-    Bits::new(width(ty), number.cast_unsigned())
+    Bits::new(width_of_type(ty), number.cast_unsigned())
 }
 
 /// Whether the immediate of the operation is extended by zeros.
@@ -112,18 +110,5 @@ pub fn immediate_of(op: Op, ty: Ty, number: i128) -> Bits
         constant_of(ty, low.value() as i128)
     } else {
         constant_of(ty, low.signed())
-    }
-}
-
-/// The type of a width.
-pub fn type_of_width(width: Width) -> Ty
-    ensures { result ≡ ty_of width }
-{
-    match width {
-        Width::W8 => Ty::I8,
-        Width::W16 => Ty::I16,
-        Width::W32 => Ty::I32,
-        Width::W64 => Ty::I64,
-        Width::W128 => Ty::I128,
     }
 }

@@ -14,7 +14,7 @@ mod uses;
 pub use first::{MOST_FUNCTIONS, NamesFault, among_functions, first_fault};
 pub use function::FunctionNames;
 pub use least::LeastSpots;
-pub use limits::{Limit, Limited, width};
+pub use limits::{Limit, Limited};
 pub use sizes::function_size;
 pub use typing::gives_type;
 pub use uses::Uses;

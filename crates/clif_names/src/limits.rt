@@ -2,9 +2,9 @@
 ghost use Rattle.std.specs.Prelude.{◌≡◌};
 ghost use Rattle.clif_names.specs.Limits as limits;
 ghost use Rattle.clif_names.specs.Noting as spec;
-ghost use Rattle.ir_core.specs.Lookup.{width_of};
 
-use clk_num::{Bits, Width};
+use clif_words::width_of_type;
+use clk_num::Bits;
 use ir_core::Ty;
 use name_tables::earlier_spot;
 use token_reader::{RawName, RawNumber};
@@ -42,7 +42,7 @@ impl Limit {
             Limit::Alignment => is_power(value),
             Limit::UserTrap => 0 <= value && value <= 65_535,
             Limit::Offset => -2_147_483_648 <= value && value <= 2_147_483_647,
-            Limit::Constant(ty) => Bits::fit(width(ty), value).is_some(),
+            Limit::Constant(ty) => Bits::fit(width_of_type(ty), value).is_some(),
         }
     }
 }
@@ -60,19 +60,6 @@ fn is_power(value: i128) -> bool
         || value == 64
         || value == 128
         || value == 256
-}
-
-/// The width of a type's values.
-pub fn width(ty: Ty) -> Width
-    ensures { result ≡ width_of ty }
-{
-    match ty {
-        Ty::I8 => Width::W8,
-        Ty::I16 => Width::W16,
-        Ty::I32 => Width::W32,
-        Ty::I64 => Width::W64,
-        Ty::I128 => Width::W128,
-    }
 }
 
 /// The number of a word.

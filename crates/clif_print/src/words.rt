@@ -1,12 +1,11 @@
 //! The words.
 ghost use Rattle.std.specs.Prelude.{◌≡◌};
 ghost use Rattle.ir_text.specs.Words.{condition_word, type_word, convention_word};
-ghost use Rattle.ir_core.specs.Lookup.{ty_of};
 ghost use Rattle.clif_words.specs.Opcodes.{word};
 ghost use Rattle.text_output.specs.Output.{Start, Puts};
 
 use clif_words::Opcode;
-use clk_num::{Cc, Width};
+use clk_num::Cc;
 use ir_core::{Conv, Ty};
 use text_output::Output;
 
@@ -45,19 +44,6 @@ pub(crate) fn type_word(ty: Ty) -> &'static [u8]
         Ty::I32 => b"i32",
         Ty::I64 => b"i64",
         Ty::I128 => b"i128",
-    }
-}
-
-/// The type of a width.
-pub(crate) fn ty_of(width: Width) -> Ty
-    ensures { result ≡ ty_of width }
-{
-    match width {
-        Width::W8 => Ty::I8,
-        Width::W16 => Ty::I16,
-        Width::W32 => Ty::I32,
-        Width::W64 => Ty::I64,
-        Width::W128 => Ty::I128,
     }
 }
 

@@ -11,8 +11,8 @@ ghost use Rattle.clif_meaning.specs.Instructions.{instruction_of, known};
 ghost use Rattle.clif_meaning.specs.Meaning.{form_types, operation_types, sig_results};
 
 use clif_insts::{RawInst, RawOperands};
-use clif_lines::{WordNumbers, access, operation, type_of_width};
-use clif_words::Opcode;
+use clif_lines::{WordNumbers, access, operation};
+use clif_words::{Opcode, type_of_width};
 use clk_num::Op;
 use ir_core::{Access, Func, FuncRef, SigRef, Ty};
 

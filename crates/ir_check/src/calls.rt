@@ -1,26 +1,12 @@
 //! The signatures by which instructions call.
 ghost use Rattle.std.specs.Prelude.{◌≡◌, ◌<◌, length, slice_get, Some};
-ghost use Rattle.ir_core.specs.Lookup.{signature_number, signature_of, width_of};
+ghost use Rattle.ir_core.specs.Lookup.{signature_number, signature_of};
 ghost use Rattle.ir_core.specs.Module.{Direct};
 ghost use Rattle.ir_core.specs.Signatures.{same_conv};
 ghost use Rattle.ir_core.specs.declared.signatures.Conv.TheVariants.{Tail};
 ghost use Rattle.ir_core.specs.Sound.{IsSound};
 
-use clk_num::Width;
-use ir_core::{Conv, Func, FuncRef, Sig, SigRef, Ty};
-
-/// The width of a type.
-pub fn width(ty: Ty) -> Width
-    ensures { result ≡ width_of ty }
-{
-    match ty {
-        Ty::I8 => Width::W8,
-        Ty::I16 => Width::W16,
-        Ty::I32 => Width::W32,
-        Ty::I64 => Width::W64,
-        Ty::I128 => Width::W128,
-    }
-}
+use ir_core::{Conv, Func, FuncRef, Sig, SigRef};
 
 /// Whether a calling convention is `tail`.
 pub fn is_tail(conv: Conv) -> bool

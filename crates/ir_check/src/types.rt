@@ -12,21 +12,8 @@ ghost use Rattle.ir_check.specs.RowTypes.{widths_of_row};
 
 use crate::row_types::RowTypes;
 use avail_flow::target_at;
-use clk_num::Width;
+use clif_words::type_of_width;
 use ir_core::{Arg, BlockCall, Func, Inst, Param, Ty, Value};
-
-/// The type of a width.
-pub fn type_of_width(width: Width) -> Ty
-    ensures { result ≡ ty_of width }
-{
-    match width {
-        Width::W8 => Ty::I8,
-        Width::W16 => Ty::I16,
-        Width::W32 => Ty::I32,
-        Width::W64 => Ty::I64,
-        Width::W128 => Ty::I128,
-    }
-}
 
 /// Whether two types that may be left out are one.
 pub fn is_same_suffix(a: Option<Ty>, b: Option<Ty>) -> bool

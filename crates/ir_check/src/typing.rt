@@ -17,7 +17,7 @@ ghost use Rattle.ir_check.specs.RowTypes.{widths_of_row};
 ghost use Rattle.ir_check.specs.Twins.{have_types, is_type, simple_types, by_value, same_list, some_and, target_types};
 ghost use Rattle.ir_check.specs.Twins.{types};
 
-use crate::calls::{callee_sig, callee_sig_ref, named_sig, width};
+use crate::calls::{callee_sig, callee_sig_ref, named_sig};
 use crate::forms::{
     find_access_suffix, find_access_type, has_access_form, has_store_form, have_flags_form,
     is_in_range, is_same_width, takes_immediate,
@@ -25,8 +25,9 @@ use crate::forms::{
 use crate::row_types::{RowTypes, find_row_of_one, find_row_of_three, find_row_of_two};
 use crate::types::{
     has_one_type, has_row_types, has_target_types, have_param_types, have_target_types,
-    is_same_suffix, type_of_width,
+    is_same_suffix,
 };
+use clif_words::{type_of_width, width_of_type};
 use clk_num::{Bits, Op, Width};
 use ir_core::{Access, BlockCall, Flags, Func, Inst, InstData, Sig, SigRef, Ty, Value};
 use sig_numbers::FuncSigs;
@@ -48,13 +49,13 @@ fn find_row(func: &Func, op: Op, args: &[Value]) -> Option<RowTypes>
     ensures { widths_of_row result ≡ and_then (widths_of_values func.now.function args.now) (row op) }
 {
     match args {
-        [a] => find_row_of_one(op, width(func.ty(*a))),
-        [a, b] => find_row_of_two(op, width(func.ty(*a)), width(func.ty(*b))),
+        [a] => find_row_of_one(op, width_of_type(func.ty(*a))),
+        [a, b] => find_row_of_two(op, width_of_type(func.ty(*a)), width_of_type(func.ty(*b))),
         [a, b, c] => find_row_of_three(
             op,
-            width(func.ty(*a)),
-            width(func.ty(*b)),
-            width(func.ty(*c)),
+            width_of_type(func.ty(*a)),
+            width_of_type(func.ty(*b)),
+            width_of_type(func.ty(*c)),
         ),
         _ => None,
     }
@@ -95,11 +96,11 @@ fn immediate_has_types(func: &Func, added: &InstData, op: Op, arg: Value, imm: &
     takes_immediate(op)
         && is_in_range(imm)
         && (is_same_suffix(added.ty, Some(ty))
-            && is_same_width(imm.width(), width(ty))
+            && is_same_width(imm.width(), width_of_type(ty))
             && has_row_types(
                 func,
                 added.results.as_slice(),
-                find_row_of_two(op, width(ty), imm.width()),
+                find_row_of_two(op, width_of_type(ty), imm.width()),
             ))
 }
 

@@ -15,8 +15,8 @@ use crate::directives::{Directive, Expectation, LineCheck, LineTest, Wanted};
 use crate::names::spelled_name;
 use crate::places::PlacedComment;
 use crate::tests::{DirectiveErr, FunctionTests, RunTest};
-use clif_names::width;
 use clif_read::{RawFunction, RawParam};
+use clif_words::width_of_type;
 use clk_num::Bits;
 use host_script::Script;
 use indexmap::IndexMap;
@@ -37,7 +37,7 @@ pub(crate) struct Named<'r> {
 fn fits(param: &RawParam, number: i128) -> bool
     ensures { result ≡ is_some (value_for param.now.ty number) }
 {
-    Bits::fit(width(param.ty), number).is_some()
+    Bits::fit(width_of_type(param.ty), number).is_some()
 }
 
 /// Whether there are as many numbers as parameters or results, and each fits.

@@ -17,7 +17,7 @@ module _ (n : Numbering) where
       → ((x y : ℕ) → P (x ∷ y ∷ []) (form.Binary (raws.value n x) (raws.value n y)))
       → ((c : Cc) (x y : ℕ) → P (x ∷ y ∷ []) (form.Compare c (raws.value n x) (raws.value n y)))
       → ((c x y : ℕ) → P (c ∷ x ∷ y ∷ []) (form.Ternary (raws.value n c) (raws.value n x) (raws.value n y)))
-      → (o : Op) (vs : List ℕ) → P vs (raws.op_operands n o vs)
+      → (o : Op) (vs : List ℕ) → P vs (raws.value_operands n o vs)
   by_operands P none one two compare three (ops.Icmp c) [] = none []
   by_operands P none one two compare three (ops.Icmp c) (x ∷ []) = one x
   by_operands P none one two compare three (ops.Icmp c) (x ∷ y ∷ []) = compare c x y

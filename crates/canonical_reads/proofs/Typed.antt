@@ -67,7 +67,7 @@ module _ (f : Function) (n : Numbering) (next : ℕ) where
     binary k is (x ∷ y ∷ []) h some = left_out (k (x ∷ y ∷ [])) x (is x y) l.ty some
     binary k is (x ∷ y ∷ z ∷ more) h some = absurd (omega arith)
 
-    ternary : (vs : List ℕ) → length vs ≡ 3 → IsSome l.ty → AsksWithin next (given (shown (slice_get vs 1)) (raws.op_operands n ops.Select vs))
+    ternary : (vs : List ℕ) → length vs ≡ 3 → IsSome l.ty → AsksWithin next (given (shown (slice_get vs 1)) (raws.value_operands n ops.Select vs))
     ternary [] h some = absurd (omega arith)
     ternary (x ∷ []) h some = absurd (omega arith)
     ternary (x ∷ y ∷ []) h some = absurd (omega arith)
@@ -75,22 +75,22 @@ module _ (f : Function) (n : Numbering) (next : ℕ) where
     ternary (x ∷ y ∷ z ∷ v ∷ more) h some = absurd (omega arith)
 
     -- an operation whose suffix may be left out
-    plain : (o : Op) (vs : List ℕ) → conversion o ≡ None → length vs ≡ op_operands o → IsSome l.ty → AsksWithin next (given (shown (controlling o vs)) (raws.op_operands n o vs))
+    plain : (o : Op) (vs : List ℕ) → conversion o ≡ None → length vs ≡ op_operands o → IsSome l.ty → AsksWithin next (given (shown (controlling o vs)) (raws.value_operands n o vs))
     plain ops.Select vs c h some = ternary vs h some
-    plain ops.Ineg vs c h some = unary (raws.op_operands n ops.Ineg) (λ x. refl) vs h some
-    plain ops.Bnot vs c h some = unary (raws.op_operands n ops.Bnot) (λ x. refl) vs h some
-    plain ops.Iabs vs c h some = unary (raws.op_operands n ops.Iabs) (λ x. refl) vs h some
-    plain ops.Clz vs c h some = unary (raws.op_operands n ops.Clz) (λ x. refl) vs h some
-    plain ops.Ctz vs c h some = unary (raws.op_operands n ops.Ctz) (λ x. refl) vs h some
-    plain ops.Popcnt vs c h some = unary (raws.op_operands n ops.Popcnt) (λ x. refl) vs h some
-    plain ops.Bitrev vs c h some = unary (raws.op_operands n ops.Bitrev) (λ x. refl) vs h some
-    plain ops.Bswap vs c h some = unary (raws.op_operands n ops.Bswap) (λ x. refl) vs h some
-    plain ops.Isplit vs c h some = unary (raws.op_operands n ops.Isplit) (λ x. refl) vs h some
+    plain ops.Ineg vs c h some = unary (raws.value_operands n ops.Ineg) (λ x. refl) vs h some
+    plain ops.Bnot vs c h some = unary (raws.value_operands n ops.Bnot) (λ x. refl) vs h some
+    plain ops.Iabs vs c h some = unary (raws.value_operands n ops.Iabs) (λ x. refl) vs h some
+    plain ops.Clz vs c h some = unary (raws.value_operands n ops.Clz) (λ x. refl) vs h some
+    plain ops.Ctz vs c h some = unary (raws.value_operands n ops.Ctz) (λ x. refl) vs h some
+    plain ops.Popcnt vs c h some = unary (raws.value_operands n ops.Popcnt) (λ x. refl) vs h some
+    plain ops.Bitrev vs c h some = unary (raws.value_operands n ops.Bitrev) (λ x. refl) vs h some
+    plain ops.Bswap vs c h some = unary (raws.value_operands n ops.Bswap) (λ x. refl) vs h some
+    plain ops.Isplit vs c h some = unary (raws.value_operands n ops.Isplit) (λ x. refl) vs h some
     plain (ops.Uextend u) vs c h some = absurd cc
     plain (ops.Sextend u) vs c h some = absurd cc
     plain (ops.Ireduce u) vs c h some = absurd cc
-    plain (ops.Icmp code) vs c h some = binary (raws.op_operands n (ops.Icmp code)) (λ x y. refl) vs h some
-    plain o vs c h some = binary (raws.op_operands n o) (λ x y. refl) vs h some
+    plain (ops.Icmp code) vs c h some = binary (raws.value_operands n (ops.Icmp code)) (λ x y. refl) vs h some
+    plain o vs c h some = binary (raws.value_operands n o) (λ x y. refl) vs h some
 
     -- a conversion always has its suffix
     converted : (o : Op) (u : Width) (s : Option Ty) (x : RawOperands) → conversion o ≡ Some u → AsksWithin next (given (raws.op_suffix o s) x)
@@ -105,16 +105,16 @@ module _ (f : Function) (n : Numbering) (next : ℕ) where
     suffix_is (ops.Ireduce t) s c = absurd cc
     suffix_is _ s c = refl
 
-    pure : (o : Op) (vs : List ℕ) → length vs ≡ op_operands o → OpForm f l o (conversion o) → AsksWithin next (given (raws.op_suffix o (shown (controlling o vs))) (raws.op_operands n o vs))
+    pure : (o : Op) (vs : List ℕ) → length vs ≡ op_operands o → OpForm f l o (conversion o) → AsksWithin next (given (raws.op_suffix o (shown (controlling o vs))) (raws.value_operands n o vs))
     pure o vs h form = go (conversion o) refl form
       where
         some_type : (ty : Option Ty) (P : Ty → Type 0) → IsSomeAnd ty P → IsSome ty
         some_type None P k = absurd k
         some_type (Some t) P k = refl
 
-        go : (c : Option Width) → conversion o ≡ c → OpForm f l o c → AsksWithin next (given (raws.op_suffix o (shown (controlling o vs))) (raws.op_operands n o vs))
-        go None c form = subst (λ (s : Option Ty). AsksWithin next (given s (raws.op_operands n o vs))) (sym (suffix_is o (shown (controlling o vs)) c)) (plain o vs c h (some_type l.ty (λ t. ResultTypes f l.results (result_types o t)) form))
-        go (Some u) c form = converted o u (shown (controlling o vs)) (raws.op_operands n o vs) c
+        go : (c : Option Width) → conversion o ≡ c → OpForm f l o c → AsksWithin next (given (raws.op_suffix o (shown (controlling o vs))) (raws.value_operands n o vs))
+        go None c form = subst (λ (s : Option Ty). AsksWithin next (given s (raws.value_operands n o vs))) (sym (suffix_is o (shown (controlling o vs)) c)) (plain o vs c h (some_type l.ty (λ t. ResultTypes f l.results (result_types o t)) form))
+        go (Some u) c form = converted o u (shown (controlling o vs)) (raws.value_operands n o vs) c
 
     immediate : (o : Op) (x : ℕ) (d : DataValue) → IsSome l.ty → AsksWithin next (given (shown (Some x)) (raws.immediate_operands n o x d))
     immediate (ops.Icmp c) x d some = left_out (form.CompareImm c (raws.value n x) (raws.constant d)) x refl l.ty some

@@ -84,7 +84,7 @@ module _ (n : Numbering) (at : Renaming) where
     ternary_back is (c ∷ x ∷ y ∷ z ∷ more) h = absurd (omega arith)
 
   compare_back : (c : Cc) (t : Ty) (args : List ℕ) → length args ≡ 2
-      → says.instruction_of at ((raws.opcode (op_word (ops.Icmp c))).kind) t (raws.op_operands n (ops.Icmp c) args) ≡ insts.Plain (insts.Pure (ops.Icmp c) (map r.value args))
+      → says.instruction_of at ((raws.opcode (op_word (ops.Icmp c))).kind) t (raws.value_operands n (ops.Icmp c) args) ≡ insts.Plain (insts.Pure (ops.Icmp c) (map r.value args))
   compare_back c t [] h = absurd (omega arith)
   compare_back c t (x ∷ []) h = absurd (omega arith)
   compare_back c t (x ∷ y ∷ []) h = refl
@@ -95,46 +95,46 @@ module _ (n : Numbering) (at : Renaming) where
 
   pure_back : (o : Op) (t : Ty) (args : List ℕ) → length args ≡ op_operands o → ConversionType t (conversion o)
       → meaning t (raws.simple n None (insts.Pure o args)) ≡ insts.Plain (insts.Pure o (map r.value args))
-  pure_back ops.Iadd t args h k = binary_back ops.Iadd t refl (raws.op_operands n ops.Iadd) (λ x y. refl) args h
-  pure_back ops.Isub t args h k = binary_back ops.Isub t refl (raws.op_operands n ops.Isub) (λ x y. refl) args h
-  pure_back ops.Imul t args h k = binary_back ops.Imul t refl (raws.op_operands n ops.Imul) (λ x y. refl) args h
-  pure_back ops.Band t args h k = binary_back ops.Band t refl (raws.op_operands n ops.Band) (λ x y. refl) args h
-  pure_back ops.Bor t args h k = binary_back ops.Bor t refl (raws.op_operands n ops.Bor) (λ x y. refl) args h
-  pure_back ops.Bxor t args h k = binary_back ops.Bxor t refl (raws.op_operands n ops.Bxor) (λ x y. refl) args h
-  pure_back ops.Smin t args h k = binary_back ops.Smin t refl (raws.op_operands n ops.Smin) (λ x y. refl) args h
-  pure_back ops.Smax t args h k = binary_back ops.Smax t refl (raws.op_operands n ops.Smax) (λ x y. refl) args h
-  pure_back ops.Umin t args h k = binary_back ops.Umin t refl (raws.op_operands n ops.Umin) (λ x y. refl) args h
-  pure_back ops.Umax t args h k = binary_back ops.Umax t refl (raws.op_operands n ops.Umax) (λ x y. refl) args h
-  pure_back ops.Umulhi t args h k = binary_back ops.Umulhi t refl (raws.op_operands n ops.Umulhi) (λ x y. refl) args h
-  pure_back ops.Smulhi t args h k = binary_back ops.Smulhi t refl (raws.op_operands n ops.Smulhi) (λ x y. refl) args h
-  pure_back ops.Udiv t args h k = binary_back ops.Udiv t refl (raws.op_operands n ops.Udiv) (λ x y. refl) args h
-  pure_back ops.Urem t args h k = binary_back ops.Urem t refl (raws.op_operands n ops.Urem) (λ x y. refl) args h
-  pure_back ops.Sdiv t args h k = binary_back ops.Sdiv t refl (raws.op_operands n ops.Sdiv) (λ x y. refl) args h
-  pure_back ops.Srem t args h k = binary_back ops.Srem t refl (raws.op_operands n ops.Srem) (λ x y. refl) args h
-  pure_back ops.Ishl t args h k = binary_back ops.Ishl t refl (raws.op_operands n ops.Ishl) (λ x y. refl) args h
-  pure_back ops.Ushr t args h k = binary_back ops.Ushr t refl (raws.op_operands n ops.Ushr) (λ x y. refl) args h
-  pure_back ops.Sshr t args h k = binary_back ops.Sshr t refl (raws.op_operands n ops.Sshr) (λ x y. refl) args h
-  pure_back ops.Rotl t args h k = binary_back ops.Rotl t refl (raws.op_operands n ops.Rotl) (λ x y. refl) args h
-  pure_back ops.Rotr t args h k = binary_back ops.Rotr t refl (raws.op_operands n ops.Rotr) (λ x y. refl) args h
-  pure_back ops.UaddOverflow t args h k = binary_back ops.UaddOverflow t refl (raws.op_operands n ops.UaddOverflow) (λ x y. refl) args h
-  pure_back ops.SaddOverflow t args h k = binary_back ops.SaddOverflow t refl (raws.op_operands n ops.SaddOverflow) (λ x y. refl) args h
-  pure_back ops.UsubOverflow t args h k = binary_back ops.UsubOverflow t refl (raws.op_operands n ops.UsubOverflow) (λ x y. refl) args h
-  pure_back ops.SsubOverflow t args h k = binary_back ops.SsubOverflow t refl (raws.op_operands n ops.SsubOverflow) (λ x y. refl) args h
-  pure_back ops.Iconcat t args h k = binary_back ops.Iconcat t refl (raws.op_operands n ops.Iconcat) (λ x y. refl) args h
-  pure_back ops.Ineg t args h k = unary_back ops.Ineg t refl (raws.op_operands n ops.Ineg) (λ x. refl) args h
-  pure_back ops.Bnot t args h k = unary_back ops.Bnot t refl (raws.op_operands n ops.Bnot) (λ x. refl) args h
-  pure_back ops.Iabs t args h k = unary_back ops.Iabs t refl (raws.op_operands n ops.Iabs) (λ x. refl) args h
-  pure_back ops.Clz t args h k = unary_back ops.Clz t refl (raws.op_operands n ops.Clz) (λ x. refl) args h
-  pure_back ops.Ctz t args h k = unary_back ops.Ctz t refl (raws.op_operands n ops.Ctz) (λ x. refl) args h
-  pure_back ops.Popcnt t args h k = unary_back ops.Popcnt t refl (raws.op_operands n ops.Popcnt) (λ x. refl) args h
-  pure_back ops.Bitrev t args h k = unary_back ops.Bitrev t refl (raws.op_operands n ops.Bitrev) (λ x. refl) args h
-  pure_back ops.Bswap t args h k = unary_back ops.Bswap t refl (raws.op_operands n ops.Bswap) (λ x. refl) args h
-  pure_back ops.Isplit t args h k = unary_back ops.Isplit t refl (raws.op_operands n ops.Isplit) (λ x. refl) args h
-  pure_back ops.Select t args h k = ternary_back ops.Select t refl (raws.op_operands n ops.Select) (λ c x y. refl) args h
+  pure_back ops.Iadd t args h k = binary_back ops.Iadd t refl (raws.value_operands n ops.Iadd) (λ x y. refl) args h
+  pure_back ops.Isub t args h k = binary_back ops.Isub t refl (raws.value_operands n ops.Isub) (λ x y. refl) args h
+  pure_back ops.Imul t args h k = binary_back ops.Imul t refl (raws.value_operands n ops.Imul) (λ x y. refl) args h
+  pure_back ops.Band t args h k = binary_back ops.Band t refl (raws.value_operands n ops.Band) (λ x y. refl) args h
+  pure_back ops.Bor t args h k = binary_back ops.Bor t refl (raws.value_operands n ops.Bor) (λ x y. refl) args h
+  pure_back ops.Bxor t args h k = binary_back ops.Bxor t refl (raws.value_operands n ops.Bxor) (λ x y. refl) args h
+  pure_back ops.Smin t args h k = binary_back ops.Smin t refl (raws.value_operands n ops.Smin) (λ x y. refl) args h
+  pure_back ops.Smax t args h k = binary_back ops.Smax t refl (raws.value_operands n ops.Smax) (λ x y. refl) args h
+  pure_back ops.Umin t args h k = binary_back ops.Umin t refl (raws.value_operands n ops.Umin) (λ x y. refl) args h
+  pure_back ops.Umax t args h k = binary_back ops.Umax t refl (raws.value_operands n ops.Umax) (λ x y. refl) args h
+  pure_back ops.Umulhi t args h k = binary_back ops.Umulhi t refl (raws.value_operands n ops.Umulhi) (λ x y. refl) args h
+  pure_back ops.Smulhi t args h k = binary_back ops.Smulhi t refl (raws.value_operands n ops.Smulhi) (λ x y. refl) args h
+  pure_back ops.Udiv t args h k = binary_back ops.Udiv t refl (raws.value_operands n ops.Udiv) (λ x y. refl) args h
+  pure_back ops.Urem t args h k = binary_back ops.Urem t refl (raws.value_operands n ops.Urem) (λ x y. refl) args h
+  pure_back ops.Sdiv t args h k = binary_back ops.Sdiv t refl (raws.value_operands n ops.Sdiv) (λ x y. refl) args h
+  pure_back ops.Srem t args h k = binary_back ops.Srem t refl (raws.value_operands n ops.Srem) (λ x y. refl) args h
+  pure_back ops.Ishl t args h k = binary_back ops.Ishl t refl (raws.value_operands n ops.Ishl) (λ x y. refl) args h
+  pure_back ops.Ushr t args h k = binary_back ops.Ushr t refl (raws.value_operands n ops.Ushr) (λ x y. refl) args h
+  pure_back ops.Sshr t args h k = binary_back ops.Sshr t refl (raws.value_operands n ops.Sshr) (λ x y. refl) args h
+  pure_back ops.Rotl t args h k = binary_back ops.Rotl t refl (raws.value_operands n ops.Rotl) (λ x y. refl) args h
+  pure_back ops.Rotr t args h k = binary_back ops.Rotr t refl (raws.value_operands n ops.Rotr) (λ x y. refl) args h
+  pure_back ops.UaddOverflow t args h k = binary_back ops.UaddOverflow t refl (raws.value_operands n ops.UaddOverflow) (λ x y. refl) args h
+  pure_back ops.SaddOverflow t args h k = binary_back ops.SaddOverflow t refl (raws.value_operands n ops.SaddOverflow) (λ x y. refl) args h
+  pure_back ops.UsubOverflow t args h k = binary_back ops.UsubOverflow t refl (raws.value_operands n ops.UsubOverflow) (λ x y. refl) args h
+  pure_back ops.SsubOverflow t args h k = binary_back ops.SsubOverflow t refl (raws.value_operands n ops.SsubOverflow) (λ x y. refl) args h
+  pure_back ops.Iconcat t args h k = binary_back ops.Iconcat t refl (raws.value_operands n ops.Iconcat) (λ x y. refl) args h
+  pure_back ops.Ineg t args h k = unary_back ops.Ineg t refl (raws.value_operands n ops.Ineg) (λ x. refl) args h
+  pure_back ops.Bnot t args h k = unary_back ops.Bnot t refl (raws.value_operands n ops.Bnot) (λ x. refl) args h
+  pure_back ops.Iabs t args h k = unary_back ops.Iabs t refl (raws.value_operands n ops.Iabs) (λ x. refl) args h
+  pure_back ops.Clz t args h k = unary_back ops.Clz t refl (raws.value_operands n ops.Clz) (λ x. refl) args h
+  pure_back ops.Ctz t args h k = unary_back ops.Ctz t refl (raws.value_operands n ops.Ctz) (λ x. refl) args h
+  pure_back ops.Popcnt t args h k = unary_back ops.Popcnt t refl (raws.value_operands n ops.Popcnt) (λ x. refl) args h
+  pure_back ops.Bitrev t args h k = unary_back ops.Bitrev t refl (raws.value_operands n ops.Bitrev) (λ x. refl) args h
+  pure_back ops.Bswap t args h k = unary_back ops.Bswap t refl (raws.value_operands n ops.Bswap) (λ x. refl) args h
+  pure_back ops.Isplit t args h k = unary_back ops.Isplit t refl (raws.value_operands n ops.Isplit) (λ x. refl) args h
+  pure_back ops.Select t args h k = ternary_back ops.Select t refl (raws.value_operands n ops.Select) (λ c x y. refl) args h
   pure_back (ops.Icmp c) t args h k = compare_back c t args h
-  pure_back (ops.Uextend w) t args h k = unary_back (ops.Uextend w) t (converts t w ops.Uextend k) (raws.op_operands n (ops.Uextend w)) (λ x. refl) args h
-  pure_back (ops.Sextend w) t args h k = unary_back (ops.Sextend w) t (converts t w ops.Sextend k) (raws.op_operands n (ops.Sextend w)) (λ x. refl) args h
-  pure_back (ops.Ireduce w) t args h k = unary_back (ops.Ireduce w) t (converts t w ops.Ireduce k) (raws.op_operands n (ops.Ireduce w)) (λ x. refl) args h
+  pure_back (ops.Uextend w) t args h k = unary_back (ops.Uextend w) t (converts t w ops.Uextend k) (raws.value_operands n (ops.Uextend w)) (λ x. refl) args h
+  pure_back (ops.Sextend w) t args h k = unary_back (ops.Sextend w) t (converts t w ops.Sextend k) (raws.value_operands n (ops.Sextend w)) (λ x. refl) args h
+  pure_back (ops.Ireduce w) t args h k = unary_back (ops.Ireduce w) t (converts t w ops.Ireduce k) (raws.value_operands n (ops.Ireduce w)) (λ x. refl) args h
 
   -- ---- immediates
 

@@ -179,12 +179,12 @@ module _ (n : Numbering) where
   entry e = record { tag = entry_tag e.tag; target = target e.target }
 
   -- the operands of an operation on values, by their number
-  abbrev pub op_operands : Op → List ℕ → RawOperands
-  op_operands (Icmp cc) (x ∷ y ∷ []) = operands.Compare cc (value x) (value y)
-  op_operands op (x ∷ []) = operands.Unary (value x)
-  op_operands op (x ∷ y ∷ []) = operands.Binary (value x) (value y)
-  op_operands op (c ∷ x ∷ y ∷ []) = operands.Ternary (value c) (value x) (value y)
-  op_operands op others = operands.Nullary
+  abbrev pub value_operands : Op → List ℕ → RawOperands
+  value_operands (Icmp cc) (x ∷ y ∷ []) = operands.Compare cc (value x) (value y)
+  value_operands op (x ∷ []) = operands.Unary (value x)
+  value_operands op (x ∷ y ∷ []) = operands.Binary (value x) (value y)
+  value_operands op (c ∷ x ∷ y ∷ []) = operands.Ternary (value c) (value x) (value y)
+  value_operands op others = operands.Nullary
 
   abbrev pub immediate_operands : Op → ℕ → DataValue → RawOperands
   immediate_operands (Icmp cc) x d = operands.CompareImm cc (value x) (constant d)
@@ -228,7 +228,7 @@ module _ (n : Numbering) where
   abbrev pub simple : Option Ty → Simple → RawInst
   simple s Nop = raw (opcode (codes "nop")) None operands.Nullary
   simple s (Const d) = raw (opcode (codes "iconst")) (Some (ty_of d.width)) (operands.Number (constant d))
-  simple s (Pure op args) = raw (opcode (op_word op)) (op_suffix op s) (op_operands n op args)
+  simple s (Pure op args) = raw (opcode (op_word op)) (op_suffix op s) (value_operands n op args)
   simple s (PureImm op x d) = raw (opcode (op_word op ++ codes "_imm")) s (immediate_operands n op x d)
   simple s (Load from f p o) =
       raw (opcode (load_word from)) (load_suffix s from) (operands.Load (flags f) (value n p) (offset o))

@@ -8,12 +8,12 @@ use std::marker::Model;
 /// A stack of numbers. None or one take no memory but the stack's own.
 #[derive(Drop)]
 pub(crate) struct Stack {
-    kept: Kept,
+    storage: Storage,
     alloc: Global,
 }
 
 #[derive(Drop)]
-enum Kept {
+enum Storage {
     None,
     One(usize),
     /// The topmost last.
@@ -26,7 +26,7 @@ impl Model for Stack {
 
     ghost Value = { List ℕ };
 
-    ghost view = { λ s. stacked s.kept };
+    ghost view = { λ s. stacked s.storage };
 }
 
 impl Stack {
@@ -35,7 +35,7 @@ impl Stack {
         ensures { result ≡ [] }
     {
         Stack {
-            kept: Kept::None,
+            storage: Storage::None,
             alloc,
         }
     }
@@ -43,10 +43,10 @@ impl Stack {
     pub(crate) fn push(&mut self, item: usize) -> Result<(), AllocError>
         ensures { OnOk result (self.new ≡ item ∷ self.old) }
     {
-        match &mut self.kept {
-            Kept::None => self.kept = Kept::One(item),
-            Kept::One(below) => self.kept = Kept::Many(two(self.alloc, *below, item)?),
-            Kept::Many(items) => items.push(item)?,
+        match &mut self.storage {
+            Storage::None => self.storage = Storage::One(item),
+            Storage::One(below) => self.storage = Storage::Many(two(self.alloc, *below, item)?),
+            Storage::Many(items) => items.push(item)?,
         }
         Ok(())
     }
@@ -54,10 +54,10 @@ impl Stack {
     pub(crate) fn top(&self) -> Option<usize>
         ensures { result ≡ slice_get self.now 0 }
     {
-        match &self.kept {
-            Kept::None => None,
-            Kept::One(item) => Some(*item),
-            Kept::Many(items) => items.last().copied(),
+        match &self.storage {
+            Storage::None => None,
+            Storage::One(item) => Some(*item),
+            Storage::Many(items) => items.last().copied(),
         }
     }
 
@@ -65,14 +65,14 @@ impl Stack {
         ensures top { result ≡ slice_get self.old 0 }
         ensures rest { self.new ≡ tail_of self.old }
     {
-        match &mut self.kept {
-            Kept::None => None,
-            Kept::One(item) => {
+        match &mut self.storage {
+            Storage::None => None,
+            Storage::One(item) => {
                 let item = *item;
-                self.kept = Kept::None;
+                self.storage = Storage::None;
                 Some(item)
             }
-            Kept::Many(items) => items.pop(),
+            Storage::Many(items) => items.pop(),
         }
     }
 

@@ -131,18 +131,18 @@ pub record Alone (ts : List Lexeme) : Type 0 where
   pub starts : Starts return_alone ts
   pub read : one_at ts ≡ Ok (raw (opcode first) None (operands.Return []), rest)
 
-pub record Whole (ts : List Lexeme) : Type 0 where
+pub record NotAlone (ts : List Lexeme) : Type 0 where
   pub starts_not : Starts return_alone ts → ⊥
   pub read : one_at ts ≡ whole_at ts
 
-no_return : (ts : List Lexeme) → next_is classes.Return ts ≡ false → Whole ts
+no_return : (ts : List Lexeme) → next_is classes.Return ts ≡ false → NotAlone ts
 unfolding one_at
 no_return ts h = record {
   starts_not = starts_err ts (Syntax, ts) (ap (λ (z : Out RawName). z >>= λ o. behind_at o.1) (misses_name classes.Return ts h));
   read = rw h (sym (whole_by ts ∙ rw h refl));
 }
 
-with_return : (x : Lexeme) (xs : List Lexeme) → next_is classes.Return (x ∷ xs) ≡ true → Decided xs → Alone (x ∷ xs) ⊎ Whole (x ∷ xs)
+with_return : (x : Lexeme) (xs : List Lexeme) → next_is classes.Return (x ∷ xs) ≡ true → Decided xs → Alone (x ∷ xs) ⊎ NotAlone (x ∷ xs)
 unfolding one_at return_line_at return_values_at opcode_at
 with_return x xs h d =
     let takes : name_at classes.Return (x ∷ xs) ≡ Ok (name x, xs) = takes_name classes.Return (x ∷ xs) h (name x) xs (λ y ys e. ap name (let f : x ≡ y = cc in f)) refl in
@@ -169,10 +169,10 @@ with_return x xs h d =
         go false e h = absurd (let f : false ≡ true = rw e at h in cc)
 
 -- an instruction is a `return` alone, or is read as the grammar says
-pub alone_or_whole : (ts : List Lexeme) → Alone ts ⊎ Whole ts
-alone_or_whole [] = inr (no_return [] refl)
-alone_or_whole (x ∷ xs) = go (next_is classes.Return (x ∷ xs)) refl
+pub alone_or_not : (ts : List Lexeme) → Alone ts ⊎ NotAlone ts
+alone_or_not [] = inr (no_return [] refl)
+alone_or_not (x ∷ xs) = go (next_is classes.Return (x ∷ xs)) refl
   where
-    go : (b : Bool) → next_is classes.Return (x ∷ xs) ≡ b → Alone (x ∷ xs) ⊎ Whole (x ∷ xs)
+    go : (b : Bool) → next_is classes.Return (x ∷ xs) ≡ b → Alone (x ∷ xs) ⊎ NotAlone (x ∷ xs)
     go true h = with_return x xs h (decide xs)
     go false h = inr (no_return (x ∷ xs) h)

@@ -21,7 +21,7 @@ use Rattle.clif_insts.specs.Forms.{opt_values_at, return_values_at, whole_at, on
 use Rattle.clif_insts.specs.Insts.{Own, NoMore, place_behind, Found, Missing, Stopped, error_at}
 use Rattle.clif_insts.proofs.Firm.{no_text}
 use Rattle.clif_insts.proofs.InstLaws.{whole_is}
-use Rattle.clif_insts.proofs.Alone.{Alone, alone_or_whole}
+use Rattle.clif_insts.proofs.Alone.{Alone, alone_or_not}
 
 -- ---- reading by the grammar's value
 
@@ -98,7 +98,7 @@ says_alone ts place a (Ok (v, left)) x rest all own h s =
 
 pub says : (ts : List Lexeme) (place : List Lexeme → ℕ) → Says ts place (one_at ts)
 says ts place =
-    elim (alone_or_whole ts) [
+    elim (alone_or_not ts) [
       | inl a ↦ subst (Says ts place) (sym a.read) (
           let own : Own ts (a.first ∷ []) = inl (a.starts, sym (ap (take 1) a.all)) in
           let s : seen whole_value (read whole_inst (a.first ∷ [])) ≡ Ok (raw (opcode a.first) None (operands.Return []), []) = sym (whole_is.same (a.first ∷ [])) ∙ return_only a.first a.is_return in

@@ -5,6 +5,7 @@ use Rattle.std.proofs.lemmas.List.{append-nil}
 use Rattle.std.proofs.lemmas.List.Sums.{sum_by-cons}
 use Rattle.grammar.specs.Rules.{Lexeme, Rule, Opt, Tree, Derives, Begins}
 use Rattle.grammar.proofs.Past.{derives_begins}
+use Rattle.grammar.proofs.Same.{HasTree}
 use Rattle.clif_words.specs.Terminals.{◌then◌, ◌or◌, ext}
 use Rattle.token_reader.specs.Values.{◌otherwise◌, perhaps}
 use Rattle.clif_read.specs.declared.raw.RawAttribute.{RawAttribute}
@@ -135,35 +136,32 @@ to_rule ts (inr q ∷ inl x ∷ inr r ∷ more) d most =
 
 -- ---- beginnings
 
-abbrev Whole : Rule → List Lexeme → Type 0
-Whole r ts = (v : Tree r) × Derives r ts v
-
-purpose_begun : (ts : List Lexeme) → Begins purpose ts → (ts ≡ []) ⊎ Whole purpose ts
+purpose_begun : (ts : List Lexeme) → Begins purpose ts → (ts ≡ []) ⊎ HasTree purpose ts
 purpose_begun ts (inl (inl e)) = inl e
 purpose_begun ts (inl (inr h)) = inr (inl h.0, (h.1, h.2))
 purpose_begun ts (inr (inl e)) = inl e
 purpose_begun ts (inr (inr h)) = inr (inr h.0, (h.1, h.2))
 
-ext_begun : (ts : List Lexeme) → Begins ext ts → (ts ≡ []) ⊎ Whole ext ts
+ext_begun : (ts : List Lexeme) → Begins ext ts → (ts ≡ []) ⊎ HasTree ext ts
 ext_begun ts (inl e) = inl e
 ext_begun ts (inr h) = inr (h.0, (h.1, h.2))
 
 -- of two, the first alone, or both
-first_alone : (a b : Rule) (ts : List Lexeme) → Whole a ts → Whole (a then Opt b) ts
+first_alone : (a b : Rule) (ts : List Lexeme) → HasTree a ts → HasTree (a then Opt b) ts
 first_alone a b ts h = ((h.0, None), (ts, [], sym (append-nil ts), (h.1, refl)))
 
-both_there : (a b : Rule) (ts us ws : List Lexeme) → ts ≡ us ++ ws → Whole a us → (ws ≡ []) ⊎ Whole b ws → Whole (a then Opt b) ts
+both_there : (a b : Rule) (ts us ws : List Lexeme) → ts ≡ us ++ ws → HasTree a us → (ws ≡ []) ⊎ HasTree b ws → HasTree (a then Opt b) ts
 both_there a b ts us ws e h (inl n) = ((h.0, None), (us, ws, e, (h.1, n)))
 both_there a b ts us ws e h (inr k) = ((h.0, Some k.0), (us, ws, e, (h.1, k.1)))
 
-two_begun : (a b : Rule) → ((ts : List Lexeme) → Begins a ts → (ts ≡ []) ⊎ Whole a ts) → ((ts : List Lexeme) → Begins b ts → (ts ≡ []) ⊎ Whole b ts)
-    → (ts : List Lexeme) → Begins (a then Opt b) ts → (ts ≡ []) ⊎ Whole (a then Opt b) ts
+two_begun : (a b : Rule) → ((ts : List Lexeme) → Begins a ts → (ts ≡ []) ⊎ HasTree a ts) → ((ts : List Lexeme) → Begins b ts → (ts ≡ []) ⊎ HasTree b ts)
+    → (ts : List Lexeme) → Begins (a then Opt b) ts → (ts ≡ []) ⊎ HasTree (a then Opt b) ts
 two_begun a b f g ts (inl h) = elim (f ts h) [ inl e ↦ inl e | inr k ↦ inr (first_alone a b ts k) ]
 two_begun a b f g ts (inr (us, ws, e, (h, inl n))) = inr (both_there a b ts us ws e h (inl n))
 two_begun a b f g ts (inr (us, ws, e, (h, inr k))) = inr (both_there a b ts us ws e h (g ws k))
 
 -- what begins attributes is attributes
-begun_whole : (ts : List Lexeme) → Begins attributes ts → Whole attributes ts
+begun_whole : (ts : List Lexeme) → Begins attributes ts → HasTree attributes ts
 begun_whole ts (inl e) = (None, e)
 begun_whole ts (inr (inl h)) = elim (two_begun ext purpose ext_begun purpose_begun ts h) [ inl e ↦ (None, e) | inr k ↦ (Some (inl k.0), k.1) ]
 begun_whole ts (inr (inr h)) = elim (two_begun purpose ext purpose_begun ext_begun ts h) [ inl e ↦ (None, e) | inr k ↦ (Some (inr k.0), k.1) ]
@@ -177,7 +175,7 @@ begun_to_letter ts h =
 
 -- texts of a rule are single tokens
 abbrev OneToken : Rule → Type 0
-OneToken r = (ts : List Lexeme) → Whole r ts → (x : Lexeme) × (ts ≡ x ∷ [])
+OneToken r = (ts : List Lexeme) → HasTree r ts → (x : Lexeme) × (ts ≡ x ∷ [])
 
 ext_one : OneToken ext
 ext_one ts h = (h.0, h.1.0)
@@ -190,7 +188,7 @@ none_before : (ts more : List Lexeme) → ts ++ more ≡ [] → ts ≡ []
 none_before [] more e = refl
 none_before (t ∷ ts) more e = absurd cc
 
-rest_begun : (b : Rule) → OneToken b → (rest more ws : List Lexeme) → rest ++ more ≡ ws → (ws ≡ []) ⊎ Whole b ws → (rest ≡ []) ⊎ Begins b rest
+rest_begun : (b : Rule) → OneToken b → (rest more ws : List Lexeme) → rest ++ more ≡ ws → (ws ≡ []) ⊎ HasTree b ws → (rest ≡ []) ⊎ Begins b rest
 rest_begun b one [] more ws e h = inl refl
 rest_begun b one (r ∷ rest) more ws e (inl n) = absurd (let k : r ∷ (rest ++ more) ≡ [] = e ∙ n in cc)
 rest_begun b one (r ∷ rest) more ws e (inr k) =
@@ -201,11 +199,11 @@ rest_begun b one (r ∷ rest) more ws e (inr k) =
     let whole : ws ≡ r ∷ rest = y.1 ∙ sym (rw (front, none_before rest more behind) refl) in
     inr (subst (Begins b) whole (derives_begins b ws k.0 k.1))
 
-may_be : (b : Rule) (ws : List Lexeme) (w : Tree (Opt b)) → Derives (Opt b) ws w → (ws ≡ []) ⊎ Whole b ws
+may_be : (b : Rule) (ws : List Lexeme) (w : Tree (Opt b)) → Derives (Opt b) ws w → (ws ≡ []) ⊎ HasTree b ws
 may_be b ws None d = inl d
 may_be b ws (Some w) d = inr (w, d)
 
-prefix_begun : (a b : Rule) → OneToken a → OneToken b → Begins a [] → (ts more : List Lexeme) → Whole (a then Opt b) (ts ++ more) → Begins (a then Opt b) ts
+prefix_begun : (a b : Rule) → OneToken a → OneToken b → Begins a [] → (ts more : List Lexeme) → HasTree (a then Opt b) (ts ++ more) → Begins (a then Opt b) ts
 prefix_begun a b one two none [] more h = inl none
 prefix_begun a b one two none (t ∷ ts) more ((v, w), (us, ws, e, (d, m))) =
     let x = one us (v, d) in

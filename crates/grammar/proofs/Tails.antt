@@ -8,7 +8,7 @@ use Rattle.grammar.proofs.Binds.{regroup}
 use Rattle.grammar.proofs.Exactness.{front}
 use Rattle.grammar.proofs.Past.{derives_begins}
 use Rattle.grammar.proofs.Chains.{ends-append}
-use Rattle.grammar.proofs.Same.{Whole, Splits, SplitsBegun}
+use Rattle.grammar.proofs.Same.{HasTree, Splits, SplitsBegun}
 
 neither : (a b : Bool) → (a || b) ≡ false → (a ≡ false) × (b ≡ false)
 neither true b h = absurd cc
@@ -62,7 +62,7 @@ quiet c (Many a) m us vs d = quiet_each c a (quiet c a m) us vs d
 quiet c (Refuse cs k) m us v d = absurd d
 quiet c (Chain d a b) m us v h = absurd cc
 
-not_empty : (r : Rule) → nullable r ≡ false → (us : List Lexeme) → Whole r us → us ≡ [] → {A : Type 0} → A
+not_empty : (r : Rule) → nullable r ≡ false → (us : List Lexeme) → HasTree r us → us ≡ [] → {A : Type 0} → A
 not_empty r n us h e =
     elim (front r us h.0 h.1) [
       | inl y ↦ absurd (let k = y.1 in cc)
@@ -70,20 +70,20 @@ not_empty r n us h e =
     ]
 
 -- a text that isn't empty ends alike whatever stands before it
-pub solid : (c : ℕ) (r : Rule) → nullable r ≡ false → (us : List Lexeme) (f : Bool) → Whole r us → ends c f us ≡ ends c false us
+pub solid : (c : ℕ) (r : Rule) → nullable r ≡ false → (us : List Lexeme) (f : Bool) → HasTree r us → ends c f us ≡ ends c false us
 solid c r n [] f h = not_empty r n [] h refl
 solid c r n (x ∷ xs) f h = refl
 
 -- n is a, but a w may stand behind an a that ends with the token c
 pub record Tail (c : ℕ) (n a w : Rule) : Type 0 where
-  pub split : (ts : List Lexeme) → Whole n ts → Whole a ts ⊎ Cut ts (λ us vs. Whole a us × ((f : Bool) → ends c f us ≡ true) × Whole w vs)
-  pub alone : (ts : List Lexeme) → Whole a ts → Whole n ts
-  pub joined : (us vs : List Lexeme) → Whole a us → ends c false us ≡ true → Whole w vs → Whole n (us ++ vs)
-  pub split_b : (ts : List Lexeme) → Begins n ts → Begins a ts ⊎ Cut ts (λ us vs. Whole a us × ((f : Bool) → ends c f us ≡ true) × Begins w vs)
+  pub split : (ts : List Lexeme) → HasTree n ts → HasTree a ts ⊎ Cut ts (λ us vs. HasTree a us × ((f : Bool) → ends c f us ≡ true) × HasTree w vs)
+  pub alone : (ts : List Lexeme) → HasTree a ts → HasTree n ts
+  pub joined : (us vs : List Lexeme) → HasTree a us → ends c false us ≡ true → HasTree w vs → HasTree n (us ++ vs)
+  pub split_b : (ts : List Lexeme) → Begins n ts → Begins a ts ⊎ Cut ts (λ us vs. HasTree a us × ((f : Bool) → ends c f us ≡ true) × Begins w vs)
   pub alone_b : (ts : List Lexeme) → Begins a ts → Begins n ts
-  pub joined_b : (us vs : List Lexeme) → Whole a us → ends c false us ≡ true → Begins w vs → Begins n (us ++ vs)
+  pub joined_b : (us vs : List Lexeme) → HasTree a us → ends c false us ≡ true → Begins w vs → Begins n (us ++ vs)
 
-never : (c : ℕ) (a : Rule) → may_end c a ≡ false → nullable a ≡ false → (us : List Lexeme) → Whole a us → ends c false us ≡ true → {A : Type 0} → A
+never : (c : ℕ) (a : Rule) → may_end c a ≡ false → nullable a ≡ false → (us : List Lexeme) → HasTree a us → ends c false us ≡ true → {A : Type 0} → A
 never c a m n us h e =
     elim (quiet c a m us h.0 h.1) [
       | inl z ↦ not_empty a n us h z
@@ -116,13 +116,13 @@ tail_end c w = record {
 }
   where
     End : (List Lexeme → Type 0) → List Lexeme → Type 0
-    End P ts = Cut ts (λ us vs. Whole (Tok c) us × ((f : Bool) → ends c f us ≡ true) × P vs)
+    End P ts = Cut ts (λ us vs. HasTree (Tok c) us × ((f : Bool) → ends c f us ≡ true) × P vs)
 
-    whole : (ts : List Lexeme) (x : Lexeme) (o : Option (Tree w)) → Derives (Seq (Tok c) (Opt w)) ts (x, o) → Whole (Tok c) ts ⊎ Cut ts (λ us vs. Whole (Tok c) us × ((f : Bool) → ends c f us ≡ true) × Whole w vs)
+    whole : (ts : List Lexeme) (x : Lexeme) (o : Option (Tree w)) → Derives (Seq (Tok c) (Opt w)) ts (x, o) → HasTree (Tok c) ts ⊎ Cut ts (λ us vs. HasTree (Tok c) us × ((f : Bool) → ends c f us ≡ true) × HasTree w vs)
     whole ts x None d = inl (x, (let e : ts ≡ d.0 = d.2 ∙ ap (λ (l : List Lexeme). d.0 ++ l) d.3.1 ∙ append-nil d.0 in (e ∙ d.3.0.0, d.3.0.1)))
     whole ts x (Some v) d = inr (d.0, d.1, d.2, ((x, d.3.0), tok_ends c d.0 x d.3.0, (v, d.3.1)))
 
-    begun : (ts : List Lexeme) → Cut ts (λ us ws. ((v : Lexeme) × Derives (Tok c) us v) × ((ws ≡ []) ⊎ Begins w ws)) → Begins (Tok c) ts ⊎ Cut ts (λ us vs. Whole (Tok c) us × ((f : Bool) → ends c f us ≡ true) × Begins w vs)
+    begun : (ts : List Lexeme) → Cut ts (λ us ws. ((v : Lexeme) × Derives (Tok c) us v) × ((ws ≡ []) ⊎ Begins w ws)) → Begins (Tok c) ts ⊎ Cut ts (λ us vs. HasTree (Tok c) us × ((f : Bool) → ends c f us ≡ true) × Begins w vs)
     begun ts h =
         elim h.3.1 [
           | inl z ↦ (let e : ts ≡ h.0 = h.2 ∙ ap (λ (l : List Lexeme). h.0 ++ l) z ∙ append-nil h.0 in inl (subst (Begins (Tok c)) (sym e) (derives_begins (Tok c) h.0 h.3.0.0 h.3.0.1)))
@@ -142,15 +142,15 @@ tail_alt c n1 a1 n2 a2 w s t = record {
   joined_b = λ us vs h e k. both_b us vs h.0 h.1 e k;
 }
   where
-    whole : (ts : List Lexeme) (v : Tree n1 ⊎ Tree n2) → Derives (Alt n1 n2) ts v → Whole (Alt a1 a2) ts ⊎ Cut ts (λ us vs. Whole (Alt a1 a2) us × ((f : Bool) → ends c f us ≡ true) × Whole w vs)
+    whole : (ts : List Lexeme) (v : Tree n1 ⊎ Tree n2) → Derives (Alt n1 n2) ts v → HasTree (Alt a1 a2) ts ⊎ Cut ts (λ us vs. HasTree (Alt a1 a2) us × ((f : Bool) → ends c f us ≡ true) × HasTree w vs)
     whole ts (inl v) d = elim (s.split ts (v, d)) [ inl k ↦ inl (inl k.0, k.1) | inr k ↦ inr (k.0, k.1, k.2, ((inl k.3.0.0, k.3.0.1), k.3.1, k.3.2)) ]
     whole ts (inr v) d = elim (t.split ts (v, d)) [ inl k ↦ inl (inr k.0, k.1) | inr k ↦ inr (k.0, k.1, k.2, ((inr k.3.0.0, k.3.0.1), k.3.1, k.3.2)) ]
 
-    only : (ts : List Lexeme) (v : Tree a1 ⊎ Tree a2) → Derives (Alt a1 a2) ts v → Whole (Alt n1 n2) ts
+    only : (ts : List Lexeme) (v : Tree a1 ⊎ Tree a2) → Derives (Alt a1 a2) ts v → HasTree (Alt n1 n2) ts
     only ts (inl v) d = let k = s.alone ts (v, d) in (inl k.0, k.1)
     only ts (inr v) d = let k = t.alone ts (v, d) in (inr k.0, k.1)
 
-    both : (us vs : List Lexeme) (v : Tree a1 ⊎ Tree a2) → Derives (Alt a1 a2) us v → ends c false us ≡ true → Whole w vs → Whole (Alt n1 n2) (us ++ vs)
+    both : (us vs : List Lexeme) (v : Tree a1 ⊎ Tree a2) → Derives (Alt a1 a2) us v → ends c false us ≡ true → HasTree w vs → HasTree (Alt n1 n2) (us ++ vs)
     both us vs (inl v) d e k = let j = s.joined us vs (v, d) e k in (inl j.0, j.1)
     both us vs (inr v) d e k = let j = t.joined us vs (v, d) e k in (inr j.0, j.1)
 
@@ -181,15 +181,15 @@ tail_seq c p n a w some t = record {
     nearer : (us u1 u2 vs : List Lexeme) → us ≡ u1 ++ u2 → us ++ vs ≡ u1 ++ (u2 ++ vs)
     nearer us u1 u2 vs e = ap (λ (l : List Lexeme). l ++ vs) e ∙ append_assoc u1 u2 vs
 
-    last : (us : List Lexeme) (h : Whole (Seq p a) us) → ends c false us ≡ true → ends c false h.1.1 ≡ true
+    last : (us : List Lexeme) (h : HasTree (Seq p a) us) → ends c false us ≡ true → ends c false h.1.1 ≡ true
     last us h e = sym (solid c a some h.1.1 (ends c false h.1.0) (h.0.1, h.1.3.1)) ∙ sym (ends-append c false h.1.0 h.1.1) ∙ sym (ap (ends c false) h.1.2) ∙ e
 
 -- ---- b is a or w
 
 pub record Or (b a w : Rule) : Type 0 where
-  pub second : (ts : List Lexeme) → Whole b ts → Whole a ts ⊎ Whole w ts
-  pub second_a : (ts : List Lexeme) → Whole a ts → Whole b ts
-  pub second_w : (ts : List Lexeme) → Whole w ts → Whole b ts
+  pub second : (ts : List Lexeme) → HasTree b ts → HasTree a ts ⊎ HasTree w ts
+  pub second_a : (ts : List Lexeme) → HasTree a ts → HasTree b ts
+  pub second_w : (ts : List Lexeme) → HasTree w ts → HasTree b ts
   pub begun : (ts : List Lexeme) → Begins b ts → Begins a ts ⊎ Begins w ts
   pub begun_a : (ts : List Lexeme) → Begins a ts → Begins b ts
   pub begun_w : (ts : List Lexeme) → Begins w ts → Begins b ts
@@ -205,7 +205,7 @@ or_opt m e = record {
   begun_w = λ ts h. inl h;
 }
   where
-    cut : (ts : List Lexeme) (v : Tree m) (o : Option (Tree e)) → Derives (Seq m (Opt e)) ts (v, o) → Whole (Seq m e) ts ⊎ Whole m ts
+    cut : (ts : List Lexeme) (v : Tree m) (o : Option (Tree e)) → Derives (Seq m (Opt e)) ts (v, o) → HasTree (Seq m e) ts ⊎ HasTree m ts
     cut ts v None d = inr (v, (let q : ts ≡ d.0 = d.2 ∙ ap (λ (l : List Lexeme). d.0 ++ l) d.3.1 ∙ append-nil d.0 in subst (λ (l : List Lexeme). Derives m l v) (sym q) d.3.0))
     cut ts v (Some x) d = inl ((v, x), d)
 
@@ -226,11 +226,11 @@ or_left b a w x s = record {
   begun_w = λ ts h. inl (s.begun_w ts h);
 }
   where
-    cut : (ts : List Lexeme) (v : Tree b ⊎ Tree x) → Derives (Alt b x) ts v → Whole (Alt a x) ts ⊎ Whole w ts
+    cut : (ts : List Lexeme) (v : Tree b ⊎ Tree x) → Derives (Alt b x) ts v → HasTree (Alt a x) ts ⊎ HasTree w ts
     cut ts (inl v) d = elim (s.second ts (v, d)) [ inl k ↦ inl (inl k.0, k.1) | inr k ↦ inr k ]
     cut ts (inr v) d = inl (inr v, d)
 
-    put : (ts : List Lexeme) (v : Tree a ⊎ Tree x) → Derives (Alt a x) ts v → Whole (Alt b x) ts
+    put : (ts : List Lexeme) (v : Tree a ⊎ Tree x) → Derives (Alt a x) ts v → HasTree (Alt b x) ts
     put ts (inl v) d = let k = s.second_a ts (v, d) in (inl k.0, k.1)
     put ts (inr v) d = (inr v, d)
 
@@ -244,11 +244,11 @@ or_right b a w x s = record {
   begun_w = λ ts h. inr (s.begun_w ts h);
 }
   where
-    cut : (ts : List Lexeme) (v : Tree x ⊎ Tree b) → Derives (Alt x b) ts v → Whole (Alt x a) ts ⊎ Whole w ts
+    cut : (ts : List Lexeme) (v : Tree x ⊎ Tree b) → Derives (Alt x b) ts v → HasTree (Alt x a) ts ⊎ HasTree w ts
     cut ts (inl v) d = inl (inl v, d)
     cut ts (inr v) d = elim (s.second ts (v, d)) [ inl k ↦ inl (inr k.0, k.1) | inr k ↦ inr k ]
 
-    put : (ts : List Lexeme) (v : Tree x ⊎ Tree a) → Derives (Alt x a) ts v → Whole (Alt x b) ts
+    put : (ts : List Lexeme) (v : Tree x ⊎ Tree a) → Derives (Alt x a) ts v → HasTree (Alt x b) ts
     put ts (inl v) d = (inl v, d)
     put ts (inr v) d = let k = s.second_a ts (v, d) in (inr k.0, k.1)
 

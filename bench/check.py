@@ -3,10 +3,10 @@
 
     python3 bench/check.py PATH/clifinl [SCALE]
 
-`rt ci`, or `rt run` in crates/clifinl, builds the program and leaves it in out/. First 14 MB of small functions in
-chains of calls and 60 MB of large bodies (SCALE times as much): the median of five runs by the clock, on all processors
-and on one of them, as a multiple of `wc -w`, and the most memory that a run held, a byte of text. Then texts of one
-shape each, each run between two of its half: twice the text should take at most 2.2 times the time, by the
+`rt ci`, or `rt run` in crates/clifinl, builds the program and leaves it in out/. First 14 MB of 65,000 small functions
+in chains of calls and 60 MB of large bodies (SCALE times as much): the median of five runs by the clock, on all
+processors and on one of them, as a multiple of `wc -w`, and the most memory that a run held, a byte of text. Then texts
+of one shape each, each run between two of its half: twice the text should take at most 2.2 times the time, by the
 processor's clock."""
 import os
 import sys
@@ -103,7 +103,8 @@ def main():
         jobs[command + ', one processor'] = [*one, program, command]
     with tempfile.TemporaryDirectory() as folder:
         path = os.path.join(folder, 'text')
-        texts = {'small functions': ''.join(clif_functions(14e6 * scale, False)), 'large bodies': bodies(60e6 * scale)}
+        small = clif_functions(14e6 * scale, 'chained')
+        texts = {f'{len(small)} small functions': ''.join(small), 'large bodies': bodies(60e6 * scale)}
         for name, text in texts.items():
             with open(path, 'w') as file:
                 file.write(text)

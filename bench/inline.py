@@ -3,17 +3,18 @@
 
     python3 bench/inline.py PATH/clifinl [SCALE]
 
-`rt ci`, or `rt run` in crates/clifinl, builds the program and leaves it in out/. First 14 MB of small functions in
-chains of calls, the same with fans and `try_call`s, and 60 MB of large bodies (SCALE times as much), with one, two and
-four workers: the median of five runs by the clock, as a multiple of `wc -w`, how much is written, and the most memory
-that a run held, a byte of input and output together. Beside the second text, where it is installed, LLVM's `opt`
-inlines the same functions, read and written as LLVM IR, by its own policy. Then modules of one shape each and their
-halves, with one worker, each run between two of the half: twice the sites should take at most 2.2 times the time, by
-the processor's clock.
+`rt ci`, or `rt run` in crates/clifinl, builds the program and leaves it in out/. First three texts of 14 MB, of about
+65,000 small functions each: in chains of calls, and the same with fans and `try_call`s, of which about twice as much is
+written, and one where three of eight call a function of the module, of which a third more is written. Then 60 MB of
+large bodies (SCALE times as much of each). With one, two and four workers: the median of five runs by the clock, as a
+multiple of `wc -w`, how much is written, and the most memory that a run held, a byte of input and output together.
+Beside the second text, where it is installed, LLVM's `opt` inlines the same functions, read and written as LLVM IR, by
+its own policy. Then modules of one shape each and their halves, with one worker, each run between two of the half:
+twice the sites should take at most 2.2 times the time, by the processor's clock.
 
-A function has at most 262,144 parts. A site of the least callee has four of them once it is inlined, so 40,000 sites
-before 200,000 lines cannot all be, nor can 1,000 calls under a table of 1,000 entries: the shapes below have one of the
-two numbers, and the other as large as it can be."""
+A function has at most 262,144 parts. A site of the least callee has four of them once it is inlined, so of 40,000 sites
+before 200,000 lines, which have 240,004 parts, only the first 7,380 are inlined. Nor can 1,000 calls be inlined under a
+table of 1,000 entries. So further shapes have one of the two numbers, and the other as large as it can be."""
 import os
 import shutil
 import subprocess
@@ -53,6 +54,10 @@ def try_sites(count):
 
 def sites_before_lines(sites, lines):
     return SMALL + caller('    call fn0()\n' * sites + '    nop\n' * lines)
+
+
+def sites_before_five_lines_each(sites):
+    return sites_before_lines(sites, sites * 5)
 
 
 def few_sites_before_lines(lines):
@@ -102,6 +107,7 @@ SHAPES = [
     (32_000, 'sites in one block, of a callee of three blocks', sites_of_three_blocks, WIDEST),
     (32_000, 'sites that are `try_call`s', try_sites, WIDEST),
     (40_000, 'blocks with a site each', sites_in_blocks, WIDEST),
+    (40_000, 'sites, 5 lines for each behind', sites_before_five_lines_each, WIDEST),
     (200_000, 'lines, 3 sites for 40 of them before', few_sites_before_lines, WIDEST),
     (40_000, 'sites, 5 lines for 2 of them behind', many_sites_before_lines, WIDEST),
     (20_000, 'different callees of one caller', callees, WIDEST),
@@ -120,14 +126,14 @@ def written(words, path):
         return len(subprocess.run(words, stdin=text, stdout=subprocess.PIPE, check=True).stdout)
 
 
-def opt_jobs(count, path):
-    """`opt` over so many functions of the mixed text, where it is installed."""
+def opt_jobs(text, count, path):
+    """`opt` over so many functions of the text, where it is installed."""
     opt = shutil.which('opt')
     if opt is None:
         print('`opt` is not installed')
         return {}
     with open(path, 'w') as file:
-        file.writelines(llvm_functions(count))
+        file.writelines(llvm_functions(count, text))
     return {'opt': [opt, '-S', '-passes=inline', '-o', '-', path]}
 
 
@@ -147,11 +153,19 @@ def measure_text(program, name, text, path, others):
             job, clock, clock / words, processor, memory / both))
 
 
+# The small functions: the text, and what it is called.
+TEXTS = [
+    ('chained', 'in chains'),
+    ('mixed', 'with fans and `try_call`s'),
+    ('sparse', 'three of eight with a callee of the module'),
+]
+
+
 def measure_texts(program, scale, path):
-    measure_text(program, 'small functions', ''.join(clif_functions(14e6 * scale, False)), path, {})
-    mixed = clif_functions(14e6 * scale, True)
-    measure_text(program, 'small functions, with fans and `try_call`s', ''.join(mixed), path,
-                 opt_jobs(len(mixed), path + '.ll'))
+    for text, name in TEXTS:
+        functions = clif_functions(14e6 * scale, text)
+        others = opt_jobs(text, len(functions), path + '.ll') if text == 'mixed' else {}
+        measure_text(program, f'{len(functions)} small functions, {name}', ''.join(functions), path, others)
     measure_text(program, 'large bodies', bodies(60e6 * scale), path, {})
 
 

@@ -8,7 +8,7 @@ smaller. It runs:
 - each command with a sink that takes every number of bytes below the output's length: status 4, and exactly the
   output's beginning;
 - each command that reads with a source that fails (a folder in place of a file): status 3;
-- `check` of a text cut behind each of its tokens: Syntax at its end, and nothing written, but behind a function;
+- `check` of two texts cut behind each of their tokens: Syntax at the end, and nothing written, but behind a function;
 - `inline`, `test` and `gen` by two workers under limits on memory (`ulimit -v`), each a little further than the one
   before, from what the program cannot begin with to what it needs in all: done with the same bytes, or status 5 and
   nothing written;
@@ -18,9 +18,14 @@ smaller. It runs:
 - `run`: 1,000,000,000 steps of an endless loop, the last byte of the greatest memory and the one behind it, arguments
   at each end of each type and one past it, the longest script that a command line holds (a word of it has at most
   131,072 bytes), and by `test` one of a megabyte; and scripts and arguments that are none;
-- `inline` of a text of 64 MiB on one, two and four processors, under limits on memory.
-Where the kit is at hand, `rt try clifinl --fail-alloc 1.. -- inline` in crates/clifinl refuses each allocation in
-turn."""
+- `inline` of a text of exactly 64 MiB, filled by 65,000 functions of about 1,030 bytes, by one, two and four workers on
+  as many processors, under limits on memory: done with the same bytes, or status 5 and nothing written.
+Where the kit is at hand, three runs in crates/clifinl refuse the Nth allocation, for each N from 1 up to the first that
+is never asked for:
+
+    rt try --fail-alloc N -- inline < ../../examples/first.clif
+    rt try --fail-alloc N -- test < ../../filetests/directives/expectations.clif
+    rt try --fail-alloc N -- gen --number 1 --functions 50 --workers 2"""
 import os
 import re
 import resource
@@ -56,6 +61,28 @@ block2(v4: i64):
 block3:
     v5 = iconst.i64 -1
     return v5
+}
+'''
+# A table of one tag under a table of three, which are joined where the call is inlined.
+JOINED = '''function %g(i64) -> i64 {
+    sig0 = (i64) -> i64
+    fn0 = %h sig0
+block0(v0: i64):
+    try_call fn0(v0), sig0, block1(ret0), [ tag1: block2(exn0) ]
+block1(v1: i64):
+    return v1
+block2(v2: i64):
+    return v2
+}
+function %f(i64) -> i64 {
+    sig0 = (i64) -> i64
+    fn0 = %g sig0
+block0(v0: i64):
+    try_call fn0(v0), sig0, block1(ret0), [ tag1: block2(exn0), tag2: block2(exn1), default: block2(exn0) ]
+block1(v1: i64):
+    return v1
+block2(v2: i64):
+    return v2
 }
 '''
 CALLED = '''function %f0() -> i32 {
@@ -161,16 +188,17 @@ def sources(program):
     os.close(folder)
 
 
-def cuts(program):
-    for match in TOKEN.finditer(EXAMPLE):
-        text = EXAMPLE[:match.end()]
+def cuts(program, whole):
+    """`check` of the text cut to nothing, and behind each of its tokens."""
+    for end in [0, *(match.end() for match in TOKEN.finditer(whole))]:
+        text = whole[:end]
         *lines, last = text.split('\n')
         found = call(program, ['check'], text.encode())
-        if text.endswith('}'):
+        if text == '' or text.endswith('}'):
             wanted = (0, f'ok {text.count("}")}\n'.encode(), b'')
         else:
             wanted = (1, b'', f'error {len(lines) + 1}:{len(last) + 1} Syntax\n'.encode())
-        expect(found == wanted, f'a text cut at {match.end()}: {found}')
+        expect(found == wanted, f'a text cut at {end}: {found}')
 
 
 def answered(program, name, words, text, kind=None):
@@ -280,30 +308,30 @@ def refusals(program):
         print(f'{words[0]}: {sorted(answers)}, done within {memory}')
 
 
+def filling(i):
+    """A function of 1,032 bytes with one site."""
+    lines = ''.join(f'    v{k + 2} = iadd v{k + 1}, v{k}\n' for k in range(39))
+    return (f'function %f{i:05}(i64) -> i64 fast {{\n    fn0 = %g(i64) -> i64 fast\nblock0(v0: i64):\n'
+            f'    v1 = call fn0(v0)\n{lines}    return v40\n}}\n\n')
+
+
+def filled(size):
+    """As many functions as a text of this size has room for, and blanks up to its last byte."""
+    head = 'function %g(i64) -> i64 {\nblock0(v0: i64):\n    v1 = iadd_imm v0, 1\n    return v1\n}\n\n'
+    count = (size - len(head)) // len(filling(0))
+    return (head + ''.join(filling(i) for i in range(count))).ljust(size)
+
+
 def memories(program, scale):
-    one = ''.join(f'function %f{{0}}_{i}(i64) -> i64 {{{{\n    fn0 = %g(i64) -> i64\nblock0(v0: i64):\n'
-                  '    v1 = call fn0(v0)\n    v2 = iadd v1, v0\n    return v2\n}}\n' for i in range(10))
-    size = int(67_108_864 * scale)
-    head = 'function %g(i64) -> i64 {\nblock0(v0: i64):\n    v1 = iadd_imm v0, 1\n    return v1\n}\n'
-    parts, length = [head], len(head)
-    for i in range(6_500):
-        part = one.format(i)
-        if length + len(part) > size:
-            break
-        parts.append(part)
-        length += len(part)
-    body = 'function %large(i64) -> i64 {\nblock0(v0: i64):\n' + '    v1 = iadd v0, v0\n    return v1\n}\n'
-    comment = ';' + ' ' * 78 + '\n'
-    text = ''.join(parts) + body
-    text = text + comment * ((size - len(text)) // len(comment))
+    text = filled(int(67_108_864 * scale))
     whole = answered(program, 'a text of 64 MiB', ['inline'], text)
     everywhere = sorted(os.sched_getaffinity(0))
     for count in (1, 2, 4):
-        for memory in (None, 4 << 30, 1 << 30, 512 << 20, 256 << 20, 128 << 20, 64 << 20):
+        for memory in (None, 4 << 30, 2 << 30, 1 << 30, 512 << 20, 256 << 20, 128 << 20, 64 << 20):
             status, out, err = call(program, ['inline', '--workers', str(count)], text.encode(), memory=memory,
                                     processors=everywhere[:count])
             done = (status, out, err) == (0, whole, b'')
-            refused = (status, out, err) == (5, b'', b'error NoMemory\n')
+            refused = memory is not None and (status, out, err) == (5, b'', b'error NoMemory\n')
             expect(done or refused, f'inline on {count} processors within {memory}: {status} {err!r}')
             answer = 'done' if done else 'no memory' if refused else 'neither'
             print(f'inline on {count} processors within {memory}: {answer}')
@@ -316,7 +344,8 @@ def main():
     scale = float(sys.argv[2]) if len(sys.argv) > 2 else 1.0
     rooms(program)
     sources(program)
-    cuts(program)
+    cuts(program, EXAMPLE)
+    cuts(program, JOINED)
     refusals(program)
     large(program, scale)
     runs(program)

@@ -10,10 +10,9 @@ ghost use Rattle.interp.specs.State.{world_of, moment, done, simply};
 
 use crate::outcome::End;
 use crate::simple::{compute, give_results};
-use crate::slots::bytes_in;
+use crate::slots::{bytes_in, width_of};
 use crate::state::{Frame, Stop, World};
 use byte_store::OutOfRange;
-use clif_words::width_of_type;
 use clk_num::{Bits, Op, TrapCode, Width};
 use ir_core::{Access, Flags, InstData, Ty, Value};
 use std::alloc::AllocError;
@@ -53,7 +52,7 @@ fn load_full(
     let Some(base) = frame.values.get(address.number() as usize) else {
         return Ok(Some(Stop::Stuck));
     };
-    let width = width_of_type(ty);
+    let width = width_of(ty);
     let bytes = bytes_in(width);
     match world
         .memory
@@ -101,7 +100,7 @@ fn load_by_zeros(
         Err(OutOfRange) => Ok(Some(Stop::At(End::Trapped(TrapCode::HeapOob)))),
         Ok(number) => {
             let narrow = Bits::new(narrow_width(bytes), number);
-            let moved = compute(frame, line, Op::Uextend(width_of_type(ty)), &[narrow])?;
+            let moved = compute(frame, line, Op::Uextend(width_of(ty)), &[narrow])?;
             Ok(moved)
         }
     }
@@ -133,7 +132,7 @@ fn load_by_sign(
         Err(OutOfRange) => Ok(Some(Stop::At(End::Trapped(TrapCode::HeapOob)))),
         Ok(number) => {
             let narrow = Bits::new(narrow_width(bytes), number);
-            let moved = compute(frame, line, Op::Sextend(width_of_type(ty)), &[narrow])?;
+            let moved = compute(frame, line, Op::Sextend(width_of(ty)), &[narrow])?;
             Ok(moved)
         }
     }

@@ -1,5 +1,5 @@
 -- The blocks of a function by their numbers.
-use Rattle.std.proofs.Common.{◌≡◌, ℕ, List, [], ◌∷◌, ◌++◌, Bool, true, false, nat_eq, eq-eqb, refl, sym, ap, ◌∙◌, inl, inr, append_assoc}
+use Rattle.std.proofs.Common.{◌≡◌, ℕ, ◌+◌, ◌≤◌, List, [], ◌∷◌, ◌++◌, length, Bool, true, false, nat_eq, eq-eqb, refl, sym, ap, ◌∙◌, inl, inr, arith, append_assoc, length-append}
 use Rattle.std.proofs.lemmas.Bool.{eqb-true}
 use Rattle.ir_core.specs.Edits.{params_of, lines_of}
 use Rattle.ir_core.specs.Lists.{In, Different}
@@ -45,3 +45,12 @@ listed bs order now it rest b e f h =
 -- the first block, and the others
 pub first_block : (bs : List Block) (order rest : List ℕ) (b : ℕ) → order ≡ b ∷ rest → order ≡ block_numbers bs → Different (block_numbers bs) → bs ≡ block_at bs b ∷ blocks_at bs rest
 first_block bs order rest b e f d = sym (blocks_again bs d) ∙ ap (blocks_at bs) (sym f ∙ e)
+
+-- what the next block defines is within what all define
+pub next_fits : (bs : List Block) (order it rest : List ℕ) (b : ℕ) → it ≡ b ∷ rest → order ++ definitions (blocks_at bs it) ≡ definitions bs → length order + (length (params_of b bs) + length (line_definitions (lines_of b bs))) ≤ length (definitions bs)
+next_fits bs order it rest b e h =
+    let params : List ℕ = params_of b bs in
+    let lines : List ℕ = line_definitions (lines_of b bs) in
+    let others : List ℕ = definitions (blocks_at bs rest) in
+    let split : length (definitions (blocks_at bs it)) ≡ length (params ++ (lines ++ others)) = ap (λ (ns : List ℕ). length (definitions (blocks_at bs ns))) e in
+    omega (arith, ap (length {A = ℕ}) h, length-append order (definitions (blocks_at bs it)), split, length-append params (lines ++ others), length-append lines others)

@@ -70,5 +70,9 @@ few zero [] d h = omega arith
 few zero (x ∷ xs) d h = absurd (omega (arith, h.0))
 few (suc n) xs d h = omega (arith, length_without n xs, few n (without n xs) (different_without n xs d) (below_without n xs d h))
 
+-- no more values are defined than declared
+pub no_more : (f : Function) → IsSound f → length (definitions f.blocks) ≤ length f.types
+no_more f s = few (length f.types) (definitions f.blocks) s.defined_once (below_blocks (counts_of f) f.blocks s.blocks)
+
 pub all_few : (f : Function) → IsSound f → length (definitions f.blocks) < 2 ^ 32
-all_few f s = omega (arith, few (length f.types) (definitions f.blocks) s.defined_once (below_blocks (counts_of f) f.blocks s.blocks), s.small.values)
+all_few f s = omega (arith, no_more f s, s.small.values)

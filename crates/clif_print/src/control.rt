@@ -26,7 +26,7 @@ pub(crate) fn put_jump<O: Output>(
     to: &BlockCall,
 )
     ensures { Puts O.holds out.old out.new
-        (spelled (instruction numbers.now suffix (instruction_of (form.Jump to.now)))) }
+        (spelled (instruction numbers.now.numbering suffix (instruction_of (form.Jump to.now)))) }
 {
     put_opcode(out, Opcode::Jump);
     out.put(b" ");
@@ -42,7 +42,7 @@ pub(crate) fn put_brif<O: Output>(
     no: &BlockCall,
 )
     ensures { Puts O.holds out.old out.new
-        (spelled (instruction numbers.now suffix (instruction_of (form.Brif cond yes.now no.now)))) }
+        (spelled (instruction numbers.now.numbering suffix (instruction_of (form.Brif cond yes.now no.now)))) }
 {
     put_opcode(out, Opcode::Brif);
     put_suffix_if(out, suffix);
@@ -63,7 +63,8 @@ pub(crate) fn put_br_table<O: Output>(
     entries: &List<BlockCall>,
 )
     ensures { Puts O.holds out.old out.new
-        (spelled (instruction numbers.now suffix (instruction_of (form.BrTable index default.now entries.now)))) }
+        (spelled (instruction numbers.now.numbering suffix
+        (instruction_of (form.BrTable index default.now entries.now)))) }
 {
     put_opcode(out, Opcode::BrTable);
     out.put(b" ");
@@ -81,7 +82,7 @@ pub(crate) fn put_return<O: Output>(
     values: &Values,
 )
     ensures { Puts O.holds out.old out.new
-        (spelled (instruction numbers.now suffix (instruction_of (form.Return values.now)))) }
+        (spelled (instruction numbers.now.numbering suffix (instruction_of (form.Return values.now)))) }
 {
     put_opcode(out, Opcode::Return);
     put_operands(out, numbers, values.as_slice());
@@ -94,7 +95,7 @@ pub(crate) fn put_trap<O: Output>(
     code: TrapCode,
 )
     ensures { Puts O.holds out.old out.new
-        (spelled (instruction numbers.now suffix (instruction_of (form.Trap code)))) }
+        (spelled (instruction numbers.now.numbering suffix (instruction_of (form.Trap code)))) }
 {
     put_opcode(out, Opcode::Trap);
     out.put(b" ");
@@ -109,7 +110,7 @@ pub(crate) fn put_trapz<O: Output>(
     code: TrapCode,
 )
     ensures { Puts O.holds out.old out.new
-        (spelled (instruction numbers.now suffix (instruction_of (form.Trapz cond code)))) }
+        (spelled (instruction numbers.now.numbering suffix (instruction_of (form.Trapz cond code)))) }
 {
     put_opcode(out, Opcode::Trapz);
     put_suffix_if(out, suffix);
@@ -127,7 +128,7 @@ pub(crate) fn put_trapnz<O: Output>(
     code: TrapCode,
 )
     ensures { Puts O.holds out.old out.new
-        (spelled (instruction numbers.now suffix (instruction_of (form.Trapnz cond code)))) }
+        (spelled (instruction numbers.now.numbering suffix (instruction_of (form.Trapnz cond code)))) }
 {
     put_opcode(out, Opcode::Trapnz);
     put_suffix_if(out, suffix);
@@ -145,7 +146,7 @@ pub(crate) fn put_call<O: Output>(
     args: &Values,
 )
     ensures { Puts O.holds out.old out.new
-        (spelled (instruction numbers.now suffix (instruction_of (form.Call callee args.now)))) }
+        (spelled (instruction numbers.now.numbering suffix (instruction_of (form.Call callee args.now)))) }
 {
     put_opcode(out, Opcode::Call);
     out.put(b" ");
@@ -161,7 +162,7 @@ pub(crate) fn put_return_call<O: Output>(
     args: &Values,
 )
     ensures { Puts O.holds out.old out.new
-        (spelled (instruction numbers.now suffix (instruction_of (form.ReturnCall callee args.now)))) }
+        (spelled (instruction numbers.now.numbering suffix (instruction_of (form.ReturnCall callee args.now)))) }
 {
     put_opcode(out, Opcode::ReturnCall);
     out.put(b" ");
@@ -178,7 +179,7 @@ pub(crate) fn put_call_indirect<O: Output>(
     args: &Values,
 )
     ensures { Puts O.holds out.old out.new
-        (spelled (instruction numbers.now suffix (instruction_of (form.CallIndirect sig address args.now)))) }
+        (spelled (instruction numbers.now.numbering suffix (instruction_of (form.CallIndirect sig address args.now)))) }
 {
     put_opcode(out, Opcode::CallIndirect);
     out.put(b" ");
@@ -197,7 +198,8 @@ pub(crate) fn put_return_call_indirect<O: Output>(
     args: &Values,
 )
     ensures { Puts O.holds out.old out.new
-        (spelled (instruction numbers.now suffix (instruction_of (form.ReturnCallIndirect sig address args.now)))) }
+        (spelled (instruction numbers.now.numbering suffix
+        (instruction_of (form.ReturnCallIndirect sig address args.now)))) }
 {
     put_opcode(out, Opcode::ReturnCallIndirect);
     out.put(b" ");
@@ -216,8 +218,8 @@ fn put_outcomes<O: Output>(
     table: &Table<BlockCall>,
 )
     ensures { Puts O.holds out.old out.new
-        (spelled (comma ▹ signature_reference sig ▹ comma ▹ target numbers.now normal.now ▹ comma
-        ▹ exception_table numbers.now table.now)) }
+        (spelled (comma ▹ signature_reference sig ▹ comma ▹ target numbers.now.numbering normal.now ▹ comma
+        ▹ exception_table numbers.now.numbering table.now)) }
 {
     out.put(b", ");
     put_signature_reference(out, sig);
@@ -238,7 +240,7 @@ pub(crate) fn put_try_call<O: Output>(
     table: &Table<BlockCall>,
 )
     ensures { Puts O.holds out.old out.new
-        (spelled (instruction numbers.now suffix
+        (spelled (instruction numbers.now.numbering suffix
         (instruction_of (form.TryCall callee sig args.now normal.now table.now)))) }
 {
     put_opcode(out, Opcode::TryCall);
@@ -259,7 +261,7 @@ pub(crate) fn put_try_call_indirect<O: Output>(
     table: &Table<BlockCall>,
 )
     ensures { Puts O.holds out.old out.new
-        (spelled (instruction numbers.now suffix
+        (spelled (instruction numbers.now.numbering suffix
         (instruction_of (form.TryCallIndirect sig address args.now normal.now table.now)))) }
 {
     put_opcode(out, Opcode::TryCallIndirect);

@@ -25,7 +25,7 @@ use ir_core::{Block, Blocks, Func, InstData, Ty, Value};
 use text_output::Output;
 
 fn put_results<O: Output>(out: &mut O, func: &Func, numbers: &FuncNumbers, defined: &[Value])
-    ensures { Puts O.holds out.old out.new (spelled (results func.now.function numbers.now defined.now)) }
+    ensures { Puts O.holds out.old out.new (spelled (results func.now.function numbers.now.numbering defined.now)) }
 {
     if !defined.is_empty() {
         put_list(out, numbers, defined);
@@ -35,7 +35,8 @@ fn put_results<O: Output>(out: &mut O, func: &Func, numbers: &FuncNumbers, defin
 
 /// Puts an instruction on its line. `next` is the number of the next value that is defined.
 fn put_line<O: Output>(out: &mut O, func: &Func, numbers: &FuncNumbers, next: u32, inst: &InstData)
-    ensures { Puts O.holds out.old out.new (spelled (line func.now.function numbers.now next (line_of inst.now))) }
+    ensures { Puts O.holds out.old out.new
+        (spelled (line func.now.function numbers.now.numbering next (line_of inst.now))) }
 {
     out.put(b"    ");
     put_tags(out, numbers, inst.tags.list());
@@ -59,7 +60,7 @@ fn put_lines<O: Output>(
 ) -> u32
     requires { first + length (line_definitions (map line_of insts.now)) < 2 ^ 32 }
     ensures text { Puts O.holds out.old out.new
-        (spelled (lines func.now.function numbers.now first (map line_of insts.now))) }
+        (spelled (lines func.now.function numbers.now.numbering first (map line_of insts.now))) }
     ensures next { result ≡ first + length (line_definitions (map line_of insts.now)) }
 {
     let mut next = first;
@@ -81,7 +82,7 @@ fn put_type<O: Output>(out: &mut O, ty: Option<Ty>)
 }
 
 fn put_block_parameter<O: Output>(out: &mut O, func: &Func, numbers: &FuncNumbers, param: Value)
-    ensures { Puts O.holds out.old out.new (spelled (block_parameter func.now.function numbers.now param)) }
+    ensures { Puts O.holds out.old out.new (spelled (block_parameter func.now.function numbers.now.numbering param)) }
 {
     put_value(out, numbers, param);
     out.put(b": ");
@@ -90,7 +91,8 @@ fn put_block_parameter<O: Output>(out: &mut O, func: &Func, numbers: &FuncNumber
 
 /// Puts further parameters, each behind a comma.
 fn put_more_parameters<O: Output>(out: &mut O, func: &Func, numbers: &FuncNumbers, params: &[Value])
-    ensures { Puts O.holds out.old out.new (spelled (more (block_parameter func.now.function numbers.now) params.now)) }
+    ensures { Puts O.holds out.old out.new
+        (spelled (more (block_parameter func.now.function numbers.now.numbering) params.now)) }
 {
     let mut rest = params;
     'params: while let Some((param, after)) = rest.split_first() {
@@ -106,7 +108,8 @@ fn put_block_parameters<O: Output>(
     numbers: &FuncNumbers,
     params: &[Value],
 )
-    ensures { Puts O.holds out.old out.new (spelled (block_parameters func.now.function numbers.now params.now)) }
+    ensures { Puts O.holds out.old out.new
+        (spelled (block_parameters func.now.function numbers.now.numbering params.now)) }
 {
     if let Some((first, rest)) = params.split_first() {
         out.put(b"(");
@@ -128,7 +131,7 @@ fn put_block<O: Output>(
     requires few { next + length (params_of number func.now.function.blocks)
         + length (line_definitions (lines_of number func.now.function.blocks)) < 2 ^ 32 }
     ensures text { Puts O.holds out.old out.new
-        (spelled (block func.now.function numbers.now next (block_at func.now.function.blocks number))) }
+        (spelled (block func.now.function numbers.now.numbering next (block_at func.now.function.blocks number))) }
     ensures next { result ≡ next_after next (block_at func.now.function.blocks number) }
 {
     let params = func.params(number);
@@ -155,7 +158,8 @@ fn put_more_blocks<O: Output>(
     requires there { (n : ℕ) → In n order → In n (block_numbers func.now.function.blocks) }
     requires few { first + length (definitions (blocks_at func.now.function.blocks order)) < 2 ^ 32 }
     ensures { Puts O.holds out.old out.new
-        (spelled (more_blocks func.now.function numbers.now first (blocks_at func.now.function.blocks order.entry))) }
+        (spelled (more_blocks func.now.function numbers.now.numbering first
+        (blocks_at func.now.function.blocks order.entry))) }
 {
     let mut next = first;
     for number in order {
@@ -165,8 +169,9 @@ fn put_more_blocks<O: Output>(
 }
 
 fn put_blocks<O: Output>(out: &mut O, func: &Func, numbers: &FuncNumbers)
-    requires { numbers.now ≡ numbering_of func.now.function }
-    ensures { Puts O.holds out.old out.new (spelled (blocks func.now.function numbers.now func.now.function.blocks)) }
+    requires { numbers.now.numbering ≡ numbering_of func.now.function }
+    ensures { Puts O.holds out.old out.new
+        (spelled (blocks func.now.function numbers.now.numbering func.now.function.blocks)) }
 {
     let mut order = func.blocks();
     if let Some(number) = order.next() {
@@ -185,7 +190,7 @@ fn put_gap<O: Output>(out: &mut O, func: &Func)
 
 /// Puts a function, whose numbers these are.
 pub fn put_function<O: Output>(out: &mut O, func: &Func, numbers: &FuncNumbers)
-    requires { numbers.now ≡ numbering_of func.now.function }
+    requires { numbers.now.numbering ≡ numbering_of func.now.function }
     ensures { Puts O.holds out.old out.new (spelled (canonical_function func.now.function)) }
 {
     out.put(b"function ");

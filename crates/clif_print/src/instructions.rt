@@ -48,7 +48,7 @@ fn put_condition<O: Output>(out: &mut O, op: Op)
 
 fn put_const<O: Output>(out: &mut O, numbers: &FuncNumbers, suffix: Option<Ty>, bits: &Bits)
     ensures { Puts O.holds out.old out.new
-        (spelled (instruction numbers.now suffix (instruction_of (form.Const bits.now)))) }
+        (spelled (instruction numbers.now.numbering suffix (instruction_of (form.Const bits.now)))) }
 {
     put_opcode(out, Opcode::Iconst);
     put_suffix(out, type_of_width(bits.width()));
@@ -64,7 +64,7 @@ fn put_pure<O: Output>(
     args: &[Value],
 )
     ensures { Puts O.holds out.old out.new
-        (spelled (instruction numbers.now suffix (instruction_of (form.Pure op args.now)))) }
+        (spelled (instruction numbers.now.numbering suffix (instruction_of (form.Pure op args.now)))) }
 {
     put_opcode(out, Opcode::of(op));
     put_op_suffix(out, op, suffix);
@@ -81,7 +81,7 @@ fn put_pure_imm<O: Output>(
     imm: &Bits,
 )
     ensures { Puts O.holds out.old out.new
-        (spelled (instruction numbers.now suffix (instruction_of (form.PureImm op arg imm.now)))) }
+        (spelled (instruction numbers.now.numbering suffix (instruction_of (form.PureImm op arg imm.now)))) }
 {
     put_opcode(out, Opcode::of(op));
     out.put(b"_imm");
@@ -144,7 +144,8 @@ fn put_load<O: Output>(
     offset: i32,
 )
     ensures { Puts O.holds out.old out.new
-        (spelled (instruction numbers.now suffix (instruction_of (form.Load access flags.now address offset)))) }
+        (spelled (instruction numbers.now.numbering suffix
+        (instruction_of (form.Load access flags.now address offset)))) }
 {
     put_load_opcode(out, suffix, access);
     out.put(b" ");
@@ -172,7 +173,8 @@ fn put_store<O: Output>(
     offset: i32,
 )
     ensures { Puts O.holds out.old out.new
-        (spelled (instruction numbers.now suffix (instruction_of (form.Store narrow flags.now value address offset)))) }
+        (spelled (instruction numbers.now.numbering suffix
+        (instruction_of (form.Store narrow flags.now value address offset)))) }
 {
     put_store_opcode(out, narrow);
     put_suffix_if(out, suffix);
@@ -190,7 +192,7 @@ fn put_stored<O: Output>(
     offset: i32,
 )
     ensures { Puts O.holds out.old out.new
-        (spelled (value numbers.now stored ▹ comma ▹ address numbers.now base offset)) }
+        (spelled (value numbers.now.numbering stored ▹ comma ▹ address numbers.now.numbering base offset)) }
 {
     put_value(out, numbers, stored);
     out.put(b", ");
@@ -205,7 +207,8 @@ fn put_stored_in_slot<O: Output>(
     slot: Slot,
     offset: i32,
 )
-    ensures { Puts O.holds out.old out.new (spelled (value numbers.now stored ▹ comma ▹ slot_address slot offset)) }
+    ensures { Puts O.holds out.old out.new
+        (spelled (value numbers.now.numbering stored ▹ comma ▹ slot_address slot offset)) }
 {
     put_value(out, numbers, stored);
     out.put(b", ");
@@ -221,7 +224,7 @@ fn put_stack_load<O: Output>(
     offset: i32,
 )
     ensures { Puts O.holds out.old out.new
-        (spelled (instruction numbers.now suffix (instruction_of (form.StackLoad ty slot offset)))) }
+        (spelled (instruction numbers.now.numbering suffix (instruction_of (form.StackLoad ty slot offset)))) }
 {
     put_opcode(out, Opcode::StackLoad);
     put_suffix(out, ty);
@@ -238,7 +241,7 @@ fn put_stack_store<O: Output>(
     offset: i32,
 )
     ensures { Puts O.holds out.old out.new
-        (spelled (instruction numbers.now suffix (instruction_of (form.StackStore value slot offset)))) }
+        (spelled (instruction numbers.now.numbering suffix (instruction_of (form.StackStore value slot offset)))) }
 {
     put_opcode(out, Opcode::StackStore);
     put_suffix_if(out, suffix);
@@ -248,7 +251,7 @@ fn put_stack_store<O: Output>(
 
 fn put_func_addr<O: Output>(out: &mut O, numbers: &FuncNumbers, suffix: Option<Ty>, callee: FuncRef)
     ensures { Puts O.holds out.old out.new
-        (spelled (instruction numbers.now suffix (instruction_of (form.FuncAddr callee)))) }
+        (spelled (instruction numbers.now.numbering suffix (instruction_of (form.FuncAddr callee)))) }
 {
     put_opcode(out, Opcode::FuncAddr);
     out.put(b".i64 ");
@@ -262,7 +265,8 @@ pub(crate) fn put_instruction<O: Output>(
     suffix: Option<Ty>,
     inst: &Inst,
 )
-    ensures { Puts O.holds out.old out.new (spelled (instruction numbers.now suffix (instruction_of inst.now))) }
+    ensures { Puts O.holds out.old out.new
+        (spelled (instruction numbers.now.numbering suffix (instruction_of inst.now))) }
 {
     match inst {
         Inst::Nop => put_opcode(out, Opcode::Nop),

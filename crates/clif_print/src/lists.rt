@@ -14,12 +14,12 @@ pub(crate) trait Item {
 
     /// Puts its text.
     fn put<O: Output>(&self, numbers: &FuncNumbers, out: &mut O)
-        ensures { Puts O.holds out.old out.new (spelled (text numbers.now self.now)) };
+        ensures { Puts O.holds out.old out.new (spelled (text numbers.now.numbering self.now)) };
 }
 
 /// Puts further items, each behind a comma.
 fn put_more<T: Item, O: Output>(out: &mut O, numbers: &FuncNumbers, items: &[T])
-    ensures { Puts O.holds out.old out.new (spelled (more (T.text numbers.now) items.now)) }
+    ensures { Puts O.holds out.old out.new (spelled (more (T.text numbers.now.numbering) items.now)) }
 {
     let mut rest = items;
     'items: while let Some((item, after)) = rest.split_first() {
@@ -31,7 +31,7 @@ fn put_more<T: Item, O: Output>(out: &mut O, numbers: &FuncNumbers, items: &[T])
 
 /// Puts items with commas between them.
 pub(crate) fn put_list<T: Item, O: Output>(out: &mut O, numbers: &FuncNumbers, items: &[T])
-    ensures { Puts O.holds out.old out.new (spelled (separated (T.text numbers.now) items.now)) }
+    ensures { Puts O.holds out.old out.new (spelled (separated (T.text numbers.now.numbering) items.now)) }
 {
     if let Some((first, more)) = items.split_first() {
         first.put(numbers, out);
@@ -45,7 +45,8 @@ pub(crate) fn put_in_parentheses<T: Item, O: Output>(
     numbers: &FuncNumbers,
     items: &[T],
 )
-    ensures { Puts O.holds out.old out.new (spelled (in_parentheses (separated (T.text numbers.now) items.now))) }
+    ensures { Puts O.holds out.old out.new
+        (spelled (in_parentheses (separated (T.text numbers.now.numbering) items.now))) }
 {
     out.put(b"(");
     put_list(out, numbers, items);

@@ -21,7 +21,7 @@ use text_output::{Output, put_number, put_numbered};
 
 /// Puts a value's word.
 pub(crate) fn put_value<O: Output>(out: &mut O, numbers: &FuncNumbers, number: Value)
-    ensures { Puts O.holds out.old out.new (spelled (value numbers.now number)) }
+    ensures { Puts O.holds out.old out.new (spelled (value numbers.now.numbering number)) }
 {
     out.put(b"v");
     out.put_digits(numbers.value(number));
@@ -29,7 +29,7 @@ pub(crate) fn put_value<O: Output>(out: &mut O, numbers: &FuncNumbers, number: V
 
 /// Puts a block's word.
 pub(crate) fn put_block_reference<O: Output>(out: &mut O, numbers: &FuncNumbers, block: Block)
-    ensures { Puts O.holds out.old out.new (spelled (block_reference numbers.now block)) }
+    ensures { Puts O.holds out.old out.new (spelled (block_reference numbers.now.numbering block)) }
 {
     out.put(b"block");
     out.put_digits(numbers.block(block));
@@ -70,7 +70,7 @@ impl Item for Arg {
 }
 
 fn put_target_arguments<O: Output>(out: &mut O, numbers: &FuncNumbers, args: &[Arg])
-    ensures { Puts O.holds out.old out.new (spelled (target_arguments numbers.now args.now)) }
+    ensures { Puts O.holds out.old out.new (spelled (target_arguments numbers.now.numbering args.now)) }
 {
     if !args.is_empty() {
         put_in_parentheses(out, numbers, args);
@@ -79,7 +79,7 @@ fn put_target_arguments<O: Output>(out: &mut O, numbers: &FuncNumbers, args: &[A
 
 /// Puts a target: its block, and its arguments where it has some.
 pub(crate) fn put_target<O: Output>(out: &mut O, numbers: &FuncNumbers, to: &BlockCall)
-    ensures { Puts O.holds out.old out.new (spelled (target numbers.now to.now)) }
+    ensures { Puts O.holds out.old out.new (spelled (target numbers.now.numbering to.now)) }
 {
     put_block_reference(out, numbers, to.block);
     put_target_arguments(out, numbers, to.args.as_slice());
@@ -118,7 +118,7 @@ pub(crate) fn put_exception_table<O: Output>(
     numbers: &FuncNumbers,
     entries: &[Entry<BlockCall>],
 )
-    ensures { Puts O.holds out.old out.new (spelled (exception_table numbers.now entries.now)) }
+    ensures { Puts O.holds out.old out.new (spelled (exception_table numbers.now.numbering entries.now)) }
 {
     if entries.is_empty() {
         out.put(b"[]");
@@ -131,7 +131,8 @@ pub(crate) fn put_exception_table<O: Output>(
 
 /// Puts the targets of a `br_table`.
 pub(crate) fn put_target_list<O: Output>(out: &mut O, numbers: &FuncNumbers, targets: &[BlockCall])
-    ensures { Puts O.holds out.old out.new (spelled (in_brackets (separated (target numbers.now) targets.now))) }
+    ensures { Puts O.holds out.old out.new
+        (spelled (in_brackets (separated (target numbers.now.numbering) targets.now))) }
 {
     out.put(b"[");
     put_list(out, numbers, targets);
@@ -140,7 +141,7 @@ pub(crate) fn put_target_list<O: Output>(out: &mut O, numbers: &FuncNumbers, tar
 
 /// Puts values behind an opcode, with the space before them.
 pub(crate) fn put_operands<O: Output>(out: &mut O, numbers: &FuncNumbers, args: &[Value])
-    ensures { Puts O.holds out.old out.new (spelled (operands numbers.now args.now)) }
+    ensures { Puts O.holds out.old out.new (spelled (operands numbers.now.numbering args.now)) }
 {
     if !args.is_empty() {
         out.put(b" ");
@@ -150,7 +151,7 @@ pub(crate) fn put_operands<O: Output>(out: &mut O, numbers: &FuncNumbers, args: 
 
 /// Puts the arguments of a call, in parentheses.
 pub(crate) fn put_call_arguments<O: Output>(out: &mut O, numbers: &FuncNumbers, args: &[Value])
-    ensures { Puts O.holds out.old out.new (spelled (call_arguments numbers.now args.now)) }
+    ensures { Puts O.holds out.old out.new (spelled (call_arguments numbers.now.numbering args.now)) }
 {
     put_in_parentheses(out, numbers, args);
 }
@@ -254,7 +255,7 @@ pub(crate) fn put_offset<O: Output>(out: &mut O, offset: i32)
 
 /// Puts an address.
 pub(crate) fn put_address<O: Output>(out: &mut O, numbers: &FuncNumbers, base: Value, offset: i32)
-    ensures { Puts O.holds out.old out.new (spelled (address numbers.now base offset)) }
+    ensures { Puts O.holds out.old out.new (spelled (address numbers.now.numbering base offset)) }
 {
     put_value(out, numbers, base);
     put_offset(out, offset);

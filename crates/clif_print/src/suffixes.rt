@@ -33,7 +33,7 @@ fn has_type(func: &Func, value: Value, ty: Ty) -> bool
 
 /// Whether a reader knows the type from the operand: it is defined before, and has the type.
 fn is_known(func: &Func, numbers: &FuncNumbers, next: u32, ty: Ty, operand: Option<Value>) -> bool
-    ensures { result ≡ is_known func.now.function numbers.now next ty operand }
+    ensures { result ≡ is_known func.now.function numbers.now.numbering next ty operand }
 {
     match operand {
         Some(value) => numbers.value(value) < u64::from(next) && has_type(func, value, ty),
@@ -92,7 +92,7 @@ pub(crate) fn shown_suffix(
     line: &InstData,
 ) -> Option<Ty>
     ensures { result
-        ≡ shown_suffix func.now.function numbers.now next line.now.ty
+        ≡ shown_suffix func.now.function numbers.now.numbering next line.now.ty
         (typing_operand (instruction_of line.now.inst)) }
 {
     match line.ty {

@@ -30,4 +30,4 @@ returns-in-Some g c =
     let bs : List Block = c.args.func.now.function.blocks in
     let split = first_block bs c.blocks-order.result c.next.new.self c.in-Some.number c.in-Some.ensures.steps c.blocks-order.ensures.numbers c.blocks-order.ensures.sound.blocks_differ in
     let more = rw c.put_block-next.ensures.next at c.put_more_blocks.ensures in
-    subst (λ (l : List ℕ). Puts g.O.Output.holds c.args.out.now c.put_more_blocks.new.out l) (sym (ap (λ (l : List Block). spelled (blocks c.args.func.now.function c.args.numbers.now l)) split)) (c.put_block-next.ensures.text ▸ more)
+    subst (λ (l : List ℕ). Puts g.O.Output.holds c.args.out.now c.put_more_blocks.new.out l) (sym (ap (λ (l : List Block). spelled (blocks c.args.func.now.function c.args.numbers.now.numbering l)) split)) (c.put_block-next.ensures.text ▸ more)

@@ -13,6 +13,6 @@ lines-preserved g c =
     let count = ap (λ (ls : List Line). length (line_definitions ls)) split in
     rw c.as_slice.ensures
     (record {
-      text = goes _ c.lines.invariant.text (ap (λ (ls : List Line). spelled (lines c.args.func.now.function c.args.numbers.now c.lines.next ls)) split) c.put_line.ensures;
+      text = goes _ c.lines.invariant.text (ap (λ (ls : List Line). spelled (lines c.args.func.now.function c.args.numbers.now.numbering c.lines.next ls)) split) c.put_line.ensures;
       count = omega (arith, count, length-append c.in-Some.inst.now.results (line_definitions (map line_of c.in-Some.after.now)), c.lines.invariant.count);
     })

@@ -8,7 +8,7 @@ use Rattle.clif_print.proofs.functions.put_lines.Given as goal
 
 abbrev pub invariant-lines : goal.invariant-lines
 invariant-lines g l = record {
-  text : Going g.O.Output.holds l.initial.out l.out (spelled (lines l.func.function l.numbers l.next (map line_of l.rest))) (spelled (lines l.func.function l.numbers l.first (map line_of l.insts)));
+  text : Going g.O.Output.holds l.initial.out l.out (spelled (lines l.func.function l.numbers.numbering l.next (map line_of l.rest))) (spelled (lines l.func.function l.numbers.numbering l.first (map line_of l.insts)));
   count : l.next + length (line_definitions (map line_of l.rest)) ≡ l.first + length (line_definitions (map line_of l.insts));
 }
 

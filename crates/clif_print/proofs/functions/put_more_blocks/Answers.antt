@@ -22,7 +22,7 @@ loop-number-preserved g c =
     let rest : List ℕ = definitions (blocks_at c.args.func.now.function.blocks c.next.new.self) in
     rw c.put_block-next.ensures.next
     (record {
-      text = goes _ c.loop-number.invariant.text (ap (λ (ns : List ℕ). spelled (more_blocks c.args.func.now.function c.args.numbers.now c.loop-number.next (blocks_at c.args.func.now.function.blocks ns))) c.in-Some.ensures.steps) (c.put.ensures ▸ c.put_block-next.ensures.text);
+      text = goes _ c.loop-number.invariant.text (ap (λ (ns : List ℕ). spelled (more_blocks c.args.func.now.function c.args.numbers.now.numbering c.loop-number.next (blocks_at c.args.func.now.function.blocks ns))) c.in-Some.ensures.steps) (c.put.ensures ▸ c.put_block-next.ensures.text);
       there = rest_in _ _ _ _ c.in-Some.ensures.steps c.loop-number.invariant.there;
       count = omega (arith, ap (length {A = ℕ}) split, length-append (params_of c.in-Some.number c.args.func.now.function.blocks) (line_definitions (lines_of c.in-Some.number c.args.func.now.function.blocks) ++ rest), length-append (line_definitions (lines_of c.in-Some.number c.args.func.now.function.blocks)) rest, c.loop-number.invariant.count);
     })

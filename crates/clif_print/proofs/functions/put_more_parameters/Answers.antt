@@ -6,4 +6,4 @@ use Rattle.clif_print.proofs.functions.put_more_parameters.Goals as goal
 
 pub params-preserved : goal.params-preserved
 params-preserved g c =
-    goes _ c.params.invariant (ap (λ (l : List ℕ). spelled (more (block_parameter c.args.func.now.function c.args.numbers.now) l)) c.in-Some.ensures.cases.0) (c.put.ensures ▸ c.put_block_parameter.ensures)
+    goes _ c.params.invariant (ap (λ (l : List ℕ). spelled (more (block_parameter c.args.func.now.function c.args.numbers.now.numbering) l)) c.in-Some.ensures.cases.0) (c.put.ensures ▸ c.put_block_parameter.ensures)

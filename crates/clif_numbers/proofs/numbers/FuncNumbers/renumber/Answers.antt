@@ -4,4 +4,4 @@ use Rattle.clif_numbers.proofs.numbers.FuncNumbers.renumber.Goals as goal
 
 pub set-requires-clause-range : goal.set-requires-clause-range
 set-requires-clause-range c =
-    rw (c.values.ensures.count, c.in_ok-values.ensures) (below_blocks (counts_of c.args.func.now.function) c.args.func.now.function.blocks c.values.ensures.sound.blocks)
+    rw (c.values.ensures.count, c.in_ok-values.ensures.values) (below_blocks (counts_of c.args.func.now.function) c.args.func.now.function.blocks c.values.ensures.sound.blocks)

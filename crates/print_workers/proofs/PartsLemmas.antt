@@ -42,6 +42,10 @@ part_goes {S} {H} {a} {b} {c} {m} {from} {i} f p e q = record {
   is = sym (append_assoc (text_of (take from m)) p.part (before_function i ++ function_text_of f)) ∙ ap (λ (l : List ℕ). l ++ (before_function i ++ function_text_of f)) p.is ∙ part_of_one m i f e;
 }
 
+-- the part that is the whole text
+pub whole_part : {S : Type 0} {H : Start → S → List ℕ → Type 0} {a b : S} {m : Module} {count : ℕ} → count ≡ length m → PutsPart H a b m 0 count → Puts H a b (text_of m)
+whole_part {S} {H} {a} {b} {m} {count} e p = subst (λ (l : List ℕ). Puts H a b l) (p.is ∙ ap text_of (take_all count m (omega (arith, e)))) p.puts
+
 -- texts each of which leads from one to the next of a row
 joined : {T : Type 0} (view : T → List ℕ) (row : ℕ → List ℕ) (ts : List T) → ((i : ℕ) (d : T) → i < length ts → row i ++ view (get_or ts i d) ≡ row (suc i)) → row 0 ++ flat_map view ts ≡ row (length ts)
 joined view row [] each = append-nil (row 0)

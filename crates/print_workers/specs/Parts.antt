@@ -1,13 +1,20 @@
 -- A module whose text is written in parts.
-use Rattle.std.specs.Prelude.{◌≡◌, ℕ, zero, suc, ◌+◌, ◌<◌, ◌≤◌, List, [], ◌∷◌, ◌++◌, length, take, slice_index}
-use Rattle.ir_core.specs.Module.{Module}
+use Rattle.std.specs.Prelude.{◌≡◌, ℕ, zero, suc, ◌+◌, ◌<◌, ◌≤◌, List, [], ◌∷◌, ◌++◌, Some, length, take, slice_get}
+use Rattle.std.specs.Prelude.{slice_index}
+use Rattle.ir_core.specs.Module.{Function, Module}
 use Rattle.ir_text.specs.Text.{text_of}
+use Rattle.clif_numbers.specs.Room.{NumbersInRoom, HasRoomFor}
 use Rattle.text_output.specs.Output.{Start, Puts}
 
 -- The part of the module's text that begins with a function and ends before another: with the text of the functions
 -- before the part it is the text of the functions before its end.
 abbrev pub IsPart : Module → ℕ → ℕ → List ℕ → Type 0
 IsPart m from end part = text_of (take from m) ++ part ≡ text_of (take end m)
+
+-- each function from a place on and before another can be numbered without memory
+abbrev pub HaveRoom : Module → ℕ → ℕ → NumbersInRoom → Type 0
+HaveRoom m from end n =
+    (i : ℕ) (f : Function) → from ≤ i → i < end → slice_get m i ≡ Some f → HasRoomFor f n
 
 -- this part of the text was put
 pub record PutsPart {S : Type 0} (holds : Start → S → List ℕ → Type 0) (old new : S) (m : Module)

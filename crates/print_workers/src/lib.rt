@@ -4,6 +4,7 @@
 mod cuts;
 mod functions;
 mod parts;
+mod putting;
 
 pub use functions::Functions;
 pub use parts::{PrintErr, print_with};

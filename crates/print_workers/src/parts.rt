@@ -4,18 +4,16 @@ ghost use Rattle.std.specs.Prelude.{slice_index, slice_index_or};
 ghost use Rattle.std.specs.Io.KnownBytes.{Appends};
 ghost use Rattle.clk_flow.specs.Faults.{Rose, HasCause};
 ghost use Rattle.clk_flow.specs.Whole.{AppendsPrefix};
-ghost use Rattle.ir_core.specs.Sound.{IsWhole};
-ghost use Rattle.ir_text.specs.Text.{text_of, function_text_of};
+ghost use Rattle.ir_text.specs.Text.{text_of};
 ghost use Rattle.text_output.specs.Output.{Start, Puts};
-ghost use Rattle.print_workers.specs.Parts.{AreCuts, IsPart, PutsPart, before_function};
+ghost use Rattle.print_workers.specs.Parts.{AreCuts, HaveRoom, IsPart};
 ghost use Rattle.print_workers.specs.declared.parts.PrintErr.TheVariants as why;
 
 use crate::cuts::even_cuts;
 use crate::functions::Functions;
+use crate::putting::{numbers_between, put_functions, put_part};
 use clif_numbers::FuncNumbers;
-use clif_print::put_function;
 use clk_flow::{Failed, Sink};
-use ir_core::Func;
 use range_workers::{PARTS_OF_A_WORKER, map_drawn};
 use std::alloc::{AllocError, Global};
 use std::thread::Threads;
@@ -33,9 +31,10 @@ pub enum PrintErr {
     NoMemory,
 }
 
-/// Appends the canonical text of the functions. At most so many workers write it into memory, part by part, before the
-/// sink is given the first byte. `Failed` comes only where the sink's count of faults rose; a beginning of the text was
-/// appended then. After `NoMemory` the sink is as it was.
+/// Appends the canonical text of the functions. One worker gives it to the sink as it prints, once there is room for
+/// the numbers of each function. Of more, at most so many write it into memory, part by part, before the sink is given
+/// the first byte. `Failed` comes only where the sink's count of faults rose; a beginning of the text was appended then.
+/// After `NoMemory` the sink is as it was.
 pub fn print_with<R: Threads + Sync, F: Functions, K: Sink>(
     rt: &R,
     alloc: Global,
@@ -53,17 +52,44 @@ pub fn print_with<R: Threads + Sync, F: Functions, K: Sink>(
     ensures unwritten { IfErr result (λ e. e ≡ why.NoMemory → sink.new ≡ sink.old) }
     ensures later { K.faults sink.old ≤ K.faults sink.new }
 {
-    let Ok(texts) = part_texts(rt, alloc, functions, workers) else {
-        return Err(PrintErr::NoMemory);
+    let printed = if workers == 1 {
+        let Ok(numbers) = numbers_between(alloc, functions, 0, functions.len()) else {
+            return Err(PrintErr::NoMemory);
+        };
+        print_alone(sink, numbers, functions)
+    } else {
+        let Ok(texts) = part_texts(rt, alloc, functions, workers) else {
+            return Err(PrintErr::NoMemory);
+        };
+        print_texts(sink, texts.as_slice())
     };
-    match put_texts(sink, texts.as_slice()) {
+    match printed {
         Ok(()) => Ok(()),
         Err(_) => Err(PrintErr::Failed),
     }
 }
 
+/// Appends the text of the functions as it is printed, by numbers that have room for each.
+fn print_alone<F: Functions, K: Sink>(
+    sink: &mut K,
+    numbers: FuncNumbers,
+    functions: &F,
+) -> Result<(), Failed>
+    requires { HaveRoom (F.functions functions.now) 0 (length (F.functions functions.now)) numbers }
+    ensures whole { OnOk result
+        (Appends (K.written sink.old) (K.written sink.new) (text_of (F.functions functions.now))) }
+    ensures part { OnErr result
+        (AppendsPrefix (K.written sink.old) (K.written sink.new) (text_of (F.functions functions.now))) }
+    ensures cause { HasCause (K.faults sink.old) (K.faults sink.new) result }
+{
+    let mut numbers = numbers;
+    let mut out = SinkOutput::new(sink);
+    put_functions(&mut out, &mut numbers, functions);
+    out.finish()
+}
+
 /// Appends texts, one behind the other.
-fn put_texts<K: Sink>(sink: &mut K, texts: &[Vec<u8>]) -> Result<(), Failed>
+fn print_texts<K: Sink>(sink: &mut K, texts: &[Vec<u8>]) -> Result<(), Failed>
     ensures whole { OnOk result
         (Appends (K.written sink.old) (K.written sink.new) (flat_map (λ text. text.items) texts.now)) }
     ensures part { OnErr result
@@ -111,11 +137,7 @@ fn count_parts(workers: usize) -> usize
     requires { 0 < workers }
     ensures { 0 < result }
 {
-    if workers == 1 {
-        1
-    } else {
-        workers.saturating_mul(PARTS_OF_A_WORKER)
-    }
+    workers.saturating_mul(PARTS_OF_A_WORKER)
 }
 
 /// The parts of the functions' text between its cuts, if there was memory for them. Each of so many workers draws the
@@ -170,49 +192,8 @@ fn part_text<F: Functions>(
     requires { (from ≤ end) × (end ≤ length (F.functions functions.now)) }
     ensures { IfOk result (λ text. IsPart (F.functions functions.now) from end text.items) }
 {
+    let mut numbers = numbers_between(alloc, functions, from, end)?;
     let mut out = MemoryOutput::new(alloc);
-    put_part(&mut out, alloc, functions, from, end)?;
+    put_part(&mut out, &mut numbers, functions, from, end);
     out.finish()
-}
-
-/// Puts the part of the functions' text from a function on and before another. Only `AllocError` refuses.
-fn put_part<O: Output, F: Functions>(
-    out: &mut O,
-    alloc: Global,
-    functions: &F,
-    from: usize,
-    end: usize,
-) -> Result<(), AllocError>
-    requires { (from ≤ end) × (end ≤ length (F.functions functions.now)) }
-    ensures { OnOk result (PutsPart O.holds out.old out.new (F.functions functions.now) from end) }
-{
-    let mut numbers = FuncNumbers::new(alloc);
-    for i in from..end {
-        put_before_function(out, i);
-        put_alone(out, &mut numbers, functions.func(i))?;
-    }
-    Ok(())
-}
-
-/// Puts the empty line that stands before each function but the first.
-fn put_before_function<O: Output>(out: &mut O, place: usize)
-    ensures { Puts O.holds out.old out.new (before_function place) }
-{
-    if place != 0 {
-        out.put(b"\n");
-    }
-}
-
-/// Numbers a whole function and puts it. Only `AllocError` refuses.
-fn put_alone<O: Output>(
-    out: &mut O,
-    numbers: &mut FuncNumbers,
-    func: &Func,
-) -> Result<(), AllocError>
-    requires { IsWhole func.now.function }
-    ensures { OnOk result (Puts O.holds out.old out.new (function_text_of func.now.function)) }
-{
-    numbers.renumber(func)?;
-    put_function(out, func, numbers);
-    Ok(())
 }

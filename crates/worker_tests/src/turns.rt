@@ -42,7 +42,7 @@ fn refuse(board: &Board, seat: Seat) -> Option<usize>
     Some(ticket)
 }
 
-/// A seat that has done nothing takes two turns.
+/// A seat that has done nothing takes a turn.
 fn turn_of_idle<R: Wait, L: Ledger>(
     rt: &R,
     alloc: Global,
@@ -52,7 +52,7 @@ fn turn_of_idle<R: Wait, L: Ledger>(
     board: &Board,
     seat: Seat,
     blank: Blank,
-) -> (Turn, Turn)
+) -> Turn
     requires board { IsBoardFor «module».now policy board.now × IsIdle board.now seat }
     requires plan { IsPlanOf «module».now plan.now × IsLimited policy }
     requires blank { (blank.name ≡ L.name) × (blank.parts ≡ L.parts) × (0 < blank.parts) }
@@ -60,16 +60,12 @@ fn turn_of_idle<R: Wait, L: Ledger>(
     let mut seat = seat;
     let mut steps: Steps<L> = Steps::open(blank);
     let mut ahead = VecDeque::new(alloc);
-    let first = turn(
+    turn(
         rt, alloc, module, plan, policy, board, &mut seat, &mut ahead, 1, &NoGate, &mut steps,
-    );
-    let second = turn(
-        rt, alloc, module, plan, policy, board, &mut seat, &mut ahead, 1, &NoGate, &mut steps,
-    );
-    (first, second)
+    )
 }
 
-/// The last seat takes two turns, once the one before it has refused a ticket.
+/// The last seat takes a turn, once the one before it has refused a ticket.
 fn turn_of_last<R: Wait, L: Ledger>(
     rt: &R,
     alloc: Global,
@@ -79,7 +75,7 @@ fn turn_of_last<R: Wait, L: Ledger>(
     board: &Board,
     seats: Vec<Seat>,
     blank: Blank,
-) -> Option<(Turn, Turn)>
+) -> Option<Turn>
     requires board { IsBoardFor «module».now policy board.now × All (IsIdle board.now) seats.items }
     requires plan { IsPlanOf «module».now plan.now × IsLimited policy }
     requires blank { (blank.name ≡ L.name) × (blank.parts ≡ L.parts) × (0 < blank.parts) }
@@ -96,7 +92,7 @@ fn turn_after_refusal<R: Threads + Wait + Sync>(
     alloc: Global,
     module: &Checked,
     policy: Policy,
-) -> Result<Option<(Turn, Turn)>, AllocError>
+) -> Result<Option<Turn>, AllocError>
     requires { IsLimited policy }
 {
     let functions = module.module();
@@ -116,8 +112,7 @@ fn a_refused_callee_refuses_its_caller(rt: HostRuntime) -> Result<(), AllocError
     let Ok(module) = check_text(&rt, alloc, TEXT.as_bytes(), 1) else {
         panic!(&rt; "refused");
     };
-    // The second one draws, and finds that no ticket is left.
-    let turns = turn_after_refusal(&rt, alloc, &module, policy)?;
-    assert!(rt; matches!(turns, Some((Turn::Refused(1), Turn::Ended))));
+    let turn = turn_after_refusal(&rt, alloc, &module, policy)?;
+    assert!(rt; matches!(turn, Some(Turn::Refused(1))));
     Ok(())
 }

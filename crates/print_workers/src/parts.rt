@@ -32,9 +32,9 @@ pub enum PrintErr {
 }
 
 /// Appends the canonical text of the functions. One worker gives it to the sink as it prints, once there is room for
-/// the numbers of each function. Of more, at most so many write it into memory, part by part, before the sink is given
-/// the first byte. `Failed` comes only where the sink's count of faults rose; a beginning of the text was appended then.
-/// After `NoMemory` the sink is as it was.
+/// the numbers of each function; several write it into memory, part by part, before the sink is given the first byte.
+/// `Failed` comes only where the sink's count of faults rose; a beginning of the text was appended then. After
+/// `NoMemory` the sink is as it was.
 pub fn print_with<R: Threads + Sync, F: Functions, K: Sink>(
     rt: &R,
     alloc: Global,

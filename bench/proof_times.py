@@ -1,38 +1,18 @@
 #!/usr/bin/env python3
-"""Where a check of a crate spends the processor's time.
+"""Where a check of a crate spends its time.
 
     python3 bench/proof_times.py CRATE [HOW_MANY]
 
-Checks the crate with one job, and prints the lines of its progress before which most of the processor's time passed,
-with the time in seconds; those of five seconds and more at once. A line names the function that was finished then. The
-time is not that function's alone: whatever was checked since the line before counts, as a library's module or a lemma
-file that the function is the first to need. So a large number is a place to look, and `--only` on the function, from
-nothing, tells its own time. What an earlier check of the same text kept, here or in another checkout, is not checked
-again: change a comment first, and empty `out/incremental`.
-"""
+Checks the crate from nothing with one job, and prints the functions and files of lemmas that took longest, in seconds
+by the clock: what passed between one file that the check keeps in `out/incremental` and the next. Other work on the
+machine makes them longer. `Lts` is what a function's code does, step by step, and grows with what it drops where it
+returns early; `Proof` is the proof of its goals."""
 
+import collections
 import os
+import shutil
 import subprocess
 import sys
-
-TICKS = os.sysconf('SC_CLK_TCK')
-
-
-def processor_time(folder):
-    """Seconds of the processor that the processes of this folder have taken."""
-    total = 0
-    for process in os.listdir('/proc'):
-        if not process.isdigit():
-            continue
-        try:
-            if os.readlink('/proc/%s/cwd' % process) != folder:
-                continue
-            with open('/proc/%s/stat' % process) as stat:
-                fields = stat.read().rsplit(')', 1)[1].split()
-            total += sum(int(field) for field in fields[11:15])
-        except OSError:
-            continue
-    return total / TICKS
 
 
 def main():
@@ -40,20 +20,20 @@ def main():
     most = int(sys.argv[2]) if len(sys.argv) > 2 else 20
     root = os.path.dirname(os.path.dirname(os.path.abspath(__file__)))
     folder = os.path.join(root, 'crates', crate)
-    rows = []
-    with subprocess.Popen(['rt', 'check', '--jobs', '1', '--progress'], cwd=folder, stdout=subprocess.PIPE,
-                          stderr=subprocess.STDOUT, text=True) as check:
-        before = processor_time(folder)
-        for line in check.stdout:
-            now = processor_time(folder)
-            rows.append((now - before, line.strip()))
-            if now - before >= 5:
-                print('%7.1f  %s' % rows[-1], flush=True)
-            before = now
-    print(rows[-1][1] if rows else 'nothing was printed')
-    print('In order, of %.0f seconds of the processor:' % sum(max(time, 0) for time, _ in rows))
-    for time, line in sorted(rows, reverse=True)[:most]:
-        print('%7.1f  %s' % (time, line))
+    kept = os.path.join(folder, 'out', 'incremental')
+    shutil.rmtree(kept, ignore_errors=True)
+    status = subprocess.run(['rt', 'check', '--jobs', '1'], cwd=folder, stdout=subprocess.DEVNULL, check=False).returncode
+    ends = sorted((os.stat(os.path.join(at, name)).st_mtime, name)
+                  for at, _, names in os.walk(kept) for name in names if name.endswith('.oantt'))
+    took = collections.Counter()
+    for (before, _), (end, name) in zip(ends, ends[1:]):
+        path = name.removesuffix('.oantt').removeprefix('Rattle-%s-' % crate).removeprefix('proofs.').split('.')
+        part = next((it for it in ('Lts', 'Proof', 'Tie') if it in path), '')
+        item = '.'.join(path[:path.index(part)] if part else path[:-1]) or path[0]
+        took[item, part] += end - before
+    print('status %d; %.0f s, of which' % (status, sum(took.values())))
+    for (item, part), time in took.most_common(most):
+        print('%7.1f  %s %s' % (time, item, part))
 
 
 if __name__ == '__main__':

@@ -13,10 +13,10 @@ pub fn next_line_with(text: &[u8], from: usize, word: &[u8]) -> usize
     ensures there { (result ≡ length text.now) ⊎ ((from < result) × IsLineWith word.now text.now result) }
     ensures none_before { (at : ℕ) → from < at → at < result → IsLineWith word.now text.now at → ⊥ }
 {
-    let words = Finder::new(word);
+    let finder = Finder::new(word);
     let mut at = from;
     'words: while at < text.len() {
-        let Some(length) = words.find(text.split_at(at + 1).1) else {
+        let Some(length) = finder.find(text.split_at(at + 1).1) else {
             return text.len();
         };
         at += length + 1;

@@ -49,10 +49,12 @@ pub fn line(
         true => Some(ty),
         false => None,
     };
+    let results = values(alloc, words, results)?;
+    let tags = tags(alloc, words, written)?;
     Ok(InstData {
         inst: instruction(alloc, words, ty, inst)?,
         ty: kept,
-        results: values(alloc, words, results)?,
-        tags: tags(alloc, words, written)?,
+        results,
+        tags,
     })
 }

@@ -1,5 +1,5 @@
 //! The four shapes of generated functions.
-ghost use Rattle.std.specs.Prelude.{◌≡◌, IfOk};
+ghost use Rattle.std.specs.Prelude.{◌≡◌, IfOk, OnOk};
 ghost use Rattle.gen_mod.specs.Shapes as spec;
 
 use crate::lines::{brif, call, iadd, icmp_ult, iconst, returned, try_call};
@@ -19,6 +19,22 @@ pub(crate) fn adding(alloc: Global, number: u32, constant: u64) -> Result<Func, 
     ensures { IfOk result (λ func. func.function ≡ spec.adding number constant) }
 {
     let mut func = begun(alloc, number)?;
+    fill_adding(alloc, &mut func, number, constant)?;
+    Ok(func)
+}
+
+/// The parts of `adding`. Like the other functions that fill one, it is apart so that no function is let go in it where
+/// memory is out.
+fn fill_adding(
+    alloc: Global,
+    func: &mut Func,
+    number: u32,
+    constant: u64,
+) -> Result<(), AllocError>
+    requires begun { func.old.function ≡ spec.begun number }
+    ensures { OnOk result (func.new.function ≡ spec.adding number constant) }
+{
+    let _ = number;
     let arg = func.declare(Ty::I64)?;
     let added = func.declare(Ty::I64)?;
     let sum = func.declare(Ty::I64)?;
@@ -27,7 +43,7 @@ pub(crate) fn adding(alloc: Global, number: u32, constant: u64) -> Result<Func, 
     func.add_inst(entry, iconst(alloc, added, constant))?;
     func.add_inst(entry, iadd(alloc, sum, arg, added))?;
     func.add_inst(entry, returned(alloc, sum))?;
-    Ok(func)
+    Ok(())
 }
 
 /// A function with `fn0 = %gA sig0`.
@@ -45,6 +61,21 @@ pub(crate) fn calling_two(alloc: Global, number: u32, a: u32, b: u32) -> Result<
     ensures { IfOk result (λ func. func.function ≡ spec.calling_two number a b) }
 {
     let mut func = calling(alloc, number, a)?;
+    fill_calling_two(alloc, &mut func, number, a, b)?;
+    Ok(func)
+}
+
+fn fill_calling_two(
+    alloc: Global,
+    func: &mut Func,
+    number: u32,
+    a: u32,
+    b: u32,
+) -> Result<(), AllocError>
+    requires calling { func.old.function ≡ spec.calling number a }
+    ensures { OnOk result (func.new.function ≡ spec.calling_two number a b) }
+{
+    let _ = (number, a);
     func.add_callee(callee(generated_name(alloc, b)?))?;
     let arg = func.declare(Ty::I64)?;
     let first = func.declare(Ty::I64)?;
@@ -54,7 +85,7 @@ pub(crate) fn calling_two(alloc: Global, number: u32, a: u32, b: u32) -> Result<
     func.add_inst(entry, call(alloc, first, FuncRef::new(0), arg))?;
     func.add_inst(entry, call(alloc, second, FuncRef::new(1), first))?;
     func.add_inst(entry, returned(alloc, second))?;
-    Ok(func)
+    Ok(())
 }
 
 /// It calls an earlier function, and returns what that returns or throws.
@@ -62,6 +93,15 @@ pub(crate) fn trying(alloc: Global, number: u32, a: u32) -> Result<Func, AllocEr
     ensures { IfOk result (λ func. func.function ≡ spec.trying number a) }
 {
     let mut func = calling(alloc, number, a)?;
+    fill_trying(alloc, &mut func, number, a)?;
+    Ok(func)
+}
+
+fn fill_trying(alloc: Global, func: &mut Func, number: u32, a: u32) -> Result<(), AllocError>
+    requires calling { func.old.function ≡ spec.calling number a }
+    ensures { OnOk result (func.new.function ≡ spec.trying number a) }
+{
+    let _ = (number, a);
     let arg = func.declare(Ty::I64)?;
     let came_back = func.declare(Ty::I64)?;
     let thrown = func.declare(Ty::I64)?;
@@ -77,7 +117,7 @@ pub(crate) fn trying(alloc: Global, number: u32, a: u32) -> Result<Func, AllocEr
     )?;
     func.add_inst(normal, returned(alloc, came_back))?;
     func.add_inst(handler, returned(alloc, thrown))?;
-    Ok(func)
+    Ok(())
 }
 
 /// The declarations and blocks of `choosing`.
@@ -85,6 +125,20 @@ fn choosing_blocks(alloc: Global, number: u32, a: u32) -> Result<Func, AllocErro
     ensures { IfOk result (λ func. func.function ≡ spec.choosing_blocks number a) }
 {
     let mut func = calling(alloc, number, a)?;
+    fill_choosing_blocks(alloc, &mut func, number, a)?;
+    Ok(func)
+}
+
+fn fill_choosing_blocks(
+    alloc: Global,
+    func: &mut Func,
+    number: u32,
+    a: u32,
+) -> Result<(), AllocError>
+    requires calling { func.old.function ≡ spec.calling number a }
+    ensures { OnOk result (func.new.function ≡ spec.choosing_blocks number a) }
+{
+    let _ = (number, a);
     func.add_callee(callee(host_name(alloc)?))?;
     let arg = func.declare(Ty::I64)?;
     func.declare(Ty::I64)?;
@@ -95,7 +149,7 @@ fn choosing_blocks(alloc: Global, number: u32, a: u32) -> Result<Func, AllocErro
     func.add_param(entry, arg)?;
     func.add_block()?;
     func.add_block()?;
-    Ok(func)
+    Ok(())
 }
 
 /// It calls an earlier function where its argument is below a constant, and the host elsewhere.
@@ -108,6 +162,21 @@ pub(crate) fn choosing(
     ensures { IfOk result (λ func. func.function ≡ spec.choosing number constant a) }
 {
     let mut func = choosing_blocks(alloc, number, a)?;
+    fill_choosing(alloc, &mut func, number, constant, a)?;
+    Ok(func)
+}
+
+fn fill_choosing(
+    alloc: Global,
+    func: &mut Func,
+    number: u32,
+    constant: u64,
+    a: u32,
+) -> Result<(), AllocError>
+    requires blocks { func.old.function ≡ spec.choosing_blocks number a }
+    ensures { OnOk result (func.new.function ≡ spec.choosing number constant a) }
+{
+    let _ = (number, a);
     let (entry, below, other) = (Block::new(0), Block::new(1), Block::new(2));
     let (arg, limit, test) = (Value::new(0), Value::new(1), Value::new(2));
     func.add_inst(entry, iconst(alloc, limit, constant))?;
@@ -117,5 +186,5 @@ pub(crate) fn choosing(
     func.add_inst(below, returned(alloc, Value::new(3)))?;
     func.add_inst(other, call(alloc, Value::new(4), FuncRef::new(1), arg))?;
     func.add_inst(other, returned(alloc, Value::new(4)))?;
-    Ok(func)
+    Ok(())
 }

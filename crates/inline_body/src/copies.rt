@@ -6,6 +6,7 @@ ghost use Rattle.ir_core.specs.Uses.{slots_shown};
 ghost use Rattle.ir_core.specs.Viewed.{instruction_of, line_of};
 ghost use Rattle.inline_body.specs.Named.{names_of, Moves, Reached};
 
+use crate::branches::{copy_br_table, copy_brif, copy_try_call, copy_try_call_indirect};
 use crate::names::Names;
 use debug_tags::Tags;
 use ir_core::{Inst, InstData};
@@ -70,20 +71,12 @@ pub fn copy_inst(alloc: Global, names: &Names, added: &InstData) -> Result<Inst,
         }),
         Inst::FuncAddr(callee) => Ok(Inst::FuncAddr(names.callee(*callee))),
         Inst::Jump(target) => Ok(Inst::Jump(names.target(alloc, target)?)),
-        Inst::Brif { cond, yes, no } => Ok(Inst::Brif {
-            cond: names.value(*cond),
-            yes: names.boxed(alloc, yes)?,
-            no: names.boxed(alloc, no)?,
-        }),
+        Inst::Brif { cond, yes, no } => copy_brif(alloc, names, *cond, yes, no),
         Inst::BrTable {
             index,
             default,
             entries,
-        } => Ok(Inst::BrTable {
-            index: names.value(*index),
-            default: names.boxed(alloc, default)?,
-            entries: names.targets(alloc, entries.as_slice())?,
-        }),
+        } => copy_br_table(alloc, names, *index, default, entries),
         Inst::Return(values) => Ok(Inst::Return(names.of_values(alloc, values)?)),
         Inst::Trap(code) => Ok(Inst::Trap(*code)),
         Inst::Trapz { cond, code } => Ok(Inst::Trapz {
@@ -108,13 +101,7 @@ pub fn copy_inst(alloc: Global, names: &Names, added: &InstData) -> Result<Inst,
             args,
             normal,
             table,
-        } => Ok(Inst::TryCall {
-            callee: names.callee(*callee),
-            sig: names.sig(*sig),
-            args: names.of_values(alloc, args)?,
-            normal: names.boxed(alloc, normal)?,
-            table: names.table(alloc, table)?,
-        }),
+        } => copy_try_call(alloc, names, *callee, *sig, args, normal, table),
         Inst::CallIndirect { sig, address, args } => Ok(Inst::CallIndirect {
             sig: names.sig(*sig),
             address: names.value(*address),
@@ -131,13 +118,7 @@ pub fn copy_inst(alloc: Global, names: &Names, added: &InstData) -> Result<Inst,
             args,
             normal,
             table,
-        } => Ok(Inst::TryCallIndirect {
-            sig: names.sig(*sig),
-            address: names.value(*address),
-            args: names.of_values(alloc, args)?,
-            normal: names.boxed(alloc, normal)?,
-            table: names.table(alloc, table)?,
-        }),
+        } => copy_try_call_indirect(alloc, names, *sig, *address, args, normal, table),
     }
 }
 

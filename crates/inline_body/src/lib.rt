@@ -3,6 +3,7 @@
 
 mod appending;
 mod blocks;
+mod branches;
 mod copies;
 mod inserting;
 pub mod laws;

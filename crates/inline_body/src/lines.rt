@@ -58,11 +58,13 @@ pub fn copy_line(
     requires { Reached names.now (line_of line.now) }
     ensures { IfOk result (λ l. line_of l ≡ copied_line names.now outer.now (line_of line.now)) }
 {
+    let results = names.of_values(alloc, &line.results)?;
+    let tags = copy_line_tags(alloc, names, outer, line)?;
     Ok(InstData {
         inst: copy_inst(alloc, names, line)?,
         ty: line.ty,
-        results: names.of_values(alloc, &line.results)?,
-        tags: copy_line_tags(alloc, names, outer, line)?,
+        results,
+        tags,
     })
 }
 
@@ -99,12 +101,18 @@ pub fn line_with(
               ++ map (tag_under (names_of names.now)) line.now.tags;
         }) }
 {
-    Ok(InstData {
-        inst,
-        ty: line.ty,
-        results,
-        tags: copy_tags(alloc, names, outer, &line.tags)?,
-    })
+    match copy_tags(alloc, names, outer, &line.tags) {
+        Ok(tags) => Ok(InstData {
+            inst,
+            ty: line.ty,
+            results,
+            tags,
+        }),
+        Err(error) => {
+            drop(inst);
+            Err(error)
+        }
+    }
 }
 
 /// Appends a copy of a line.
@@ -163,7 +171,14 @@ fn push_call(
           tags = outer.now ++ map (tag_under (names_of names.now)) line.now.tags;
         }) ∷ jump_line after results.now ∷ []) }
 {
-    list.push(line_with(alloc, names, outer, line, inst, results.clone()?)?)?;
+    let call = match results.clone() {
+        Ok(results) => line_with(alloc, names, outer, line, inst, results)?,
+        Err(error) => {
+            drop(inst);
+            return Err(error);
+        }
+    };
+    list.push(call)?;
     list.push(jump(alloc, after, results.as_slice())?)?;
     Ok(())
 }

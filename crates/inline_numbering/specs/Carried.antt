@@ -36,7 +36,7 @@ pub record Carries (t r s : Renaming) (n m : Naming) (b c g h : Function) : Type
   pub callee_blocks : h.blocks ≡ map (block_under s) g.blocks
   pub first : first_number h.blocks ≡ s.block (first_number g.blocks)
 
--- the same number_in of the caller c, which is p's under r, with h for p's callee and other numbers
+-- the same site of the caller c, which is p's under r, with h for p's callee and other numbers
 abbrev pub splicing_under : Renaming → Naming → Function → Function → Splicing → Splicing
 splicing_under r m c h p =
     record {
@@ -59,7 +59,7 @@ pub record SiteUnder (r s : Renaming) (p : Splicing) (c h : Function) : Type 0 w
   pub callee_whole : WellFormed p.callee
   pub callee_after_whole : WellFormed h
 
--- a block of f and one of g that have the same number_in in list order
+-- a block of f and one of g that have the same place in list order
 pub record SamePlace (f g : Function) (at there : ℕ) : Type 0 where
   pub one : In at (block_numbers f.blocks)
   pub other : In there (block_numbers g.blocks)

@@ -1,8 +1,8 @@
 -- The items of a list, however it keeps them.
 use Rattle.std.specs.Prelude.{List}
-use Rattle.ir_core.specs.declared.few.Kept.{Kept}
-use Rattle.ir_core.specs.declared.few.Kept.TheVariants as kept
+use Rattle.ir_core.specs.declared.few.OneOrMany.{OneOrMany}
+use Rattle.ir_core.specs.declared.few.OneOrMany.TheVariants as form
 
-abbrev pub items_of : {T : Type 0} → Kept T → List T
-items_of (kept.One items) = items
-items_of (kept.Many items) = items.items
+abbrev pub items_of : {T : Type 0} → OneOrMany T → List T
+items_of (form.One items) = items
+items_of (form.Many items) = items.items

@@ -68,7 +68,7 @@ definitions (b ∷ bs) = b.params ++ (line_definitions b.lines ++ definitions bs
 abbrev pub block_numbers : List Block → List ℕ
 block_numbers bs = map (λ b. b.number) bs
 
--- the canonical number of a value or a block: its number_in in the list of all. What is not in the list comes behind
+-- the canonical number of a value or a block: its place in the list of all. What is not in the list comes behind
 -- all that is, each under a number of its own.
 abbrev pub number_in : List ℕ → ℕ → ℕ
 number_in [] v = v

@@ -1,7 +1,13 @@
 //! Copies of instructions.
-ghost use Rattle.std.specs.Prelude.{◌≡◌};
+ghost use Rattle.std.specs.Prelude.{◌≡◌, IfOk};
+ghost use Rattle.ir_core.specs.declared.instructions.Inst.TheVariants.{Brif, BrTable, TryCall, TryCallIndirect};
 
+use crate::boxed::Boxed;
 use crate::instructions::{BlockCall, Inst, InstData};
+use crate::lists::List;
+use crate::numbers::{FuncRef, SigRef, Value};
+use crate::values::Values;
+use exn_tables::Table;
 use std::alloc::AllocError;
 
 impl Clone for BlockCall {
@@ -19,13 +25,79 @@ impl Clone for InstData {
     ghost is_clone = { λ added copy. copy ≡ added };
 
     fn clone(&self) -> Result<InstData, AllocError> {
+        let results = self.results.clone()?;
+        let tags = self.tags.clone()?;
         Ok(InstData {
             inst: self.inst.clone()?,
             ty: self.ty,
-            results: self.results.clone()?,
-            tags: self.tags.clone()?,
+            results,
+            tags,
         })
     }
+}
+
+fn clone_brif(
+    cond: Value,
+    yes: &Boxed<BlockCall>,
+    no: &Boxed<BlockCall>,
+) -> Result<Inst, AllocError>
+    ensures { IfOk result (λ copy. copy ≡ Brif cond yes.now no.now) }
+{
+    Ok(Inst::Brif {
+        cond,
+        yes: yes.clone()?,
+        no: no.clone()?,
+    })
+}
+
+fn clone_br_table(
+    index: Value,
+    default: &Boxed<BlockCall>,
+    entries: &List<BlockCall>,
+) -> Result<Inst, AllocError>
+    ensures { IfOk result (λ copy. copy ≡ BrTable index default.now entries.now) }
+{
+    Ok(Inst::BrTable {
+        index,
+        default: default.clone()?,
+        entries: entries.clone()?,
+    })
+}
+
+fn clone_try_call(
+    callee: FuncRef,
+    sig: SigRef,
+    args: &Values,
+    normal: &Boxed<BlockCall>,
+    table: &Boxed<Table<BlockCall>>,
+) -> Result<Inst, AllocError>
+    ensures { IfOk result (λ copy. copy ≡ TryCall callee sig args.now normal.now table.now) }
+{
+    Ok(Inst::TryCall {
+        callee,
+        sig,
+        args: args.clone()?,
+        normal: normal.clone()?,
+        table: table.clone()?,
+    })
+}
+
+fn clone_try_call_indirect(
+    sig: SigRef,
+    address: Value,
+    args: &Values,
+    normal: &Boxed<BlockCall>,
+    table: &Boxed<Table<BlockCall>>,
+) -> Result<Inst, AllocError>
+    ensures { IfOk result (λ copy. copy ≡ TryCallIndirect sig address args.now normal.now table.now) }
+{
+    Ok(Inst::TryCallIndirect {
+        sig,
+        address,
+        args: args.clone()?,
+        normal: normal.clone()?,
+        table: table.clone()?,
+    })
 }
 
 impl Clone for Inst {
@@ -85,20 +157,12 @@ impl Clone for Inst {
             }),
             Inst::FuncAddr(callee) => Ok(Inst::FuncAddr(*callee)),
             Inst::Jump(target) => Ok(Inst::Jump(target.clone()?)),
-            Inst::Brif { cond, yes, no } => Ok(Inst::Brif {
-                cond: *cond,
-                yes: yes.clone()?,
-                no: no.clone()?,
-            }),
+            Inst::Brif { cond, yes, no } => clone_brif(*cond, yes, no),
             Inst::BrTable {
                 index,
                 default,
                 entries,
-            } => Ok(Inst::BrTable {
-                index: *index,
-                default: default.clone()?,
-                entries: entries.clone()?,
-            }),
+            } => clone_br_table(*index, default, entries),
             Inst::Return(values) => Ok(Inst::Return(values.clone()?)),
             Inst::Trap(code) => Ok(Inst::Trap(*code)),
             Inst::Trapz { cond, code } => Ok(Inst::Trapz {
@@ -123,13 +187,7 @@ impl Clone for Inst {
                 args,
                 normal,
                 table,
-            } => Ok(Inst::TryCall {
-                callee: *callee,
-                sig: *sig,
-                args: args.clone()?,
-                normal: normal.clone()?,
-                table: table.clone()?,
-            }),
+            } => clone_try_call(*callee, *sig, args, normal, table),
             Inst::CallIndirect { sig, address, args } => Ok(Inst::CallIndirect {
                 sig: *sig,
                 address: *address,
@@ -146,13 +204,7 @@ impl Clone for Inst {
                 args,
                 normal,
                 table,
-            } => Ok(Inst::TryCallIndirect {
-                sig: *sig,
-                address: *address,
-                args: args.clone()?,
-                normal: normal.clone()?,
-                table: table.clone()?,
-            }),
+            } => clone_try_call_indirect(*sig, *address, args, normal, table),
         }
     }
 }

@@ -8,11 +8,11 @@ use std::marker::Model;
 /// A list that mostly has one item: one takes no memory but the list's own. Contracts see its items in order.
 #[derive(Drop)]
 pub struct Few<T> {
-    kept: Kept<T>,
+    kept: OneOrMany<T>,
 }
 
 #[derive(Drop)]
-enum Kept<T> {
+enum OneOrMany<T> {
     One([T; 1]),
     Many(Vec<T>),
 }
@@ -34,7 +34,7 @@ impl<T> Few<T> {
         ensures { result ≡ item ∷ [] }
     {
         Few {
-            kept: Kept::One([item]),
+            kept: OneOrMany::One([item]),
         }
     }
 
@@ -44,7 +44,7 @@ impl<T> Few<T> {
         ensures { result ≡ items.items }
     {
         Few {
-            kept: Kept::Many(items),
+            kept: OneOrMany::Many(items),
         }
     }
 
@@ -54,8 +54,8 @@ impl<T> Few<T> {
         ensures { result.now ≡ self.now }
     {
         match &self.kept {
-            Kept::One(items) => items.as_slice(),
-            Kept::Many(items) => items.as_slice(),
+            OneOrMany::One(items) => items.as_slice(),
+            OneOrMany::Many(items) => items.as_slice(),
         }
     }
 }
@@ -65,8 +65,8 @@ impl<T: Clone> Clone for Few<T> {
 
     fn clone(&self) -> Result<Few<T>, AllocError> {
         match &self.kept {
-            Kept::One([item]) => Ok(Few::one(item.clone()?)),
-            Kept::Many(items) => Ok(Few::from_vec(items.clone()?)),
+            OneOrMany::One([item]) => Ok(Few::one(item.clone()?)),
+            OneOrMany::Many(items) => Ok(Few::from_vec(items.clone()?)),
         }
     }
 }

@@ -221,8 +221,15 @@ impl Func {
         ensures err { OnErr result (self.new.function ≡ self.old.function) }
         ensures room { self.new.room ≡ record self.old.room { insts = self.new.room.insts } }
     {
-        self.insts.reserve(1)?;
-        self.put_inst(block, added);
-        Ok(())
+        match self.insts.reserve(1) {
+            Ok(()) => {
+                self.put_inst(block, added);
+                Ok(())
+            }
+            Err(error) => {
+                drop(added);
+                Err(error)
+            }
+        }
     }
 }

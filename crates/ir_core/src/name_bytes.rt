@@ -10,11 +10,11 @@ const SHORT: usize = 30;
 /// The bytes of a name. Up to thirty take no memory but their own. Contracts see the bytes in order.
 #[derive(Drop)]
 pub struct NameBytes {
-    kept: Kept,
+    kept: ShortOrLong,
 }
 
 #[derive(Drop)]
-enum Kept {
+enum ShortOrLong {
     Short { length: u8, bytes: [u8; SHORT] },
     Long(Vec<u8>),
 }
@@ -38,7 +38,7 @@ impl NameBytes {
     {
         if bytes.len() > SHORT {
             return Ok(NameBytes {
-                kept: Kept::Long(Vec::from_slice(alloc, bytes)?),
+                kept: ShortOrLong::Long(Vec::from_slice(alloc, bytes)?),
             });
         }
         Ok(NameBytes::short(bytes))
@@ -53,7 +53,7 @@ impl NameBytes {
         let mut room = [0; SHORT];
         room[..length].copy_from_slice(bytes);
         NameBytes {
-            kept: Kept::Short {
+            kept: ShortOrLong::Short {
                 length: length as u8,
                 bytes: room,
             },
@@ -66,8 +66,8 @@ impl NameBytes {
         ensures { result.now ≡ self.now }
     {
         match &self.kept {
-            Kept::Short { length, bytes } => &bytes[..*length as usize],
-            Kept::Long(bytes) => bytes.as_slice(),
+            ShortOrLong::Short { length, bytes } => &bytes[..*length as usize],
+            ShortOrLong::Long(bytes) => bytes.as_slice(),
         }
     }
 }
@@ -77,14 +77,14 @@ impl Clone for NameBytes {
 
     fn clone(&self) -> Result<NameBytes, AllocError> {
         match &self.kept {
-            Kept::Short { length, bytes } => Ok(NameBytes {
-                kept: Kept::Short {
+            ShortOrLong::Short { length, bytes } => Ok(NameBytes {
+                kept: ShortOrLong::Short {
                     length: *length,
                     bytes: *bytes,
                 },
             }),
-            Kept::Long(bytes) => Ok(NameBytes {
-                kept: Kept::Long(bytes.clone()?),
+            ShortOrLong::Long(bytes) => Ok(NameBytes {
+                kept: ShortOrLong::Long(bytes.clone()?),
             }),
         }
     }

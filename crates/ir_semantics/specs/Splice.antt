@@ -159,15 +159,16 @@ module _ (p : Splicing) where
   abbrev pub try_with : Line → TryTarget → ℕ → List ℕ → BlockCall → List (Entry BlockCall) → Line
   try_with i t sig args normal table = line_with i (TryCall t sig (map p.naming.callee_value args) normal table) []
 
-  -- ---- the kinds of site: i is the j-th line of the callee's block c, q what its further lines give
+  -- ---- the kinds of site: line is the callee's, the place-th of its block of that number; further is what the lines
+  -- behind it give
 
   -- at a plain call a return jumps to the block behind the body, and a tail call becomes a call
   abbrev pub within_fragment : ℕ → ℕ → Line → Instruction → Fragment → Fragment
-  within_fragment c j i (Return vs) q = front (to_after (map p.naming.callee_value vs)) q
-  within_fragment c j i (ReturnCall t args) q =
-      front (line_with i (Call (called_under callee_names t) (map p.naming.callee_value args)) (new_results c))
-      (front (to_after (new_results c)) q)
-  within_fragment c j i _ q = front (callee_line i) q
+  within_fragment block place line (Return vs) further = front (to_after (map p.naming.callee_value vs)) further
+  within_fragment block place line (ReturnCall t args) further =
+      front (line_with line (Call (called_under callee_names t) (map p.naming.callee_value args)) (new_results block))
+      (front (to_after (new_results block)) further)
+  within_fragment block place line _ further = front (callee_line line) further
 
   -- the site's table
   abbrev pub outer_table : List (Entry BlockCall) → List (Entry BlockCall)
@@ -187,35 +188,42 @@ module _ (p : Splicing) where
 
   -- where a call that became a `try_call` goes on: its results are the parameters of a new block, which has the lines
   abbrev pub to_rest : ℕ → ℕ → Line → BlockCall
-  to_rest c j i = record { block = p.naming.new_block c j; args = map arg.Ret (from 0 (length i.results)) }
+  to_rest block place line =
+      record { block = p.naming.new_block block place; args = map arg.Ret (from 0 (length line.results)) }
 
   abbrev pub rest_block : ℕ → ℕ → Line → List Line → Block
-  rest_block c j i lines =
-      record { number = p.naming.new_block c j; params = map p.naming.callee_value i.results; lines = lines }
+  rest_block block place line behind =
+      record {
+        number = p.naming.new_block block place;
+        params = map p.naming.callee_value line.results;
+        lines = behind;
+      }
 
   -- at a `try_call` a return jumps to the normal target, and each call gets the site's table
   abbrev pub tries_fragment : BlockCall → List (Entry BlockCall) → ℕ → ℕ → Line → Instruction → Fragment → Fragment
-  tries_fragment normal table c j i (Return vs) q = front (to_normal normal vs) q
-  tries_fragment normal table c j i (Call t args) q =
+  tries_fragment normal table block place line (Return vs) further = front (to_normal normal vs) further
+  tries_fragment normal table block place line (Call t args) further =
       record {
-        lines = call_as_try i t args (to_rest c j i) (outer_table table) ∷ [];
-        more = rest_block c j i q.lines
-            ∷ q.more;
+        lines = call_as_try line t args (to_rest block place line) (outer_table table) ∷ [];
+        more = rest_block block place line further.lines
+            ∷ further.more;
       }
-  tries_fragment normal table c j i (TryCall t sig args own inner) q =
-      front (joined_try i t sig args own inner table) q
-  tries_fragment normal table c j i (ReturnCall t args) q =
-      front (call_as_try i t args (target_under caller_names normal) (outer_table table)) q
-  tries_fragment normal table c j i _ q = front (callee_line i) q
+  tries_fragment normal table block place line (TryCall t sig args own inner) further =
+      front (joined_try line t sig args own inner table) further
+  tries_fragment normal table block place line (ReturnCall t args) further =
+      front (call_as_try line t args (target_under caller_names normal) (outer_table table)) further
+  tries_fragment normal table block place line _ further = front (callee_line line) further
 
   abbrev pub fragment_by : Kind → ℕ → ℕ → Line → Fragment → Fragment
-  fragment_by Within c j i q = within_fragment c j i i.inst q
-  fragment_by Last c j i q = front (callee_line i) q
-  fragment_by (Tries normal table) c j i q = tries_fragment normal table c j i i.inst q
+  fragment_by Within block place line further = within_fragment block place line line.inst further
+  fragment_by Last block place line further = front (callee_line line) further
+  fragment_by (Tries normal table) block place line further =
+      tries_fragment normal table block place line line.inst further
 
   abbrev pub fragment : ℕ → ℕ → List Line → Fragment
-  fragment c j [] = record { lines = []; more = [] }
-  fragment c j (i ∷ is) = fragment_by (kind_of p.site.inst) c j i (fragment c (suc j) is)
+  fragment block place [] = record { lines = []; more = [] }
+  fragment block place (line ∷ behind) =
+      fragment_by (kind_of p.site.inst) block place line (fragment block (suc place) behind)
 
   abbrev pub body : List Block → List Block
   body [] = []

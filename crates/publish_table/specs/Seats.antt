@@ -8,7 +8,7 @@ use Rattle.atomic_table.specs.declared.shared.Seat as place
 use Rattle.atomic_table.specs.declared.shared.Shared.{Shared}
 use Rattle.ir_core.specs.Module.{Module}
 use Rattle.publish_table.specs.declared.board.Board.{Board}
-use Rattle.publish_table.specs.declared.board.Kept.{Kept}
+use Rattle.publish_table.specs.declared.board.BoardRule.{BoardRule}
 use Rattle.publish_table.specs.declared.board.Seat.{Seat}
 use Rattle.publish_table.specs.declared.job.Job.{Job}
 use Rattle.inline_finish.specs.declared.bodies.Policy.{Policy}
@@ -22,7 +22,7 @@ use Rattle.publish_table.specs.Rule.{below}
 use Rattle.publish_table.specs.Plays.{total, count, fresh, with_read, with_refused}
 
 abbrev pub Top : Type 0
-Top = Shared (Option Cell) View Job Kept
+Top = Shared (Option Cell) View Job BoardRule
 
 abbrev pub Place : Type 0
 Place = place.Seat (Option Cell) View

@@ -7,9 +7,9 @@ use atomic_table::{Seat as Place, Table, TableRule};
 use std::alloc::Global;
 
 /// The rule of the table.
-pub struct Kept;
+pub struct BoardRule;
 
-impl TableRule<Option<Cell>, View, Job> for Kept {
+impl TableRule<Option<Cell>, View, Job> for BoardRule {
     ghost use Rattle.publish_table.specs.Rule.{Shows, first_view};
 
     ghost holds = { Shows };
@@ -20,7 +20,7 @@ impl TableRule<Option<Cell>, View, Job> for Kept {
 /// A table of cells, one for each function of a module. Any number of threads may use it, each with its seats.
 #[derive(Drop)]
 pub struct Board {
-    pub(crate) table: Table<Option<Cell>, View, Job, Kept, Global>,
+    pub(crate) table: Table<Option<Cell>, View, Job, BoardRule, Global>,
     /// How many tickets there are.
     pub(crate) count: usize,
     /// Room for the cells that `close` answers.

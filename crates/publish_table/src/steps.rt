@@ -4,14 +4,14 @@ ghost use Rattle.publish_table.specs.declared.view.Stage.TheVariants.{Idle};
 ghost use Rattle.publish_table.specs.Plays.{with_body, with_refusal, filling, reading, with_read, with_refused};
 ghost use Rattle.publish_table.specs.Seats.{IsOpen, HoldsBody, FillsBody, FillsRefused, IsPlaceOf, IsSamePlace, IsOut};
 
-use crate::board::Kept;
+use crate::board::BoardRule;
 use crate::job::Job;
 use crate::plays::{BeginFill, EndRead, FillBody, FillRefused, TryRead};
 use crate::view::{Cell, View};
 use atomic_table::{Seat as Place, Shared};
 
 /// The words and the cells, which all seats share.
-pub(crate) type Top = Shared<Option<Cell>, View, Job, Kept>;
+pub(crate) type Top = Shared<Option<Cell>, View, Job, BoardRule>;
 
 type At = Place<Option<Cell>, View>;
 

@@ -284,7 +284,7 @@ fn nop(alloc: Global) -> InstData {
 fn overwrite(place: &mut InstData, added: InstData)
     ensures { place.new ≡ added }
 {
-    *place = added;
+    drop(mem::replace(place, added));
 }
 
 /// Puts an instruction at a place of the arena, which has room for it. Those from there on move back by one.
@@ -295,7 +295,7 @@ fn put_between(insts: &mut Vec<InstData>, place: usize, added: InstData)
     ensures len { vec_len insts.new ≡ vec_len insts.old + 1 }
     ensures capacity { vec_capacity insts.old ≤ vec_capacity insts.new }
 {
-    let _ = insts.insert(place, added);
+    drop(insts.insert(place, added));
 }
 
 /// Moves each range that starts at a place or after it by one.

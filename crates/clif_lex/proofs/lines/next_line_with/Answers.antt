@@ -12,7 +12,7 @@ returns-in_default-clause-none_before c =
     let word = c.args.word.now in
     let at = c.words.at in
     let n : ℕ = length text - at in
-    let all : Nowhere (OccursAt (drop (at + 1) text) word) 0 (length (drop (at + 1) text) + 1) = subst (λ (w : List ℕ). Nowhere (OccursAt (drop (at + 1) text) w) 0 (length (drop (at + 1) text) + 1)) c.new-words.ensures (subst (λ (rest : List ℕ). Nowhere (OccursAt rest c.new-words.result) 0 (length rest + 1)) c.split_at.ensures.back c.in_default.ensures) in
+    let all : Nowhere (OccursAt (drop (at + 1) text) word) 0 (length (drop (at + 1) text) + 1) = subst (λ (w : List ℕ). Nowhere (OccursAt (drop (at + 1) text) w) 0 (length (drop (at + 1) text) + 1)) c.new-finder.ensures (subst (λ (rest : List ℕ). Nowhere (OccursAt rest c.new-finder.result) 0 (length rest + 1)) c.split_at.ensures.back c.in_default.ensures) in
     let none : Nowhere (OccursAt (drop (at + 1) text) word) 0 n = λ k low high. all k low (omega (arith, high, length-drop (at + 1) text)) in
     λ k above below line.
     none_between text word c.args.from at n c.words.invariant.none none (omega (arith, c.words.invariant.within)) k above (omega (arith, below, c.words.invariant.within)) line
@@ -23,7 +23,7 @@ returns-then-text-at-eq10-clause-there c =
     let word = c.args.word.now in
     let at = c.words.at in
     let n = c.in-Some.length in
-    let occurs : OccursAt (drop (at + 1) text) word n = subst (λ (w : List ℕ). OccursAt (drop (at + 1) text) w n) c.new-words.ensures (subst (λ (rest : List ℕ). OccursAt rest c.new-words.result n) c.split_at.ensures.back c.in-Some.ensures.1) in
+    let occurs : OccursAt (drop (at + 1) text) word n = subst (λ (w : List ℕ). OccursAt (drop (at + 1) text) w n) c.new-finder.ensures (subst (λ (rest : List ℕ). OccursAt rest c.new-finder.result n) c.split_at.ensures.back c.in-Some.ensures.1) in
     inr (omega (arith, c.words.invariant.behind), (inr (omega arith, c.if-text-at-eq10.true), goes_on_with text word at n occurs))
 
 pub returns-then-text-at-eq10-clause-none_before : goal.returns-then-text-at-eq10-clause-none_before
@@ -32,7 +32,7 @@ returns-then-text-at-eq10-clause-none_before c =
     let word = c.args.word.now in
     let at = c.words.at in
     let n = c.in-Some.length in
-    let none : Nowhere (OccursAt (drop (at + 1) text) word) 0 n = subst (λ (w : List ℕ). Nowhere (OccursAt (drop (at + 1) text) w) 0 n) c.new-words.ensures (subst (λ (rest : List ℕ). Nowhere (OccursAt rest c.new-words.result) 0 n) c.split_at.ensures.back c.in-Some.ensures.0.before) in
+    let none : Nowhere (OccursAt (drop (at + 1) text) word) 0 n = subst (λ (w : List ℕ). Nowhere (OccursAt (drop (at + 1) text) w) 0 n) c.new-finder.ensures (subst (λ (rest : List ℕ). Nowhere (OccursAt rest c.new-finder.result) 0 n) c.split_at.ensures.back c.in-Some.ensures.0.before) in
     let high : n < length (drop (at + 1) text) + 1 = subst (λ (rest : List ℕ). n < length rest + 1) c.split_at.ensures.back c.in-Some.ensures.0.high in
     λ k above below line.
     none_between text word c.args.from at n c.words.invariant.none none (omega (arith, high, c.words-test.true, length-drop (at + 1) text)) k above (omega (arith, below)) line
@@ -43,7 +43,7 @@ words-preserved c =
     let word = c.args.word.now in
     let at = c.words.at in
     let n = c.in-Some.length in
-    let none : Nowhere (OccursAt (drop (at + 1) text) word) 0 n = subst (λ (w : List ℕ). Nowhere (OccursAt (drop (at + 1) text) w) 0 n) c.new-words.ensures (subst (λ (rest : List ℕ). Nowhere (OccursAt rest c.new-words.result) 0 n) c.split_at.ensures.back c.in-Some.ensures.0.before) in
+    let none : Nowhere (OccursAt (drop (at + 1) text) word) 0 n = subst (λ (w : List ℕ). Nowhere (OccursAt (drop (at + 1) text) w) 0 n) c.new-finder.ensures (subst (λ (rest : List ℕ). Nowhere (OccursAt rest c.new-finder.result) 0 n) c.split_at.ensures.back c.in-Some.ensures.0.before) in
     let high : n < length (drop (at + 1) text) + 1 = subst (λ (rest : List ℕ). n < length rest + 1) c.split_at.ensures.back c.in-Some.ensures.0.high in
     let within : at + n + 1 ≤ length text = omega (arith, high, c.words-test.true, length-drop (at + 1) text) in
     let e : at + (n + 1) - 1 ≡ at + n = omega arith in

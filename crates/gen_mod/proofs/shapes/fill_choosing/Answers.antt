@@ -1,7 +1,7 @@
 use Rattle.std.proofs.Common.{ap, ◌∙◌}
 use Rattle.gen_mod.specs.Shapes.{iconst, icmp_ult, brif, call, returned}
 use Rattle.gen_mod.proofs.Building.{line_added, by_three}
-use Rattle.gen_mod.proofs.shapes.choosing.Goals as goal
+use Rattle.gen_mod.proofs.shapes.fill_choosing.Goals as goal
 
 pub returns : goal.returns
 returns c =
@@ -11,7 +11,7 @@ returns c =
     let arg = c.new-arg.ensures in
     let limit = c.new-limit.ensures in
     let test = c.new-test.ensures in
-    let constant = line_added c.in_ok-func.ensures entry (c.iconst.ensures ∙ ap (λ v. iconst v c.args.constant) limit) c.in_ok-add_inst.ensures.ok in
+    let constant = line_added c.requires.blocks entry (c.iconst.ensures ∙ ap (λ v. iconst v c.args.constant) limit) c.in_ok-add_inst.ensures.ok in
     let compared = line_added constant entry (c.icmp_ult.ensures ∙ by_three icmp_ult test arg limit) c.in_ok-add_inst-2.ensures.ok in
     let chosen = line_added compared entry (c.in_ok-brif.ensures ∙ by_three brif test below other) c.in_ok-add_inst-3.ensures.ok in
     let called = line_added chosen below (c.call.ensures ∙ by_three call c.new.ensures c.new-2.ensures arg) c.in_ok-add_inst-4.ensures.ok in

@@ -2,11 +2,11 @@ use Rattle.std.proofs.Common.{◌≡◌, ap, ◌∙◌}
 use Rattle.ir_core.specs.declared.signatures.Ty.TheVariants.{I64}
 use Rattle.gen_mod.specs.Shapes.{callee, call, returned}
 use Rattle.gen_mod.proofs.Building.{callee_added, value_added, value_number, block_number, block_added, param_added, line_added, by_three}
-use Rattle.gen_mod.proofs.shapes.calling_two.Goals as goal
+use Rattle.gen_mod.proofs.shapes.fill_calling_two.Goals as goal
 
 pub returns : goal.returns
 returns c =
-    let begun = callee_added c.in_ok-func.ensures (c.callee.ensures ∙ ap callee c.in_ok-generated_name.ensures) c.in_ok-add_callee.ensures.ok in
+    let begun = callee_added c.requires.calling (c.callee.ensures ∙ ap callee c.in_ok-generated_name.ensures) c.in_ok-add_callee.ensures.ok in
     let one = value_added I64 begun c.in_ok-arg.ensures.ok in
     let two = value_added I64 one c.in_ok-first.ensures.ok in
     let three = value_added I64 two c.in_ok-second.ensures.ok in

@@ -2,11 +2,11 @@ use Rattle.std.proofs.Common.{◌≡◌, ap, ◌∙◌}
 use Rattle.ir_core.specs.declared.signatures.Ty.TheVariants.{I64}
 use Rattle.gen_mod.specs.Shapes.{iconst, iadd, returned}
 use Rattle.gen_mod.proofs.Building.{value_added, value_number, block_number, block_added, param_added, line_added, by_three}
-use Rattle.gen_mod.proofs.shapes.adding.Goals as goal
+use Rattle.gen_mod.proofs.shapes.fill_adding.Goals as goal
 
 pub returns : goal.returns
 returns c =
-    let begun = c.in_ok-func.ensures in
+    let begun = c.requires.begun in
     let one = value_added I64 begun c.in_ok-arg.ensures.ok in
     let two = value_added I64 one c.in_ok-added.ensures.ok in
     let three = value_added I64 two c.in_ok-sum.ensures.ok in

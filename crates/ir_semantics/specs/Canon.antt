@@ -1,5 +1,6 @@
--- Canonical numbers of a function: values in order of definition in the text, blocks by their places in the text. Slots,
--- signatures and callees keep theirs. WellFormed functions with the same canonical form are the same up to numbering.
+-- Canonical numbers of a function: values in order of definition in the text, blocks by their places in the text.
+-- Slots, signatures and callees keep theirs. WellFormed functions with the same canonical form are the same up to
+-- numbering.
 use Rattle.std.specs.Prelude.{◌≡◌, ℕ, List, [], ◌∷◌, ◌++◌, map}
 use Rattle.ir_core.specs.declared.signatures.Ty.{Ty}
 use Rattle.ir_core.specs.Module.{Function, Module}

@@ -1,5 +1,5 @@
-//! Copies of branches and `try_call`s of a callee. Each is a function of its own: in `copy_inst` the prover would look at
-//! what is let go at each want of memory in all of its arms.
+//! Copies of branches and `try_call`s of a callee. Each is a function of its own: in `copy_inst` the prover would
+//! look at what is let go at each want of memory in all of its arms.
 ghost use Rattle.std.specs.Prelude.{◌≡◌, ◌+◌, ◌<◌, ◌^◌, length, map, IfOk};
 ghost use Rattle.ir_core.specs.Lists.{Each, Below};
 ghost use Rattle.ir_core.specs.Uses.{arg_values_used, targets_used, table_targets};

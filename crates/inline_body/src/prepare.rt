@@ -1,36 +1,19 @@
 //! A callee's body made ready for a plain call, before the caller is changed.
 ghost use Rattle.std.specs.Prelude.{◌≡◌, ℕ, ◌+◌, ◌-◌, ◌<◌, ◌^◌, length, IfOk};
-ghost use Rattle.ir_core.specs.Viewed.{instruction_of};
-ghost use Rattle.ir_semantics.specs.Splice.{args_of};
 ghost use Rattle.body_import.specs.Imports.{IsImportOf};
 ghost use Rattle.inline_body.specs.WithBody.{lines_in};
 ghost use Rattle.inline_body.specs.Prepared.{room_of};
 ghost use Rattle.inline_body.specs.PlainCall.{CanSplice, IsPrepared};
 
 use crate::blocks::{BlockLines, InlinedBlocks, inline_blocks};
-use crate::lines::jump;
 use crate::names::Names;
+use crate::parts::site_parts;
 use crate::piece::PreparedBody;
-use crate::results::{new_types, number_results, result_types};
+use crate::results::number_results;
 use crate::tables::number_blocks;
 use body_import::Import;
-use ir_core::{Block, Func, Inst, List, Point, Room, Value};
+use ir_core::{Block, Func, List, Point, Room};
 use std::alloc::{AllocError, Global};
-
-/// The arguments of a call; no values where the instruction is none.
-pub fn call_args(inst: &Inst) -> &[Value]
-    ensures { result.now ≡ args_of (instruction_of inst.now) }
-{
-    match inst {
-        Inst::Call { args, .. } => args.as_slice(),
-        Inst::ReturnCall { args, .. } => args.as_slice(),
-        Inst::TryCall { args, .. } => args.as_slice(),
-        Inst::CallIndirect { args, .. } => args.as_slice(),
-        Inst::ReturnCallIndirect { args, .. } => args.as_slice(),
-        Inst::TryCallIndirect { args, .. } => args.as_slice(),
-        _ => &[],
-    }
-}
 
 /// How many lines the blocks have.
 fn count_lines(blocks: &[BlockLines]) -> usize
@@ -83,11 +66,12 @@ pub fn prepare_body(
     let count = results.len() as u32;
     let first_result = (caller.values() + callee.values()) as u32;
     let new_results = number_results(alloc, callee, first_result, count)?;
+    let blocks = number_blocks(alloc, callee, block_count)?;
     let Import { sigs, callees } = import;
     let names = Names {
         values: caller.values() as u32,
         slots: caller.slots().len() as u32,
-        blocks: number_blocks(alloc, callee, block_count)?,
+        blocks,
         sig_count: caller.sigs().len() + sigs.added.as_slice().len(),
         callee_count: caller.callees().len() + callees.added.as_slice().len(),
         sigs: sigs.table,
@@ -102,16 +86,27 @@ pub fn prepare_body(
         count,
         callee,
     )?;
-    let types = result_types(alloc, caller, results)?;
+    let tail_calls = new_results.tail_calls;
+    drop(names);
+    drop(new_results);
+    let parts = site_parts(
+        alloc,
+        caller,
+        block_count,
+        call,
+        results,
+        callee,
+        tail_calls,
+    )?;
     let mut block_params = body.block_params.into_vec();
     let first = block_params.remove(0);
     Ok(PreparedBody {
-        slots: List::from_vec(Vec::from_slice(alloc, callee.slots())?),
+        slots: parts.slots,
         sigs: sigs.added,
         callees: callees.added,
-        types: new_types(alloc, callee, types.as_slice(), new_results.tail_calls)?,
-        jump: jump(alloc, Block::new(block_count), call_args(&call.inst))?,
-        results: call.results.clone()?,
+        types: parts.types,
+        jump: parts.jump,
+        results: parts.results,
         first,
         block_params: List::from_vec(block_params),
         block_lines: body.block_lines,

@@ -32,9 +32,16 @@ fn put_within(
 {
     let count = block_count + body.block_params.as_slice().len() as u32 + 2;
     let room = body_room(&body);
-    func.reserve(room)?;
-    let _ = put_piece(func, site, body);
-    Ok(count)
+    match func.reserve(room) {
+        Ok(()) => {
+            drop(put_piece(func, site, body));
+            Ok(count)
+        }
+        Err(error) => {
+            drop(body);
+            Err(error)
+        }
+    }
 }
 
 /// Puts a body in the place of a call that ends its block, in a function with so many blocks, and answers how many it
@@ -55,9 +62,16 @@ fn put_last(
 {
     let count = block_count + body.block_params.as_slice().len() as u32 + 1;
     let room = body_room(&body);
-    func.reserve(room)?;
-    let _ = put_last_piece(func, site, body);
-    Ok(count)
+    match func.reserve(room) {
+        Ok(()) => {
+            drop(put_last_piece(func, site, body));
+            Ok(count)
+        }
+        Err(error) => {
+            drop(body);
+            Err(error)
+        }
+    }
 }
 
 /// Puts a callee's body in the place of a call of a function with so many blocks, and answers how many it has then.

@@ -7,8 +7,8 @@ ghost use Rattle.inline_ends.specs.LastBody.{IsLastPrepared};
 use crate::copying::copy_blocks;
 use crate::numbers::number_blocks;
 use body_import::Import;
-use inline_body::{Names, PreparedBody, call_args, jump, new_types};
-use ir_core::{Block, Func, List, Point, Values};
+use inline_body::{Names, PreparedBody, site_parts};
+use ir_core::{Func, List, Point};
 use std::alloc::{AllocError, Global};
 
 /// A callee's body for a tail call of a caller that has so many blocks, and takes over the import. The caller stays as
@@ -29,26 +29,29 @@ pub fn prepare_tail(
     let _ = caller.values();
     let _ = callee.values();
     let call = caller.inst(site);
+    let blocks = number_blocks(alloc, callee, block_count)?;
     let Import { sigs, callees } = import;
     let names = Names {
         values: caller.values() as u32,
         slots: caller.slots().len() as u32,
-        blocks: number_blocks(alloc, callee, block_count)?,
+        blocks,
         sig_count: caller.sigs().len() + sigs.added.as_slice().len(),
         callee_count: caller.callees().len() + callees.added.as_slice().len(),
         sigs: sigs.table,
         callees: callees.table,
     };
     let body = copy_blocks(alloc, &names, &call.tags, callee)?;
+    drop(names);
+    let parts = site_parts(alloc, caller, block_count, call, &[], callee, 0)?;
     let mut block_params = body.block_params.into_vec();
     let first = block_params.remove(0);
     Ok(PreparedBody {
-        slots: List::from_vec(Vec::from_slice(alloc, callee.slots())?),
+        slots: parts.slots,
         sigs: sigs.added,
         callees: callees.added,
-        types: new_types(alloc, callee, &[], 0)?,
-        jump: jump(alloc, Block::new(block_count), call_args(&call.inst))?,
-        results: Values::none(),
+        types: parts.types,
+        jump: parts.jump,
+        results: parts.results,
         first,
         block_params: List::from_vec(block_params),
         block_lines: body.block_lines,

@@ -24,15 +24,24 @@ pub fn splice_tail(
 {
     let _ = caller.values();
     let block_count = count_blocks(caller) as u32;
-    let index = index_declarations(alloc, caller)?;
-    let import = plan_import(alloc, &index, caller, callee)?;
+    let import = {
+        let index = index_declarations(alloc, caller)?;
+        plan_import(alloc, &index, caller, callee)?
+    };
     let place = Point {
         block: site.block,
         index: site.index,
     };
     let body = prepare_tail(alloc, caller, block_count, import, place, callee)?;
     let room = body_room(&body);
-    caller.reserve(room)?;
-    let _ = put_last_piece(caller, site, body);
-    Ok(())
+    match caller.reserve(room) {
+        Ok(()) => {
+            drop(put_last_piece(caller, site, body));
+            Ok(())
+        }
+        Err(error) => {
+            drop(body);
+            Err(error)
+        }
+    }
 }

@@ -10,8 +10,8 @@ use crate::try_body::try_blocks;
 use crate::try_numbers::number_try_blocks;
 use crate::trying::TrySite;
 use body_import::Import;
-use inline_body::{Names, PreparedBody, call_args, jump, new_types};
-use ir_core::{Block, Callee, Func, Inst, InstData, List, Point, Values};
+use inline_body::{Names, PreparedBody, site_parts};
+use ir_core::{Callee, Func, Inst, InstData, List, Point};
 use std::alloc::{AllocError, Global};
 
 /// A `try_call` as a site, where its function has these callee declarations and takes over others.
@@ -59,11 +59,12 @@ pub fn prepare_try(
     let _ = caller.values();
     let _ = callee.values();
     let call = caller.inst(site);
+    let blocks = number_try_blocks(alloc, callee, block_count)?;
     let Import { sigs, callees } = import;
     let names = Names {
         values: caller.values() as u32,
         slots: caller.slots().len() as u32,
-        blocks: number_try_blocks(alloc, callee, block_count)?,
+        blocks,
         sig_count: caller.sigs().len() + sigs.added.as_slice().len(),
         callee_count: caller.callees().len() + callees.added.as_slice().len(),
         sigs: sigs.table,
@@ -71,15 +72,17 @@ pub fn prepare_try(
     };
     let outer = site_of(call, caller.callees(), callees.added.as_slice());
     let body = try_blocks(alloc, &names, &outer, callee)?;
+    drop(names);
+    let parts = site_parts(alloc, caller, block_count, call, &[], callee, 0)?;
     let mut block_params = body.block_params.into_vec();
     let first = block_params.remove(0);
     Ok(PreparedBody {
-        slots: List::from_vec(Vec::from_slice(alloc, callee.slots())?),
+        slots: parts.slots,
         sigs: sigs.added,
         callees: callees.added,
-        types: new_types(alloc, callee, &[], 0)?,
-        jump: jump(alloc, Block::new(block_count), call_args(&call.inst))?,
-        results: Values::none(),
+        types: parts.types,
+        jump: parts.jump,
+        results: parts.results,
         first,
         block_params: List::from_vec(block_params),
         block_lines: body.block_lines,

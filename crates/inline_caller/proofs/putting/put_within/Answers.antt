@@ -8,11 +8,11 @@ use Rattle.inline_caller.proofs.putting.put_within.Goals as goal
 pub put_piece-requires-clause-ready : goal.put_piece-requires-clause-ready
 put_piece-requires-clause-ready c = subst (λ (z : Function). IsReady z c.args.site c.args.body) (sym c.reserve.ensures.same) c.requires.ready
 
-pub returns-clause-spliced : goal.returns-clause-spliced
-returns-clause-spliced c = λ g i made. is_splice c.args.func.now.function g c.reserve.new.self.function c.put_piece.new.caller.function c.args.site i c.args.body made c.reserve.ensures.same c.put_piece.ensures.spliced
+pub returns-in-Ok-clause-spliced : goal.returns-in-Ok-clause-spliced
+returns-in-Ok-clause-spliced c = λ g i made. is_splice c.args.func.now.function g c.reserve.new.self.function c.put_piece.new.caller.function c.args.site i c.args.body made c.reserve.ensures.same c.put_piece.ensures.spliced
 
-pub returns-clause-counted : goal.returns-clause-counted
-returns-clause-counted c = λ g i made.
+pub returns-in-Ok-clause-counted : goal.returns-in-Ok-clause-counted
+returns-in-Ok-clause-counted c = λ g i made.
     let e = within_count c.args.func.now.function g c.reserve.new.self.function c.put_piece.new.caller.function c.args.site i c.args.body made c.reserve.ensures.same c.put_piece.ensures.spliced in
     let n = c.requires.counted in
     let k = ap length c.as_slice.ensures in

@@ -7,5 +7,5 @@ use Rattle.inline_ends.proofs.splice.splice_tail.Goals as goal
 pub put_last_piece-requires-clause-ready : goal.put_last_piece-requires-clause-ready
 put_last_piece-requires-clause-ready c = subst (λ (z : Function). IsLastReady z c.args.site c.in_ok-body.body) (sym c.reserve.ensures.same) c.in_ok-body.ensures.ready
 
-pub returns-clause-ok : goal.returns-clause-ok
-returns-clause-ok c = is_splice c.args.caller.now.function c.args.callee.now.function c.reserve.new.self.function c.put_last_piece.new.caller.function c.args.site _ c.in_ok-body.body c.in_ok-body.ensures c.reserve.ensures.same c.put_last_piece.ensures.spliced
+pub returns-in-Ok-clause-ok : goal.returns-in-Ok-clause-ok
+returns-in-Ok-clause-ok c = is_splice c.args.caller.now.function c.args.callee.now.function c.reserve.new.self.function c.put_last_piece.new.caller.function c.args.site _ c.in_ok-body.body c.in_ok-body.ensures c.reserve.ensures.same c.put_last_piece.ensures.spliced

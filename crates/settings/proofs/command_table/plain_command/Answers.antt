@@ -3,4 +3,4 @@ use Rattle.clap.specs.Words.{App}
 use Rattle.settings.proofs.command_table.plain_command.Goals as goal
 
 pub returns : goal.returns
-returns c = (ap (λ (a : App). a.top) c.new.ensures.app, c.new.ensures.local)
+returns c = (ap (λ (a : App). a.top) c.new_command.ensures.0, c.new_command.ensures.1)

@@ -25,12 +25,7 @@ pub(crate) fn adding(alloc: Global, number: u32, constant: u64) -> Result<Func, 
 
 /// The parts of `adding`. Like the other functions that fill one, it is apart so that no function is let go in it where
 /// memory is out.
-fn fill_adding(
-    alloc: Global,
-    func: &mut Func,
-    number: u32,
-    constant: u64,
-) -> Result<(), AllocError>
+fn fill_adding(alloc: Global, func: &mut Func, number: u32, constant: u64) -> Result<(), AllocError>
     requires begun { func.old.function ≡ spec.begun number }
     ensures { OnOk result (func.new.function ≡ spec.adding number constant) }
 {

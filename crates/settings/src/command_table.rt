@@ -76,11 +76,7 @@ fn run_command<'a>(alloc: Global) -> Result<Command<'a>, AllocError>
         "run",
         "Runs a function in the reference interpreter, and writes what happened",
     )
-    .arg(required_option(
-        alloc,
-        "entry",
-        "The function's name, as %f or u0:1",
-    ))?
+    .arg(required_option(alloc, "entry", "The function's name, as %f or u0:1"))?
     .arg(text_option(
         alloc,
         "args",
@@ -209,7 +205,10 @@ fn number_option<'a>(
 fn text_option<'a>(alloc: Global, name: &'a str, help: &'a str) -> Arg<'a>
     ensures { (rule_of result ≡ text_or_empty name.entry.now) × (result.global ≡ false) }
 {
-    Arg::new(alloc, name).long(name).default_value("").help(help)
+    Arg::new(alloc, name)
+        .long(name)
+        .default_value("")
+        .help(help)
 }
 
 /// An option whose value is a text that has to be given.

@@ -5,6 +5,7 @@ use Rattle.clap.specs.declared.builder.command.Command.TheOpen.{Command-F}
 use Rattle.settings.proofs.command_table.new_command.Goals as goal
 
 pub returns : goal.returns
-returns c =
-    (ap app_of_fields c.about.ensures ∙ c.new.ensures.app,
-    ap (λ (f : Command-F Command). f.has_globals) c.about.ensures ∙ c.new.ensures.local)
+returns c = (
+  ap app_of_fields c.about.ensures ∙ c.new.ensures.app,
+  ap (λ (f : Command-F Command). f.has_globals) c.about.ensures ∙ c.new.ensures.local,
+)

@@ -36,21 +36,15 @@ impl Model for Caller {
 }
 
 impl Caller {
-    /// A caller with a copy of the function, which has room for what comes in where calls of it may be replaced. Only
-    /// `AllocError` refuses.
-    pub fn new(alloc: Global, func: &Func, has_sites: bool) -> Result<Caller, AllocError>
+    /// A caller with a copy of the function.
+    pub fn new(alloc: Global, func: &Func) -> Result<Caller, AllocError>
         ensures { IfOk result (λ c. c ≡ func.now.function) }
     {
         let _ = func.values();
         let block_count = count_blocks(func) as u32;
         let index = index_declarations(alloc, func)?;
-        let copy = if has_sites {
-            func.copy_to_grow()?
-        } else {
-            func.copy()?
-        };
         Ok(Caller {
-            func: copy,
+            func: func.copy()?,
             block_count,
             index,
             indexed: true,

@@ -48,9 +48,8 @@ pub fn finish_body<B: Bodies, L: Ledger>(
         return Err(AllocError);
     }
     let targets = targets(alloc, functions, order.piece.as_slice(), func, own)?;
-    let has_sites = targets.iter().any(|target| target.is_some());
     let mut progress = Progress {
-        caller: Caller::new(alloc, own, has_sites)?,
+        caller: Caller::new(alloc, own)?,
         size,
         at: Point {
             block: Block::new(0),

@@ -19,10 +19,12 @@ fn decl_size(decl: &RawDecl) -> usize
 {
     match decl {
         RawDecl::Slot { .. } => 1,
-        RawDecl::Sig { signature, .. } => signature_size(signature),
+        RawDecl::Sig { signature, .. } => signature_size(signature.get()),
         RawDecl::Callee { sig, .. } => match sig {
             RawCalleeSig::Declared(_) => 1,
-            RawCalleeSig::Inline(signature) => 1usize.saturating_add(signature_size(signature)),
+            RawCalleeSig::Inline(signature) => 1usize.saturating_add(signature_size(
+                signature.get(),
+            )),
         },
     }
 }

@@ -9,6 +9,7 @@ ghost use Rattle.clif_read.specs.Declarations as spec;
 use crate::raw::{RawCalleeSig, RawDecl, RawFuncName};
 use crate::signatures::read_signature;
 use clif_words::Class;
+use ir_core::Boxed;
 use std::alloc::Global;
 use token_reader::{RawNumber, Reader, Stop, read_number};
 
@@ -101,7 +102,7 @@ fn add_sig_decl(
 {
     let sig = reader.take(Class::Sig)?;
     reader.take(Class::Equals)?;
-    let signature = read_signature(alloc, reader)?;
+    let signature = Boxed::new(alloc, read_signature(alloc, reader)?)?;
     decls.push(RawDecl::Sig { sig, signature })?;
     Ok(())
 }
@@ -129,7 +130,8 @@ fn read_callee_sig(alloc: Global, reader: &mut Reader<'_>) -> Result<RawCalleeSi
     if reader.next_is(Class::Sig) {
         Ok(RawCalleeSig::Declared(reader.take(Class::Sig)?))
     } else {
-        Ok(RawCalleeSig::Inline(read_signature(alloc, reader)?))
+        let signature = Boxed::new(alloc, read_signature(alloc, reader)?)?;
+        Ok(RawCalleeSig::Inline(signature))
     }
 }
 

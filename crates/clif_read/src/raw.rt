@@ -2,7 +2,7 @@
 //! and has a field for each of its parts; a spot is the first byte of a word or number.
 
 use clif_insts::RawInst;
-use ir_core::{Conv, Few, List, NameBytes, Ty};
+use ir_core::{Boxed, Conv, Few, List, NameBytes, Ty};
 use token_reader::{RawName, RawNumber};
 
 /// A word behind the type of a parameter or result.
@@ -58,10 +58,11 @@ impl RawFuncName {
 #[derive(Drop)]
 pub enum RawCalleeSig {
     Declared(RawName),
-    Inline(RawSignature),
+    Inline(Boxed<RawSignature>),
 }
 
-/// A declaration.
+/// A declaration. Signatures stand behind a pointer, since most declarations have none: a function may have some 262,000,
+/// and each takes 112 bytes so.
 #[derive(Drop)]
 pub enum RawDecl {
     /// `ss0 = explicit_slot 8, align = 4`, the size and alignment in bytes.
@@ -73,7 +74,7 @@ pub enum RawDecl {
     /// `sig0 = (i64) -> i64 fast`
     Sig {
         sig: RawName,
-        signature: RawSignature,
+        signature: Boxed<RawSignature>,
     },
     /// `fn0 = colocated %g sig0`
     Callee {

@@ -107,11 +107,11 @@ impl Sigs {
             RawDecl::Slot { .. } => Ok(()),
             RawDecl::Sig { signature, .. } => {
                 self.numbers.push(self.list.len())?;
-                self.push(alloc, signature)
+                self.push(alloc, signature.get())
             }
             RawDecl::Callee { sig, .. } => match sig {
                 RawCalleeSig::Declared(_) => Ok(()),
-                RawCalleeSig::Inline(signature) => self.push(alloc, signature),
+                RawCalleeSig::Inline(signature) => self.push(alloc, signature.get()),
             },
         }
     }

@@ -60,6 +60,7 @@ pub(crate) fn calling_two(alloc: Global, number: u32, a: u32, b: u32) -> Result<
     Ok(func)
 }
 
+/// The second callee and the block of `calling_two`.
 fn fill_calling_two(
     alloc: Global,
     func: &mut Func,
@@ -92,6 +93,7 @@ pub(crate) fn trying(alloc: Global, number: u32, a: u32) -> Result<Func, AllocEr
     Ok(func)
 }
 
+/// The blocks of `trying`.
 fn fill_trying(alloc: Global, func: &mut Func, number: u32, a: u32) -> Result<(), AllocError>
     requires calling { func.old.function ≡ spec.calling number a }
     ensures { OnOk result (func.new.function ≡ spec.trying number a) }
@@ -124,6 +126,7 @@ fn choosing_blocks(alloc: Global, number: u32, a: u32) -> Result<Func, AllocErro
     Ok(func)
 }
 
+/// The second callee and the blocks of `choosing_blocks`.
 fn fill_choosing_blocks(
     alloc: Global,
     func: &mut Func,
@@ -161,6 +164,7 @@ pub(crate) fn choosing(
     Ok(func)
 }
 
+/// The instructions of `choosing`.
 fn fill_choosing(
     alloc: Global,
     func: &mut Func,

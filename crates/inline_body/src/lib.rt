@@ -27,7 +27,7 @@ pub use lines::{copy_line, copy_lines, inline_lines, jump, line_with};
 pub use names::Names;
 pub use numbers::renumber_values;
 pub use parts::{SiteParts, call_args, site_parts};
-pub use piece::{PreparedBody, put_piece};
+pub use piece::{PreparedBody, put_piece, reserve_and_put};
 pub use placing::put_body;
 pub use prepare::{body_room, prepare_body};
 pub use results::{NewResults, new_types, number_results, result_types};

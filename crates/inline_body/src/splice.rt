@@ -2,8 +2,8 @@
 ghost use Rattle.std.specs.Prelude.{◌≡◌, OnOk, OnErr};
 ghost use Rattle.inline_body.specs.PlainCall.{CanSplice, IsSplice};
 
-use crate::piece::put_piece;
-use crate::prepare::{body_room, prepare_body};
+use crate::piece::reserve_and_put;
+use crate::prepare::prepare_body;
 use crate::tables::count_blocks;
 use body_import::{index_declarations, plan_import};
 use ir_core::{Func, Point};
@@ -32,15 +32,6 @@ pub fn splice_plain(
         index: site.index,
     };
     let body = prepare_body(alloc, caller, block_count, import, place, callee)?;
-    let room = body_room(&body);
-    match caller.reserve(room) {
-        Ok(()) => {
-            drop(put_piece(caller, site, body));
-            Ok(())
-        }
-        Err(error) => {
-            drop(body);
-            Err(error)
-        }
-    }
+    reserve_and_put(caller, site, body)?;
+    Ok(())
 }

@@ -10,8 +10,8 @@ ghost use Rattle.inline_caller.specs.Replacing.{CanReplace};
 
 use crate::kinds::{CallKind, call_kind};
 use body_import::Import;
-use inline_body::{PreparedBody, body_room, prepare_body, put_piece};
-use inline_ends::{prepare_tail, prepare_try, put_last_piece};
+use inline_body::{PreparedBody, prepare_body, reserve_and_put};
+use inline_ends::{prepare_tail, prepare_try, reserve_and_put_last};
 use ir_core::{Func, Point};
 use std::alloc::{AllocError, Global};
 
@@ -31,17 +31,8 @@ fn put_within(
         → count ≡ length func.new.function.blocks) }
 {
     let count = block_count + body.block_params.as_slice().len() as u32 + 2;
-    let room = body_room(&body);
-    match func.reserve(room) {
-        Ok(()) => {
-            drop(put_piece(func, site, body));
-            Ok(count)
-        }
-        Err(error) => {
-            drop(body);
-            Err(error)
-        }
-    }
+    reserve_and_put(func, site, body)?;
+    Ok(count)
 }
 
 /// Puts a body in the place of a call that ends its block, in a function with so many blocks, and answers how many it
@@ -61,17 +52,8 @@ fn put_last(
         → count ≡ length func.new.function.blocks) }
 {
     let count = block_count + body.block_params.as_slice().len() as u32 + 1;
-    let room = body_room(&body);
-    match func.reserve(room) {
-        Ok(()) => {
-            drop(put_last_piece(func, site, body));
-            Ok(count)
-        }
-        Err(error) => {
-            drop(body);
-            Err(error)
-        }
-    }
+    reserve_and_put_last(func, site, body)?;
+    Ok(count)
 }
 
 /// Puts a callee's body in the place of a call of a function with so many blocks, and answers how many it has then.

@@ -15,7 +15,7 @@ mod trying;
 
 pub use copying::copy_blocks;
 pub use numbers::number_blocks;
-pub use piece::put_last_piece;
+pub use piece::{put_last_piece, reserve_and_put_last};
 pub use placing::put_last_body;
 pub use prepare::prepare_tail;
 pub use splice::splice_tail;

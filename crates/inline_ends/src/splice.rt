@@ -3,10 +3,10 @@ ghost use Rattle.std.specs.Prelude.{◌≡◌, OnOk, OnErr};
 ghost use Rattle.inline_body.specs.PlainCall.{IsSplice};
 ghost use Rattle.inline_ends.specs.TailCall.{CanSpliceTail};
 
-use crate::piece::put_last_piece;
+use crate::piece::reserve_and_put_last;
 use crate::prepare::prepare_tail;
 use body_import::{index_declarations, plan_import};
-use inline_body::{body_room, count_blocks};
+use inline_body::count_blocks;
 use ir_core::{Func, Point};
 use std::alloc::{AllocError, Global};
 
@@ -33,15 +33,6 @@ pub fn splice_tail(
         index: site.index,
     };
     let body = prepare_tail(alloc, caller, block_count, import, place, callee)?;
-    let room = body_room(&body);
-    match caller.reserve(room) {
-        Ok(()) => {
-            drop(put_last_piece(caller, site, body));
-            Ok(())
-        }
-        Err(error) => {
-            drop(body);
-            Err(error)
-        }
-    }
+    reserve_and_put_last(caller, site, body)?;
+    Ok(())
 }

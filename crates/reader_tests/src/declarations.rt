@@ -129,7 +129,7 @@ fn is_user_callee(decl: &RawDecl) -> bool {
                 && !*colocated
                 && *space == name_at(2, 150)
                 && *number == number_at(3, 153)
-                && signature.conv == Some(Conv::Fast)
+                && signature.get().conv == Some(Conv::Fast)
         }
         _ => false,
     }

@@ -1,19 +1,14 @@
-use Rattle.std.proofs.Common.{length, sym, ap, subst, arith}
-use Rattle.ir_core.specs.Module.{Function}
-use Rattle.inline_ends.specs.LastBody.{IsLastReady}
+use Rattle.std.proofs.Common.{length, ap, refl, arith}
 use Rattle.inline_ends.proofs.LastReady.{is_splice}
 use Rattle.inline_caller.proofs.Counted.{last_count}
 use Rattle.inline_caller.proofs.putting.put_last.Goals as goal
 
-pub put_last_piece-requires-clause-ready : goal.put_last_piece-requires-clause-ready
-put_last_piece-requires-clause-ready c = subst (λ (z : Function). IsLastReady z c.args.site c.args.body) (sym c.reserve.ensures.same) c.requires.ready
+pub returns-clause-spliced : goal.returns-clause-spliced
+returns-clause-spliced c = λ g i made. is_splice c.args.func.now.function g c.args.func.now.function c.reserve_and_put_last.new.caller.function c.args.site i c.args.body made refl c.in_ok-reserve_and_put_last.ensures.spliced
 
-pub returns-in-Ok-clause-spliced : goal.returns-in-Ok-clause-spliced
-returns-in-Ok-clause-spliced c = λ g i made. is_splice c.args.func.now.function g c.reserve.new.self.function c.put_last_piece.new.caller.function c.args.site i c.args.body made c.reserve.ensures.same c.put_last_piece.ensures.spliced
-
-pub returns-in-Ok-clause-counted : goal.returns-in-Ok-clause-counted
-returns-in-Ok-clause-counted c = λ g i made.
-    let e = last_count c.args.func.now.function g c.reserve.new.self.function c.put_last_piece.new.caller.function c.args.site i c.args.body made c.reserve.ensures.same c.put_last_piece.ensures.spliced in
+pub returns-clause-counted : goal.returns-clause-counted
+returns-clause-counted c = λ g i made.
+    let e = last_count c.args.func.now.function g c.args.func.now.function c.reserve_and_put_last.new.caller.function c.args.site i c.args.body made refl c.in_ok-reserve_and_put_last.ensures.spliced in
     let n = c.requires.counted in
     let k = ap length c.as_slice.ensures in
     omega (arith, e, n, k)

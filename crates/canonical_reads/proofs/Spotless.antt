@@ -97,8 +97,8 @@ line_uses_bare Values (raw_lines.Inst location ts rs i) =
     ∙ sym (map-append bare.bare_name (operand_values i.operands) (flat_map target_values (operand_targets i.operands)))
 
 decl_uses_bare : (k : Kind) (d : RawDecl) → decl_uses k (bare.bare_decl d) ≡ map bare.bare_name (decl_uses k d)
-decl_uses_bare Sigs (decls.Callee x colocated name (callee_sigs.Declared s)) = refl
-decl_uses_bare Sigs (decls.Callee x colocated name (callee_sigs.Inline s)) = refl
+decl_uses_bare Sigs (decls.Callee colocated x (callee_sigs.Declared s) name) = refl
+decl_uses_bare Sigs (decls.Callee colocated x (callee_sigs.Inline s) name) = refl
 decl_uses_bare Sigs (decls.Slot x size align) = refl
 decl_uses_bare Sigs (decls.Sig x s) = refl
 decl_uses_bare Slots d = refl
@@ -120,17 +120,17 @@ uses_bare r k =
 slot_bare : (d : RawDecl) → slot_names (bare.bare_decl d) ≡ map bare.bare_name (slot_names d)
 slot_bare (decls.Slot x size align) = refl
 slot_bare (decls.Sig x s) = refl
-slot_bare (decls.Callee x colocated name s) = refl
+slot_bare (decls.Callee colocated x s name) = refl
 
 sig_bare : (d : RawDecl) → sig_names (bare.bare_decl d) ≡ map bare.bare_name (sig_names d)
 sig_bare (decls.Slot x size align) = refl
 sig_bare (decls.Sig x s) = refl
-sig_bare (decls.Callee x colocated name s) = refl
+sig_bare (decls.Callee colocated x s name) = refl
 
 callee_bare : (d : RawDecl) → callee_names (bare.bare_decl d) ≡ map bare.bare_name (callee_names d)
 callee_bare (decls.Slot x size align) = refl
 callee_bare (decls.Sig x s) = refl
-callee_bare (decls.Callee x colocated name s) = refl
+callee_bare (decls.Callee colocated x s name) = refl
 
 pub definitions_bare : (r : RawFunction) (k : Kind) → definitions (bare.bare_function r) k ≡ map bare.bare_name (definitions r k)
 definitions_bare r Slots = flat_bare slot_names bare.bare_decl bare.bare_name slot_bare r.decls
@@ -172,7 +172,7 @@ pub decl_limits_bare : (d : RawDecl) → decl_limits (bare.bare_decl d) ≡ map 
 decl_limits_bare (decls.Slot x size None) = refl
 decl_limits_bare (decls.Slot x size (Some align)) = refl
 decl_limits_bare (decls.Sig x s) = refl
-decl_limits_bare (decls.Callee x colocated name s) = name_limits_bare name
+decl_limits_bare (decls.Callee colocated x s name) = name_limits_bare name
 
 arg_limits_bare : (a : RawArg) → arg_limits (bare.bare_arg a) ≡ map bare_limited (arg_limits a)
 arg_limits_bare (args.Value x) = refl

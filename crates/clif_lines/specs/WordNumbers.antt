@@ -30,12 +30,12 @@ pub record AreSmall (at : Renaming) : Type 0 where
 abbrev pub own_sig_numbers : ℕ → RawDecl → List ℕ
 own_sig_numbers count (decl.Slot n size align) = []
 own_sig_numbers count (decl.Sig n signature) = count ∷ []
-own_sig_numbers count (decl.Callee n colocated name sig) = []
+own_sig_numbers count (decl.Callee colocated n sig name) = []
 
 -- the numbers of the declared signatures, where so many signatures stand before
 abbrev pub sig_numbers : ℕ → List RawDecl → List ℕ
 sig_numbers count [] = []
 sig_numbers count (decl.Slot n size align ∷ ds) = sig_numbers count ds
 sig_numbers count (decl.Sig n signature ∷ ds) = count ∷ sig_numbers (suc count) ds
-sig_numbers count (decl.Callee n colocated name (callee_sig.Declared s) ∷ ds) = sig_numbers count ds
-sig_numbers count (decl.Callee n colocated name (callee_sig.Inline signature) ∷ ds) = sig_numbers (suc count) ds
+sig_numbers count (decl.Callee colocated n (callee_sig.Declared s) name ∷ ds) = sig_numbers count ds
+sig_numbers count (decl.Callee colocated n (callee_sig.Inline signature) name ∷ ds) = sig_numbers (suc count) ds

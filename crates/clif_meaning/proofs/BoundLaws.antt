@@ -56,14 +56,14 @@ pub slots_long : (ds : List RawDecl) → length (flat_map slot_names ds) ≡ len
 slots_long [] = refl
 slots_long (decl.Slot n size align ∷ ds) = ap suc (slots_long ds)
 slots_long (decl.Sig n signature ∷ ds) = slots_long ds
-slots_long (decl.Callee n colocated name sig ∷ ds) = slots_long ds
+slots_long (decl.Callee colocated n sig name ∷ ds) = slots_long ds
 
 pub callees_long : (sig : ℕ → ℕ) (k : ℕ) (ds : List RawDecl) → length (flat_map callee_names ds) ≡ length (callees_from sig k ds)
 callees_long sig k [] = refl
 callees_long sig k (decl.Slot n size align ∷ ds) = callees_long sig k ds
 callees_long sig k (decl.Sig n signature ∷ ds) = callees_long sig (suc k) ds
-callees_long sig k (decl.Callee n colocated name (callee_sig.Declared s) ∷ ds) = ap suc (callees_long sig k ds)
-callees_long sig k (decl.Callee n colocated name (callee_sig.Inline signature) ∷ ds) = ap suc (callees_long sig (suc k) ds)
+callees_long sig k (decl.Callee colocated n (callee_sig.Declared s) name ∷ ds) = ap suc (callees_long sig k ds)
+callees_long sig k (decl.Callee colocated n (callee_sig.Inline signature) name ∷ ds) = ap suc (callees_long sig (suc k) ds)
 
 flipped : (a b : ℕ) → (a ≡ b → ⊥) → nat_eq a b ≡ false
 flipped a b ne = elim (eqb_tells a b) [ inl t ↦ absurd (ne t.1) | inr f ↦ f.0 ]
@@ -75,16 +75,16 @@ sig_below (decl.Sig m signature ∷ ds) n h = elim (eqb_tells n m.number) [
   | inl t ↦ rw t.0 (omega arith)
   | inr f ↦ rw f.0 (let a = sig_below ds n (not_first m (flat_map sig_names ds) n f.1 h) in omega (arith, a))
 ]
-sig_below (decl.Callee m colocated name (callee_sig.Declared s) ∷ ds) n h = sig_below ds n h
-sig_below (decl.Callee m colocated name (callee_sig.Inline signature) ∷ ds) n h = let a = sig_below ds n h in omega (arith, a)
+sig_below (decl.Callee colocated m (callee_sig.Declared s) name ∷ ds) n h = sig_below ds n h
+sig_below (decl.Callee colocated m (callee_sig.Inline signature) name ∷ ds) n h = let a = sig_below ds n h in omega (arith, a)
 
 pub callees_below : (sig : ℕ → ℕ) (most k : ℕ) (ds : List RawDecl) → k + length (flat_map decl_sigs ds) ≤ most
     → ((u : RawName) → In u (flat_map (decl_uses Sigs) ds) → sig u.number < most) → Each (λ (c : Callee). c.sig < most) (callees_from sig k ds)
 callees_below sig most k [] le used = tt
 callees_below sig most k (decl.Slot n size align ∷ ds) le used = callees_below sig most k ds le used
 callees_below sig most k (decl.Sig n signature ∷ ds) le used = callees_below sig most (suc k) ds (omega (arith, le)) used
-callees_below sig most k (decl.Callee n colocated name (callee_sig.Declared s) ∷ ds) le used = (used s (inl refl), callees_below sig most k ds le (λ u i. used u (inr i)))
-callees_below sig most k (decl.Callee n colocated name (callee_sig.Inline signature) ∷ ds) le used = (omega (arith, le), callees_below sig most (suc k) ds (omega (arith, le)) used)
+callees_below sig most k (decl.Callee colocated n (callee_sig.Declared s) name ∷ ds) le used = (used s (inl refl), callees_below sig most k ds le (λ u i. used u (inr i)))
+callees_below sig most k (decl.Callee colocated n (callee_sig.Inline signature) name ∷ ds) le used = (omega (arith, le), callees_below sig most (suc k) ds (omega (arith, le)) used)
 
 -- ---- values in order of definition
 

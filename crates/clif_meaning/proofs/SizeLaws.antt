@@ -106,8 +106,8 @@ decl_weights : (sig : ℕ → ℕ) (n : ℕ) (ds : List RawDecl)
 decl_weights sig n [] = refl
 decl_weights sig n (decl.Slot m size align ∷ ds) = let a = decl_weights sig n ds in omega (arith, a)
 decl_weights sig n (decl.Sig m signature ∷ ds) = let a = decl_weights sig (suc n) ds in let b = signature_weight signature in omega (arith, a, b)
-decl_weights sig n (decl.Callee m colocated name (callee_sig.Declared s) ∷ ds) = let a = decl_weights sig n ds in omega (arith, a)
-decl_weights sig n (decl.Callee m colocated name (callee_sig.Inline signature) ∷ ds) = let a = decl_weights sig (suc n) ds in let b = signature_weight signature in omega (arith, a, b)
+decl_weights sig n (decl.Callee colocated m (callee_sig.Declared s) name ∷ ds) = let a = decl_weights sig n ds in omega (arith, a)
+decl_weights sig n (decl.Callee colocated m (callee_sig.Inline signature) name ∷ ds) = let a = decl_weights sig (suc n) ds in let b = signature_weight signature in omega (arith, a, b)
 
 -- ---- blocks
 

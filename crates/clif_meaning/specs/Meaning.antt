@@ -85,7 +85,7 @@ alignment (Some n) = natural n.value
 abbrev pub decl_slots : RawDecl → List SlotDecl
 decl_slots (decl.Slot n size align) = record { size = natural size.value; align = alignment align } ∷ []
 decl_slots (decl.Sig n signature) = []
-decl_slots (decl.Callee n colocated name sig) = []
+decl_slots (decl.Callee colocated n sig name) = []
 
 -- the signatures that a declaration has, and their words: an inline one has none
 abbrev pub inline_sigs : RawCalleeSig → List (Option RawName × Sig)
@@ -95,7 +95,7 @@ inline_sigs (callee_sig.Inline signature) = (None, sig_of signature) ∷ []
 abbrev pub decl_sigs : RawDecl → List (Option RawName × Sig)
 decl_sigs (decl.Slot n size align) = []
 decl_sigs (decl.Sig n signature) = (Some n, sig_of signature) ∷ []
-decl_sigs (decl.Callee n colocated name sig) = inline_sigs sig
+decl_sigs (decl.Callee colocated n sig name) = inline_sigs sig
 
 abbrev pub is_word : ℕ → Option RawName → Bool
 is_word n None = false
@@ -111,9 +111,9 @@ abbrev pub callees_from : (ℕ → ℕ) → ℕ → List RawDecl → List Callee
 callees_from sig count [] = []
 callees_from sig count (decl.Slot n size align ∷ ds) = callees_from sig count ds
 callees_from sig count (decl.Sig n signature ∷ ds) = callees_from sig (suc count) ds
-callees_from sig count (decl.Callee n colocated name (callee_sig.Declared s) ∷ ds) =
+callees_from sig count (decl.Callee colocated n (callee_sig.Declared s) name ∷ ds) =
     record { name = name_of name; colocated = colocated; sig = sig s.number } ∷ callees_from sig count ds
-callees_from sig count (decl.Callee n colocated name (callee_sig.Inline signature) ∷ ds) =
+callees_from sig count (decl.Callee colocated n (callee_sig.Inline signature) name ∷ ds) =
     record { name = name_of name; colocated = colocated; sig = count } ∷ callees_from sig (suc count) ds
 
 -- the number of each word's entity, with those of values as given

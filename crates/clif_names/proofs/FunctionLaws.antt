@@ -219,7 +219,7 @@ module _ (f : RawFunction) where
     decls_quiet u [] = (refl, refl, refl)
     decls_quiet u (decl.Slot n a b ∷ ds) = decls_quiet (use_decl u (decl.Slot n a b)) ds
     decls_quiet u (decl.Sig n a ∷ ds) = decls_quiet (use_decl u (decl.Sig n a)) ds
-    decls_quiet u (decl.Callee n a b e ∷ ds) = decls_quiet (use_decl u (decl.Callee n a b e)) ds
+    decls_quiet u (decl.Callee a n e b ∷ ds) = decls_quiet (use_decl u (decl.Callee a n e b)) ds
 
     after_is : after ≡ fold (use_step ends) begun (steps f)
     unfolding begun

@@ -90,7 +90,7 @@ adds_name u name = record { words_taken = each_kind (λ k. table_at (note_name u
 adds_decl : (u : Uses) (d : RawDecl) → Adds u (use_decl u d) (λ k. decl_uses k d) (decl_limits d)
 adds_decl u (decl.Slot n a b) = record { words_taken = each_kind (λ k. table_at (use_decl u (decl.Slot n a b)) k ≡ fold refer (table_at u k) (decl_uses k (decl.Slot n a b))) refl refl refl refl refl; numbers_seen = refl }
 adds_decl u (decl.Sig n a) = record { words_taken = each_kind (λ k. table_at (use_decl u (decl.Sig n a)) k ≡ fold refer (table_at u k) (decl_uses k (decl.Sig n a))) refl refl refl refl refl; numbers_seen = refl }
-adds_decl u (decl.Callee n a b e) = record { words_taken = each_kind (λ k. table_at (use_decl u (decl.Callee n a b e)) k ≡ fold refer (table_at u k) (decl_uses k (decl.Callee n a b e))) refl refl refl refl refl; numbers_seen = refl }
+adds_decl u (decl.Callee a n e b) = record { words_taken = each_kind (λ k. table_at (use_decl u (decl.Callee a n e b)) k ≡ fold refer (table_at u k) (decl_uses k (decl.Callee a n e b))) refl refl refl refl refl; numbers_seen = refl }
 
 abbrev tag_words : RawTag → Kind → List RawName
 tag_words t = slots_only (tag_slots t)

@@ -66,7 +66,7 @@ maybe_number limit (Some n) = of_number limit n ∷ []
 abbrev pub decl_limits : RawDecl → List Limited
 decl_limits (decl.Slot n size align) = of_number SlotSize size ∷ maybe_number Alignment align
 decl_limits (decl.Sig n signature) = []
-decl_limits (decl.Callee n colocated name sig) = name_limits name
+decl_limits (decl.Callee colocated n sig name) = name_limits name
 
 -- ---- instructions
 

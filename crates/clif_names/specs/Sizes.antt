@@ -26,7 +26,7 @@ callee_sig_size (callee_sig.Inline signature) = signature_size signature
 abbrev pub decl_size : RawDecl → ℕ
 decl_size (decl.Slot n size align) = 1
 decl_size (decl.Sig n signature) = signature_size signature
-decl_size (decl.Callee n colocated name sig) = 1 + callee_sig_size sig
+decl_size (decl.Callee colocated n sig name) = 1 + callee_sig_size sig
 
 abbrev pub target_size : RawTarget → ℕ
 target_size t = length t.args

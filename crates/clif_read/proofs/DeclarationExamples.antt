@@ -60,8 +60,8 @@ aligned_slot = refl
 -- `fn0 = colocated %g sig0` and `fn1 = u0:1 () cold`
 two_callees : some_decls (word classes.Callee 0 0 ∷ word classes.Equals 0 4 ∷ word classes.Colocated 0 6 ∷ name (codes "g") 16 ∷ word classes.Sig 0 19 ∷
     word classes.Callee 1 24 ∷ word classes.Equals 0 28 ∷ word classes.UserName 0 30 ∷ word classes.Colon 0 32 ∷ number (pos 1) 33 ∷ word classes.LeftParen 0 35 ∷ word classes.RightParen 0 36 ∷ word classes.Cold 0 38 ∷ [])
-    ≡ Ok (decls.Callee (record { number = 0; spot = 0 }) true (names.Text (codes "g") 16) (callee_sigs.Declared (record { number = 0; spot = 19 })) ∷
-    decls.Callee (record { number = 1; spot = 24 }) false (names.User (record { number = 0; spot = 30 }) (record { value = pos 1; spot = 33 })) (callee_sigs.Inline (record { params = []; results = []; conv = Some convs.Cold })) ∷ [])
+    ≡ Ok (decls.Callee true (record { number = 0; spot = 0 }) (callee_sigs.Declared (record { number = 0; spot = 19 })) (names.Text (codes "g") 16) ∷
+    decls.Callee false (record { number = 1; spot = 24 }) (callee_sigs.Inline (record { params = []; results = []; conv = Some convs.Cold })) (names.User (record { number = 0; spot = 30 }) (record { value = pos 1; spot = 33 })) ∷ [])
 two_callees = refl
 
 -- `sig0 = () gv0`: a declaration may begin there

@@ -100,15 +100,15 @@ abbrev named_callee : Rule
 named_callee = func_name then (sig or signature)
 
 abbrev named_callee_at : RawName → Bool → List Lexeme → Out RawDecl
-named_callee_at f c ts = func_name_at ts >>= λ n. callee_sig_at n.1 >>= λ s. Ok (decls.Callee f c n.0 s.0, s.1)
+named_callee_at f c ts = func_name_at ts >>= λ n. callee_sig_at n.1 >>= λ s. Ok (decls.Callee c f s.0 n.0, s.1)
 
 abbrev named_callee_value : RawName → Bool → Tree named_callee → RawDecl
-named_callee_value f c v = decls.Callee f c (func_name_value v.0) (callee_sig_value v.1)
+named_callee_value f c v = decls.Callee c f (callee_sig_value v.1) (func_name_value v.0)
 
 named_callee_is : (f : RawName) (c : Bool) → Is named_callee (named_callee_value f c) (named_callee_at f c)
 named_callee_is f c =
-    then_is func_name_is (sig or signature) (λ n v. decls.Callee f c n (callee_sig_value v)) (λ n ts. callee_sig_at ts >>= λ s. Ok (decls.Callee f c n s.0, s.1))
-    (λ n. map_is callee_sig_is (λ s. decls.Callee f c n s))
+    then_is func_name_is (sig or signature) (λ n v. decls.Callee c f (callee_sig_value v) n) (λ n ts. callee_sig_at ts >>= λ s. Ok (decls.Callee c f s.0 n, s.1))
+    (λ n. map_is callee_sig_is (λ s. decls.Callee c f s n))
 
 callee_decl_is : Is callee_decl callee_decl_value callee_decl_at
 unfolding callee_decl_at

@@ -83,7 +83,7 @@ is_there = perhaps false (λ x. true)
 
 abbrev pub callee_decl_value : Tree callee_decl → RawDecl
 callee_decl_value v =
-    decls.Callee (name v.0) (is_there v.1.1.0) (func_name_value v.1.1.1.0) (callee_sig_value v.1.1.1.1)
+    decls.Callee (is_there v.1.1.0) (name v.0) (callee_sig_value v.1.1.1.1) (func_name_value v.1.1.1.0)
 
 abbrev pub decl_value : Tree decl → RawDecl
 decl_value = slot_decl_value otherwise sig_decl_value otherwise callee_decl_value otherwise never

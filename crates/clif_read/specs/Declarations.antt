@@ -85,7 +85,7 @@ callee_decl_at ts = do
   c ← colocated_at e.1
   n ← func_name_at c.1
   s ← callee_sig_at n.1
-  Ok (decls.Callee f.0 c.0 n.0 s.0, s.1)
+  Ok (decls.Callee c.0 f.0 s.0 n.0, s.1)
 
 -- ---- declarations
 

@@ -34,7 +34,7 @@ callee_sig_marks (callee_sigs.Inline signature) = []
 abbrev pub decl_marks : RawDecl → List Mark
 decl_marks (decls.Slot slot size align) = Word slot ∷ Number size ∷ offset_marks align
 decl_marks (decls.Sig sig signature) = name_marks sig
-decl_marks (decls.Callee callee colocated name sig) = Word callee ∷ (func_name_marks name ++ callee_sig_marks sig)
+decl_marks (decls.Callee colocated callee sig name) = Word callee ∷ (func_name_marks name ++ callee_sig_marks sig)
 
 abbrev pub tag_marks : RawTag → List Mark
 tag_marks (tags.User n) = number_marks n

@@ -61,8 +61,8 @@ pub enum RawCalleeSig {
     Inline(Boxed<RawSignature>),
 }
 
-/// A declaration. Signatures stand behind a pointer, since most declarations have none: a function may have some 262,000,
-/// and each takes 112 bytes so.
+/// A declaration. Of a function there may be some 262,000, so it is kept small, 112 bytes: signatures stand behind a
+/// pointer, since most declarations have none, and the parts of a callee in an order that leaves no gaps.
 #[derive(Drop)]
 pub enum RawDecl {
     /// `ss0 = explicit_slot 8, align = 4`, the size and alignment in bytes.
@@ -78,10 +78,10 @@ pub enum RawDecl {
     },
     /// `fn0 = colocated %g sig0`
     Callee {
-        callee: RawName,
         colocated: bool,
-        name: RawFuncName,
+        callee: RawName,
         sig: RawCalleeSig,
+        name: RawFuncName,
     },
 }
 

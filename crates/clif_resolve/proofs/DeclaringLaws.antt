@@ -19,13 +19,13 @@ use Rattle.clif_lines.specs.WordNumbers.{own_sig_numbers, sig_numbers}
 numbers_push : (k : ℕ) (xs : List RawDecl) (d : RawDecl) → sig_numbers k (xs ++ d ∷ []) ≡ sig_numbers k xs ++ own_sig_numbers (k + length (flat_map own_sigs xs)) d
 numbers_push k [] (decl.Slot n size align) = refl
 numbers_push k [] (decl.Sig n signature) = ap (λ m. m ∷ []) (omega arith)
-numbers_push k [] (decl.Callee n colocated name (callee_sig.Declared s)) = refl
-numbers_push k [] (decl.Callee n colocated name (callee_sig.Inline signature)) = refl
+numbers_push k [] (decl.Callee colocated n (callee_sig.Declared s) name) = refl
+numbers_push k [] (decl.Callee colocated n (callee_sig.Inline signature) name) = refl
 numbers_push k (decl.Slot n size align ∷ xs) d = numbers_push k xs d
 numbers_push k (decl.Sig n signature ∷ xs) d =
     ap (λ ns. k ∷ ns) (numbers_push (suc k) xs d ∙ ap (λ m. sig_numbers (suc k) xs ++ own_sig_numbers m d) (omega arith))
-numbers_push k (decl.Callee n colocated name (callee_sig.Declared s) ∷ xs) d = numbers_push k xs d
-numbers_push k (decl.Callee n colocated name (callee_sig.Inline signature) ∷ xs) d =
+numbers_push k (decl.Callee colocated n (callee_sig.Declared s) name ∷ xs) d = numbers_push k xs d
+numbers_push k (decl.Callee colocated n (callee_sig.Inline signature) name ∷ xs) d =
     numbers_push (suc k) xs d ∙ ap (λ m. sig_numbers (suc k) xs ++ own_sig_numbers m d) (omega arith)
 
 callees_push : (sig : ℕ → ℕ) (k : ℕ) (xs : List RawDecl) (d : RawDecl)
@@ -34,9 +34,9 @@ callees_push sig k [] d = ap (λ m. callees_from sig m (d ∷ [])) (omega arith)
 callees_push sig k (decl.Slot n size align ∷ xs) d = callees_push sig k xs d
 callees_push sig k (decl.Sig n signature ∷ xs) d =
     callees_push sig (suc k) xs d ∙ ap (λ m. callees_from sig (suc k) xs ++ callees_from sig m (d ∷ [])) (omega arith)
-callees_push sig k (decl.Callee n colocated name (callee_sig.Declared s) ∷ xs) d =
+callees_push sig k (decl.Callee colocated n (callee_sig.Declared s) name ∷ xs) d =
     ap (λ cs. record { name = name_of name; colocated = colocated; sig = sig s.number } ∷ cs) (callees_push sig k xs d)
-callees_push sig k (decl.Callee n colocated name (callee_sig.Inline signature) ∷ xs) d =
+callees_push sig k (decl.Callee colocated n (callee_sig.Inline signature) name ∷ xs) d =
     ap (λ cs. record { name = name_of name; colocated = colocated; sig = k } ∷ cs)
     (callees_push sig (suc k) xs d
     ∙ ap (λ m. callees_from sig (suc k) xs ++ callees_from sig m (d ∷ [])) (let e : suc k + length (flat_map decl_sigs xs) ≡ k + suc (length (flat_map decl_sigs xs)) = omega arith in e))
@@ -70,18 +70,18 @@ pub slots_count : (ds : List RawDecl) → length (flat_map decl_slots ds) ≤ to
 slots_count [] = omega arith
 slots_count (decl.Slot n size align ∷ ds) = let a = slots_count ds in omega (arith, a)
 slots_count (decl.Sig n signature ∷ ds) = let a = slots_count ds in omega (arith, a)
-slots_count (decl.Callee n colocated name sig ∷ ds) = let a = slots_count ds in omega (arith, a)
+slots_count (decl.Callee colocated n sig name ∷ ds) = let a = slots_count ds in omega (arith, a)
 
 pub sigs_count : (ds : List RawDecl) → length (flat_map decl_sigs ds) ≤ total decl_size ds
 sigs_count [] = omega arith
 sigs_count (decl.Slot n size align ∷ ds) = let a = sigs_count ds in omega (arith, a)
 sigs_count (decl.Sig n signature ∷ ds) = let a = sigs_count ds in omega (arith, a)
-sigs_count (decl.Callee n colocated name (callee_sig.Declared s) ∷ ds) = let a = sigs_count ds in omega (arith, a)
-sigs_count (decl.Callee n colocated name (callee_sig.Inline signature) ∷ ds) = let a = sigs_count ds in omega (arith, a)
+sigs_count (decl.Callee colocated n (callee_sig.Declared s) name ∷ ds) = let a = sigs_count ds in omega (arith, a)
+sigs_count (decl.Callee colocated n (callee_sig.Inline signature) name ∷ ds) = let a = sigs_count ds in omega (arith, a)
 
 pub callees_count : (sig : ℕ → ℕ) (k : ℕ) (ds : List RawDecl) → length (callees_from sig k ds) ≤ total decl_size ds
 callees_count sig k [] = omega arith
 callees_count sig k (decl.Slot n size align ∷ ds) = let a = callees_count sig k ds in omega (arith, a)
 callees_count sig k (decl.Sig n signature ∷ ds) = let a = callees_count sig (suc k) ds in omega (arith, a)
-callees_count sig k (decl.Callee n colocated name (callee_sig.Declared s) ∷ ds) = let a = callees_count sig k ds in omega (arith, a)
-callees_count sig k (decl.Callee n colocated name (callee_sig.Inline signature) ∷ ds) = let a = callees_count sig (suc k) ds in omega (arith, a)
+callees_count sig k (decl.Callee colocated n (callee_sig.Declared s) name ∷ ds) = let a = callees_count sig k ds in omega (arith, a)
+callees_count sig k (decl.Callee colocated n (callee_sig.Inline signature) name ∷ ds) = let a = callees_count sig (suc k) ds in omega (arith, a)

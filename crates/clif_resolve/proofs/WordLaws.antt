@@ -36,8 +36,8 @@ sig_numbered k (decl.Sig m signature ∷ ds) n = elim (eqb_tells n m.number) [
       (ap (λ c. get_or (sig_numbers (suc k) ds ++ c ∷ []) (place_in (flat_map sig_names ds) n) 0) (more k (length (flat_map own_sigs ds)))
       ∙ sig_numbered (suc k) ds n ∙ sym (more k (sig_place (flat_map decl_sigs ds) n)))
 ]
-sig_numbered k (decl.Callee m colocated name (callee_sig.Declared s) ∷ ds) n = sig_numbered k ds n
-sig_numbered k (decl.Callee m colocated name (callee_sig.Inline signature) ∷ ds) n =
+sig_numbered k (decl.Callee colocated m (callee_sig.Declared s) name ∷ ds) n = sig_numbered k ds n
+sig_numbered k (decl.Callee colocated m (callee_sig.Inline signature) name ∷ ds) n =
     ap (λ c. get_or (sig_numbers (suc k) ds ++ c ∷ []) (place_in (flat_map sig_names ds) n) 0) (more k (length (flat_map own_sigs ds)))
     ∙ sig_numbered (suc k) ds n ∙ sym (more k (sig_place (flat_map decl_sigs ds) n))
 

@@ -28,19 +28,19 @@ pub slots_decls : (t : Tables) (ds : List RawDecl) → (fold define_decl t ds).s
 slots_decls t [] = refl
 slots_decls t (decl.Slot n a b ∷ ds) = slots_decls (define_decl t (decl.Slot n a b)) ds
 slots_decls t (decl.Sig n a ∷ ds) = slots_decls (define_decl t (decl.Sig n a)) ds
-slots_decls t (decl.Callee n a b e ∷ ds) = slots_decls (define_decl t (decl.Callee n a b e)) ds
+slots_decls t (decl.Callee a n e b ∷ ds) = slots_decls (define_decl t (decl.Callee a n e b)) ds
 
 pub sigs_decls : (t : Tables) (ds : List RawDecl) → (fold define_decl t ds).sigs ≡ fold declare t.sigs (flat_map sig_names ds)
 sigs_decls t [] = refl
 sigs_decls t (decl.Slot n a b ∷ ds) = sigs_decls (define_decl t (decl.Slot n a b)) ds
 sigs_decls t (decl.Sig n a ∷ ds) = sigs_decls (define_decl t (decl.Sig n a)) ds
-sigs_decls t (decl.Callee n a b e ∷ ds) = sigs_decls (define_decl t (decl.Callee n a b e)) ds
+sigs_decls t (decl.Callee a n e b ∷ ds) = sigs_decls (define_decl t (decl.Callee a n e b)) ds
 
 pub callees_decls : (t : Tables) (ds : List RawDecl) → (fold define_decl t ds).callees ≡ fold declare t.callees (flat_map callee_names ds)
 callees_decls t [] = refl
 callees_decls t (decl.Slot n a b ∷ ds) = callees_decls (define_decl t (decl.Slot n a b)) ds
 callees_decls t (decl.Sig n a ∷ ds) = callees_decls (define_decl t (decl.Sig n a)) ds
-callees_decls t (decl.Callee n a b e ∷ ds) = callees_decls (define_decl t (decl.Callee n a b e)) ds
+callees_decls t (decl.Callee a n e b ∷ ds) = callees_decls (define_decl t (decl.Callee a n e b)) ds
 
 record SameBlocks (t s : Tables) : Type 0 where
   blocks : t.blocks ≡ s.blocks
@@ -51,7 +51,7 @@ decls_same : (t : Tables) (ds : List RawDecl) → SameBlocks (fold define_decl t
 decls_same t [] = record { blocks = refl; values = refl; firsts = refl }
 decls_same t (decl.Slot n a b ∷ ds) = (let k = decls_same (define_decl t (decl.Slot n a b)) ds in record { blocks = k.blocks; values = k.values; firsts = k.firsts })
 decls_same t (decl.Sig n a ∷ ds) = (let k = decls_same (define_decl t (decl.Sig n a)) ds in record { blocks = k.blocks; values = k.values; firsts = k.firsts })
-decls_same t (decl.Callee n a b e ∷ ds) = (let k = decls_same (define_decl t (decl.Callee n a b e)) ds in record { blocks = k.blocks; values = k.values; firsts = k.firsts })
+decls_same t (decl.Callee a n e b ∷ ds) = (let k = decls_same (define_decl t (decl.Callee a n e b)) ds in record { blocks = k.blocks; values = k.values; firsts = k.firsts })
 
 -- ---- values
 

@@ -22,7 +22,7 @@ no_tables = record {
 abbrev pub define_decl : Tables → RawDecl → Tables
 define_decl t (decl.Slot n size align) = record t { slots = declare t.slots n }
 define_decl t (decl.Sig n signature) = record t { sigs = declare t.sigs n }
-define_decl t (decl.Callee n colocated name sig) = record t { callees = declare t.callees n }
+define_decl t (decl.Callee colocated n sig name) = record t { callees = declare t.callees n }
 
 -- of two definitions of a word the first is kept
 unfoldable pub define_value : Tables → Def → Tables

@@ -27,17 +27,17 @@ all_kinds = Slots ∷ Sigs ∷ Callees ∷ Blocks ∷ Values ∷ []
 abbrev pub slot_names : RawDecl → List RawName
 slot_names (decl.Slot n size align) = n ∷ []
 slot_names (decl.Sig n signature) = []
-slot_names (decl.Callee n colocated name sig) = []
+slot_names (decl.Callee colocated n sig name) = []
 
 abbrev pub sig_names : RawDecl → List RawName
 sig_names (decl.Slot n size align) = []
 sig_names (decl.Sig n signature) = n ∷ []
-sig_names (decl.Callee n colocated name sig) = []
+sig_names (decl.Callee colocated n sig name) = []
 
 abbrev pub callee_names : RawDecl → List RawName
 callee_names (decl.Slot n size align) = []
 callee_names (decl.Sig n signature) = []
-callee_names (decl.Callee n colocated name sig) = n ∷ []
+callee_names (decl.Callee colocated n sig name) = n ∷ []
 
 -- ---- values
 

@@ -103,7 +103,7 @@ callee_sig_uses (callee_sig.Declared n) = n ∷ []
 callee_sig_uses (callee_sig.Inline signature) = []
 
 abbrev pub decl_uses : Kind → RawDecl → List RawName
-decl_uses Sigs (decl.Callee n colocated name sig) = callee_sig_uses sig
+decl_uses Sigs (decl.Callee colocated n sig name) = callee_sig_uses sig
 decl_uses _ _ = []
 
 abbrev pub uses : RawFunction → Kind → List RawName

@@ -69,21 +69,21 @@ slots_same : (ds : List RawDecl) → flat_map means.decl_slots (map bare.bare_de
 slots_same [] = refl
 slots_same (decls.Slot n size align ∷ ds) = ap₂ (λ (a : ℕ) (xs : List SlotDecl). slot_with (says.natural size.value) a ∷ xs) (alignment_same align) (slots_same ds)
 slots_same (decls.Sig n s ∷ ds) = slots_same ds
-slots_same (decls.Callee n colocated name sig ∷ ds) = slots_same ds
+slots_same (decls.Callee colocated n sig name ∷ ds) = slots_same ds
 
 sigs_same : (ds : List RawDecl) → map (λ s. s.1) (flat_map means.decl_sigs (map bare.bare_decl ds)) ≡ map (λ s. s.1) (flat_map means.decl_sigs ds)
 sigs_same [] = refl
 sigs_same (decls.Slot n size align ∷ ds) = sigs_same ds
 sigs_same (decls.Sig n s ∷ ds) = ap (λ (xs : List Sig). means.sig_of s ∷ xs) (sigs_same ds)
-sigs_same (decls.Callee n colocated name (callee_sigs.Declared x) ∷ ds) = sigs_same ds
-sigs_same (decls.Callee n colocated name (callee_sigs.Inline s) ∷ ds) = ap (λ (xs : List Sig). means.sig_of s ∷ xs) (sigs_same ds)
+sigs_same (decls.Callee colocated n (callee_sigs.Declared x) name ∷ ds) = sigs_same ds
+sigs_same (decls.Callee colocated n (callee_sigs.Inline s) name ∷ ds) = ap (λ (xs : List Sig). means.sig_of s ∷ xs) (sigs_same ds)
 
 sig_place_same : (ds : List RawDecl) (k : ℕ) → means.sig_place (flat_map means.decl_sigs (map bare.bare_decl ds)) k ≡ means.sig_place (flat_map means.decl_sigs ds) k
 sig_place_same [] k = refl
 sig_place_same (decls.Slot n size align ∷ ds) k = sig_place_same ds k
 sig_place_same (decls.Sig n s ∷ ds) k = ap (λ (j : ℕ). cond (nat_eq k n.number) 0 (suc j)) (sig_place_same ds k)
-sig_place_same (decls.Callee n colocated name (callee_sigs.Declared x) ∷ ds) k = sig_place_same ds k
-sig_place_same (decls.Callee n colocated name (callee_sigs.Inline s) ∷ ds) k = ap suc (sig_place_same ds k)
+sig_place_same (decls.Callee colocated n (callee_sigs.Declared x) name ∷ ds) k = sig_place_same ds k
+sig_place_same (decls.Callee colocated n (callee_sigs.Inline s) name ∷ ds) k = ap suc (sig_place_same ds k)
 
 abbrev callee_with : FuncName → Bool → ℕ → Callee
 callee_with n c s = record { name = n; colocated = c; sig = s }
@@ -92,28 +92,28 @@ callees_same : (sig : ℕ → ℕ) (count : ℕ) (ds : List RawDecl) → means.c
 callees_same sig count [] = refl
 callees_same sig count (decls.Slot n size align ∷ ds) = callees_same sig count ds
 callees_same sig count (decls.Sig n s ∷ ds) = callees_same sig (suc count) ds
-callees_same sig count (decls.Callee n colocated name (callee_sigs.Declared x) ∷ ds) =
+callees_same sig count (decls.Callee colocated n (callee_sigs.Declared x) name ∷ ds) =
     ap₂ (λ (m : FuncName) (cs : List Callee). callee_with m colocated (sig x.number) ∷ cs) (name_same name) (callees_same sig count ds)
-callees_same sig count (decls.Callee n colocated name (callee_sigs.Inline s) ∷ ds) =
+callees_same sig count (decls.Callee colocated n (callee_sigs.Inline s) name ∷ ds) =
     ap₂ (λ (m : FuncName) (cs : List Callee). callee_with m colocated count ∷ cs) (name_same name) (callees_same sig (suc count) ds)
 
 pub slot_words : (ds : List RawDecl) → map number_of (flat_map slot_names (map bare.bare_decl ds)) ≡ map number_of (flat_map slot_names ds)
 slot_words [] = refl
 slot_words (decls.Slot n size align ∷ ds) = ap (λ (ns : List ℕ). n.number ∷ ns) (slot_words ds)
 slot_words (decls.Sig n s ∷ ds) = slot_words ds
-slot_words (decls.Callee n colocated name sig ∷ ds) = slot_words ds
+slot_words (decls.Callee colocated n sig name ∷ ds) = slot_words ds
 
 pub sig_words : (ds : List RawDecl) → map number_of (flat_map sig_names (map bare.bare_decl ds)) ≡ map number_of (flat_map sig_names ds)
 sig_words [] = refl
 sig_words (decls.Slot n size align ∷ ds) = sig_words ds
 sig_words (decls.Sig n s ∷ ds) = ap (λ (ns : List ℕ). n.number ∷ ns) (sig_words ds)
-sig_words (decls.Callee n colocated name sig ∷ ds) = sig_words ds
+sig_words (decls.Callee colocated n sig name ∷ ds) = sig_words ds
 
 pub callee_words : (ds : List RawDecl) → map number_of (flat_map callee_names (map bare.bare_decl ds)) ≡ map number_of (flat_map callee_names ds)
 callee_words [] = refl
 callee_words (decls.Slot n size align ∷ ds) = callee_words ds
 callee_words (decls.Sig n s ∷ ds) = callee_words ds
-callee_words (decls.Callee n colocated name sig ∷ ds) = ap (λ (ns : List ℕ). n.number ∷ ns) (callee_words ds)
+callee_words (decls.Callee colocated n sig name ∷ ds) = ap (λ (ns : List ℕ). n.number ∷ ns) (callee_words ds)
 
 pub block_words : (bs : List RawBlock) → map number_of (map (λ b. b.block) (map bare.bare_block bs)) ≡ map number_of (map (λ b. b.block) bs)
 block_words [] = refl

@@ -166,7 +166,7 @@ slots_writable (decl.Slot n size align ∷ ds) h =
     let rest = each_right Kept (decl_limits (decl.Slot n size align)) (flat_map decl_limits ds) h in
     ((at_most 65536 size.value own.0, power_kept align own.1), slots_writable ds rest)
 slots_writable (decl.Sig n signature ∷ ds) h = slots_writable ds h
-slots_writable (decl.Callee n colocated name sig ∷ ds) h = slots_writable ds (each_right Kept (name_limits name) (flat_map decl_limits ds) h)
+slots_writable (decl.Callee colocated n sig name ∷ ds) h = slots_writable ds (each_right Kept (name_limits name) (flat_map decl_limits ds) h)
 
 pub callees_writable : (len : ℕ) (sig : ℕ → ℕ) (k : ℕ) (ds : List RawDecl) → DeclMarks len ds → AllKept (flat_map decl_limits ds) → Each (λ (c : Callee). NameWritable c.name) (callees_from sig k ds)
 callees_writable len sig k [] m h = tt
@@ -174,17 +174,17 @@ callees_writable len sig k (decl.Slot n size align ∷ ds) m h =
     callees_writable len sig k ds (each_right (MarkFormed len) (decl_marks (decl.Slot n size align)) (flat_map decl_marks ds) m)
     (each_right Kept (decl_limits (decl.Slot n size align)) (flat_map decl_limits ds) h)
 callees_writable len sig k (decl.Sig n signature ∷ ds) m h = callees_writable len sig (suc k) ds m.1 h
-callees_writable len sig k (decl.Callee n colocated name (callee_sig.Declared s) ∷ ds) m h =
-    let own = each_left (MarkFormed len) (decl_marks (decl.Callee n colocated name (callee_sig.Declared s))) (flat_map decl_marks ds) m in (
+callees_writable len sig k (decl.Callee colocated n (callee_sig.Declared s) name ∷ ds) m h =
+    let own = each_left (MarkFormed len) (decl_marks (decl.Callee colocated n (callee_sig.Declared s) name)) (flat_map decl_marks ds) m in (
       name_writable len name (each_left (MarkFormed len) (func_name_marks name) (callee_sig_marks (callee_sig.Declared s)) own.1)
           (each_left Kept (name_limits name) (flat_map decl_limits ds) h),
-      callees_writable len sig k ds (each_right (MarkFormed len) (decl_marks (decl.Callee n colocated name (callee_sig.Declared s))) (flat_map decl_marks ds) m)
+      callees_writable len sig k ds (each_right (MarkFormed len) (decl_marks (decl.Callee colocated n (callee_sig.Declared s) name)) (flat_map decl_marks ds) m)
           (each_right Kept (name_limits name) (flat_map decl_limits ds) h),
     )
-callees_writable len sig k (decl.Callee n colocated name (callee_sig.Inline signature) ∷ ds) m h =
-    let own = each_left (MarkFormed len) (decl_marks (decl.Callee n colocated name (callee_sig.Inline signature))) (flat_map decl_marks ds) m in (
+callees_writable len sig k (decl.Callee colocated n (callee_sig.Inline signature) name ∷ ds) m h =
+    let own = each_left (MarkFormed len) (decl_marks (decl.Callee colocated n (callee_sig.Inline signature) name)) (flat_map decl_marks ds) m in (
       name_writable len name (each_left (MarkFormed len) (func_name_marks name) [] own.1)
           (each_left Kept (name_limits name) (flat_map decl_limits ds) h),
-      callees_writable len sig (suc k) ds (each_right (MarkFormed len) (decl_marks (decl.Callee n colocated name (callee_sig.Inline signature))) (flat_map decl_marks ds) m)
+      callees_writable len sig (suc k) ds (each_right (MarkFormed len) (decl_marks (decl.Callee colocated n (callee_sig.Inline signature) name)) (flat_map decl_marks ds) m)
           (each_right Kept (name_limits name) (flat_map decl_limits ds) h),
     )

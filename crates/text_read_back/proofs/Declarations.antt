@@ -138,7 +138,7 @@ callee_reads : (k : ℕ) (c : Callee) → k < 2 ^ 64 → CalleeFits c → Closed
 callee_reads k c lt h =
     let le = h.1 in
     alone (λ b. refl)
-    (right decl_says (right (λ v. decl_says (inr v)) (left (λ v. decl_says (inr (inr v))) (means (λ (p : RawName × (Bool × (RawFuncName × RawCalleeSig))). decls.Callee p.0 p.1.0 p.1.1.0 p.1.1.1)
+    (right decl_says (right (λ v. decl_says (inr v)) (left (λ v. decl_says (inr (inr v))) (means (λ (p : RawName × (Bool × (RawFuncName × RawCalleeSig))). decls.Callee p.1.0 p.0 p.1.1.1 p.1.1.0)
     (seq (entity_reads (codes "fn") classes.Callee k callee_stem refl lt)
     (equals_then (closed_seq (colocated_read c.colocated) (seq (func_name_reads c.name h.0)
     (blank (ended (left sig_says (means (λ (x : RawName). callee_sigs.Declared x) (entity_reads (codes "sig") classes.Sig c.sig sig_stem refl (omega arith)))))) soft_space))) equals_soft)))))

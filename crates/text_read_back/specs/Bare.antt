@@ -129,8 +129,8 @@ bare_callee_sig (callee_sigs.Inline s) = callee_sigs.Inline s
 abbrev pub bare_decl : RawDecl → RawDecl
 bare_decl (decls.Slot slot size align) = decls.Slot (bare_name slot) (bare_number size) (bare_option bare_number align)
 bare_decl (decls.Sig sig s) = decls.Sig (bare_name sig) s
-bare_decl (decls.Callee callee colocated name sig) =
-    decls.Callee (bare_name callee) colocated (bare_func_name name) (bare_callee_sig sig)
+bare_decl (decls.Callee colocated callee sig name) =
+    decls.Callee colocated (bare_name callee) (bare_callee_sig sig) (bare_func_name name)
 
 abbrev pub bare_function : RawFunction → RawFunction
 bare_function f = record {

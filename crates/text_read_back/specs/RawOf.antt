@@ -116,7 +116,7 @@ abbrev pub sig_decl : ℕ → Sig → RawDecl
 sig_decl k s = decls.Sig (entity k) (signature s)
 
 abbrev pub callee_decl : ℕ → Callee → RawDecl
-callee_decl k c = decls.Callee (entity k) c.colocated (function_name c.name) (callee_sigs.Declared (entity c.sig))
+callee_decl k c = decls.Callee c.colocated (entity k) (callee_sigs.Declared (entity c.sig)) (function_name c.name)
 
 -- declarations with their numbers, from k on
 abbrev pub numbered : {A : Type 0} → (ℕ → A → RawDecl) → ℕ → List A → List RawDecl

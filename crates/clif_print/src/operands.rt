@@ -196,15 +196,15 @@ pub(crate) fn put_suffix_if<O: Output>(out: &mut O, ty: Option<Ty>)
     }
 }
 
-/// Puts a constant or an immediate number.
-pub(crate) fn put_constant<O: Output>(out: &mut O, bits: &Bits)
+/// Puts a constant or an immediate number, as signed.
+pub fn put_constant<O: Output>(out: &mut O, bits: &Bits)
     ensures { Puts O.holds out.old out.new (spelled (constant (data_of bits.now))) }
 {
     put_number(out, bits.signed());
 }
 
 /// Puts a trap code.
-pub(crate) fn put_trap_code<O: Output>(out: &mut O, code: TrapCode)
+pub fn put_trap_code<O: Output>(out: &mut O, code: TrapCode)
     ensures { Puts O.holds out.old out.new (spelled (trap_code code)) }
 {
     match code {

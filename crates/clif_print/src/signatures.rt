@@ -13,7 +13,7 @@ use ir_core::{Ext, FuncName, Param, Purpose, Sig};
 use text_output::{Output, put_number, put_numbered};
 
 /// Puts the name of a function.
-pub(crate) fn put_name<O: Output>(out: &mut O, name: &FuncName)
+pub fn put_name<O: Output>(out: &mut O, name: &FuncName)
     ensures { Puts O.holds out.old out.new (spelled (function_name name.now)) }
 {
     match name {

@@ -4,7 +4,7 @@ ghost use Rattle.std.specs.Bool.{Decides};
 ghost use Rattle.text_output.specs.Output.{Start, Puts};
 ghost use Rattle.program_run.specs.EntryName.{spelling, IsSpelledEntry, HasNoEntry};
 
-use crate::values::put_name;
+use clif_print::put_name;
 use ir_core::{FuncName, Module};
 use text_output::Output;
 

@@ -7,8 +7,9 @@ ghost use Rattle.ir_text.specs.TextInstructions.{constant};
 ghost use Rattle.text_output.specs.Output.{Start, Puts};
 ghost use Rattle.program_run.specs.RunText.{shown_text, tags_text, event_text, events_text, end_text};
 
+use crate::exceptions::put_exception;
 use crate::lists::put_list;
-use crate::values::{put_exception, put_name, put_trap_code};
+use clif_print::{put_name, put_trap_code};
 use clk_num::Bits;
 use interp::{End, Event, Shown};
 use text_output::{Output, put_number};

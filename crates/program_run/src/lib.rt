@@ -7,12 +7,12 @@
 mod bytes;
 mod entries;
 mod events;
+mod exceptions;
 pub mod laws;
 mod lists;
 mod memory;
 mod running;
 mod text;
-mod values;
 
 pub use entries::find_entry;
 pub use interp::{End, Event, Outcome, Shown};

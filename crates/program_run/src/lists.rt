@@ -8,7 +8,7 @@ ghost use Rattle.text_output.specs.Output.{Start, Puts};
 ghost use Rattle.program_run.specs.RunText.{shown_text};
 
 use crate::bytes::put_bytes;
-use crate::values::put_value;
+use clif_print::put_constant;
 use clk_num::Bits;
 use interp::Shown;
 use text_output::{Output, put_number};
@@ -27,7 +27,7 @@ impl Item for Bits {
     ghost text = { λ b. constant (data_of b) };
 
     fn put<O: Output>(&self, out: &mut O) {
-        put_value(out, self);
+        put_constant(out, self);
     }
 }
 

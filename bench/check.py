@@ -5,9 +5,9 @@
 
 `rt ci`, or `rt run` in crates/clifinl, builds the program and leaves it in out/. First 14 MB of 65,000 small functions
 in chains of calls and 60 MB of large bodies (SCALE times as much): the median of five runs by the clock, on all
-processors and on one of them, as a multiple of `wc -w`, and the most memory that a run held, a byte of text. Then texts
-of one shape each, each run between two of its half: twice the text should take at most 2.2 times the time, by the
-processor's clock."""
+processors and on one of them, as a multiple of `wc -w` on the same, since processors differ, and the most memory that a
+run held, a byte of text. Then texts of one shape each, each run between two of its half: twice the text should take at
+most 2.2 times the time, by the processor's clock."""
 import os
 import sys
 import tempfile
@@ -16,6 +16,7 @@ from small_functions import clif_functions
 from timing import median, run, twice
 
 TURNS = 5
+ONE = ', one processor'
 
 
 def body(index, lines):
@@ -96,11 +97,10 @@ def main():
         sys.exit(__doc__)
     program = os.path.abspath(sys.argv[1])
     scale = float(sys.argv[2]) if len(sys.argv) > 2 else 1
-    one = ['taskset', '-c', '0']
-    jobs = {'wc -w': ['wc', '-w']}
-    for command in ('check', 'print'):
-        jobs[command] = [program, command]
-        jobs[command + ', one processor'] = [*one, program, command]
+    jobs = {}
+    for name, words in (('wc -w', ['wc', '-w']), ('check', [program, 'check']), ('print', [program, 'print'])):
+        jobs[name] = words
+        jobs[name + ONE] = ['taskset', '-c', '0', *words]
     with tempfile.TemporaryDirectory() as folder:
         path = os.path.join(folder, 'text')
         small = clif_functions(14e6 * scale, 'chained')
@@ -109,12 +109,12 @@ def main():
             with open(path, 'w') as file:
                 file.write(text)
             found = medians(jobs, path)
-            words = found['wc -w'].clock
-            print('%s, %.1f MB: wc -w %.3f s' % (name, len(text) / 1e6, words))
-            for job in list(jobs)[1:]:
+            words = {ending: found['wc -w' + ending].clock for ending in ('', ONE)}
+            print('%s, %.1f MB: wc -w %.3f s, %.3f s on one processor' % (name, len(text) / 1e6, *words.values()))
+            for job in list(jobs)[2:]:
                 clock, memory = found[job].clock, found[job].memory
                 print('  %-22s %.3f s, %.2f times wc -w, %.1f bytes a byte of text'
-                      % (job, clock, clock / words, memory / len(text)))
+                      % (job, clock, clock / words[ONE if job.endswith(ONE) else ''], memory / len(text)))
         for name, (count, make) in SHAPES.items():
             once, text = make(count), make(2 * count)
             found = {it: twice([program, it], once, text, path, TURNS) for it in ('check', 'print')}

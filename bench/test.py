@@ -4,13 +4,15 @@
     python3 bench/test.py PATH/clifinl [SCALE]
 
 `rt ci`, or `rt run` in crates/clifinl, builds the program and leaves it in out/. A file of 65,000 functions and about
-60 MB (SCALE times as many), each function with one directive, and its half, by the processor's clock: twice the file
-should take at most 2.2 times the time. One file for each command that has checks of its own."""
+60 MB (SCALE times as many), each function with one directive, each run between two of its half, by the processor's
+clock: twice the file should take at most 2.2 times the time. One file for each command that has checks of its own."""
 import os
 import sys
 import tempfile
 
-from timing import median, run
+from timing import run, twice
+
+TURNS = 3
 
 LINES = ''.join(f'    v{i + 1} = iadd_imm v{i}, {i}\n' for i in range(33))
 
@@ -38,13 +40,11 @@ def main():
     with tempfile.TemporaryDirectory() as folder:
         path = os.path.join(folder, 'text')
         for name, header, directive in KINDS:
-            took = []
-            for number in (count // 2, count):
-                with open(path, 'w', encoding='ascii') as file:
-                    size = file.write(text(header, directive, number))
-                took.append(median([run([program, 'test'], path) for _ in range(3)]))
+            half, whole = (text(header, directive, number) for number in (count // 2, count))
+            took, times = twice([program, 'test'], half, whole, path, TURNS)
+            memory = run([program, 'test'], path).memory
             print('%-30s %.1f MB, %.2f s of the processor, %.2f times its half, %.1f bytes a byte of text' % (
-                name, size / 1e6, took[1].processor, took[1].processor / took[0].processor, took[1].memory / size))
+                name, len(whole) / 1e6, took, times, memory / len(whole)))
 
 
 if __name__ == '__main__':

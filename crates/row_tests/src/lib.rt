@@ -7,6 +7,8 @@ mod checking;
 #[cfg(test)]
 mod faults;
 #[cfg(test)]
+mod imports;
+#[cfg(test)]
 mod large;
 #[cfg(test)]
 mod printed;

@@ -1,9 +1,10 @@
 //! Texts are read, resolved and checked.
-ghost use Rattle.std.specs.Prelude.{◌≡◌, IfErr, IfOk, IfSome};
+ghost use Rattle.std.specs.Prelude.{◌≡◌, ◌<◌, length, IfErr, IfOk, IfSome};
 ghost use Rattle.clif_check.specs.Faults as spec;
 ghost use Rattle.clif_check.specs.Faults.{IsAccepted, IsAcceptedRaw, IsFault, IsRawFault};
 ghost use Rattle.clif_names.specs.Faults.{NoFault};
 ghost use Rattle.clif_meaning.specs.Meaning.{HasBlocks, Means};
+ghost use Rattle.clif_meaning.specs.Reads.{alone};
 ghost use Rattle.ir_check.specs.Kinds.{rule_of};
 ghost use Rattle.ir_check.specs.Refusal.{IsRefusal};
 
@@ -12,7 +13,7 @@ use crate::parts::Part;
 use crate::stretches::read_parts;
 use clif_lex::{TextErr, TextKind};
 use clif_read::{RawModule, read_text_alone};
-use clif_resolve::{Places, meaning};
+use clif_resolve::{Places, meaning, resolve_func};
 use ir_check::{CheckErr, CheckKind, Checked, Rejected, check};
 use ir_core::Module;
 use read_workers::STRETCH;
@@ -94,6 +95,25 @@ pub fn check_raw(alloc: Global, raw: &RawModule) -> Result<Checked, TextErr>
     match check(alloc, module) {
         Ok(checked) => Ok(checked),
         Err(rejected) => Err(rule_fault(alloc, raw, rejected)),
+    }
+}
+
+/// What `check_raw` gives for the raw module that has the function of this number alone. Takes time linear in the
+/// function, but for logarithms.
+///
+/// # Errors
+///
+/// As `check_raw`, for that raw module: no other function is looked at.
+pub fn check_func(alloc: Global, raw: &RawModule, func: usize) -> Result<Checked, TextErr>
+    requires blocks { HasBlocks raw.now }
+    requires there { func < length raw.now.functions }
+    ensures accepted { IfOk result (λ m. IsAcceptedRaw (alone raw.now func) m) }
+    ensures fault { IfErr result (λ e. IsRawFault (alone raw.now func) e) }
+{
+    let (module, places) = resolve_func(alloc, raw, func)?;
+    match check(alloc, module) {
+        Ok(checked) => Ok(checked),
+        Err(rejected) => Err(text_err(rejected.err, &places)),
     }
 }
 

@@ -8,6 +8,6 @@ pub mod laws;
 mod parts;
 mod stretches;
 
-pub use checking::{check_raw, check_text, check_text_alone};
+pub use checking::{check_func, check_raw, check_text, check_text_alone};
 pub use declarations::{Named, declare_all};
 pub use heads::check_heads;

@@ -1,6 +1,6 @@
 -- The faults of names and numbers of a raw module, each as a relation of its kind and its spot, and the first of them:
 -- the one with the smallest spot, and at one spot the one whose kind is listed first.
-use Rattle.std.specs.Prelude.{◌≡◌, ℕ, ◌<◌, ◌≤◌, ◌⊎◌, ⊤, List, slice_get, Some}
+use Rattle.std.specs.Prelude.{◌≡◌, ℕ, ◌<◌, ◌≤◌, ◌⊎◌, ⊤, List, [], slice_get, Some}
 use Rattle.clif_lex.specs.declared.faults.TextKind.{TextKind}
 use Rattle.clif_lex.specs.declared.faults.TextKind.TheVariants.{BadChar, BadNumber, Syntax, UnknownOpcode, Unsupported}
 use Rattle.clif_lex.specs.declared.faults.TextKind.TheVariants.{Duplicate, Undefined, NumberRange, Untyped, TooLarge}
@@ -60,6 +60,10 @@ ListFault fs TooLarge spot = IsOneTooMany fs spot
 ListFault fs _ spot = ⊥
 
 -- ---- in a module
+
+-- the raw module that has these functions and no header lines
+abbrev pub of_functions : List RawFunction → RawModule
+of_functions fs = record { headers = []; functions = fs }
 
 abbrev pub InSomeFunction : List RawFunction → TextKind → ℕ → Type 0
 InSomeFunction fs kind spot = (i : ℕ) × (f : RawFunction) × (slice_get fs i ≡ Some f) × FunctionFault f kind spot

@@ -1,6 +1,6 @@
 //! The first fault of names of a raw module.
 ghost use Rattle.std.specs.Prelude.{◌≡◌, IfOk};
-ghost use Rattle.clif_names.specs.Faults.{InSomeFunction, IsOneTooMany, ListFault};
+ghost use Rattle.clif_names.specs.Faults.{InSomeFunction, IsOneTooMany, ListFault, of_functions};
 ghost use Rattle.name_tables.specs.Least.{IsLeast};
 ghost use Rattle.clif_names.specs.FirstOf as spec;
 ghost use Rattle.clif_names.specs.LeastSpots.{AreLeast};
@@ -9,7 +9,7 @@ use crate::function::FunctionNames;
 use crate::least::LeastSpots;
 use crate::repeated::repeated_name;
 use clif_lex::TextKind;
-use clif_read::{RawFunction, RawModule};
+use clif_read::RawFunction;
 use name_tables::earlier_spot;
 use std::alloc::{AllocError, Global};
 
@@ -24,11 +24,14 @@ pub struct NamesFault {
     pub spot: usize,
 }
 
-/// The first fault of a raw module's names and numbers, where there is one. Takes time linear in the text.
-pub fn first_fault(alloc: Global, raw: &RawModule) -> Result<Option<NamesFault>, AllocError>
-    ensures { IfOk result (λ fault. spec.IsFirstFault raw.now fault) }
+/// The first fault of names and numbers of the raw module that has these functions, where there is one. Takes time
+/// linear in the text.
+pub fn first_fault(
+    alloc: Global,
+    functions: &[RawFunction],
+) -> Result<Option<NamesFault>, AllocError>
+    ensures { IfOk result (λ fault. spec.IsFirstFault (of_functions functions.now) fault) }
 {
-    let functions = raw.functions.as_slice();
     let among = among_functions(alloc, functions)?;
     let inside = inside_functions(alloc, functions)?;
     Ok(first_of(among.join(inside)))

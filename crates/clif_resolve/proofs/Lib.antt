@@ -9,3 +9,4 @@ pub mod DeclaredLaws
 pub mod FaultlessLaws
 pub mod BuildingLaws
 pub mod BlockWords
+pub mod Alone

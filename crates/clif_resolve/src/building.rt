@@ -1,22 +1,22 @@
 //! Building the module that a raw module means.
 ghost use Rattle.std.specs.Prelude.{◌≢◌, [], IfOk, IfSome, MatchOption};
-ghost use Rattle.clif_names.specs.Faults.{NoFault};
+ghost use Rattle.clif_names.specs.Faults.{NoFault, of_functions};
 ghost use Rattle.clif_meaning.specs.Meaning.{HasBlocks, Means};
 
 use crate::functions::meant_function;
 use clif_names::among_functions;
-use clif_read::RawModule;
+use clif_read::RawFunction;
 use ir_core::Module;
 use std::alloc::{AllocError, Global};
 
-/// The module that a raw module means, `None` exactly where it has a fault of names or numbers. Each function has a
-/// block, as the grammar has it. Takes time linear in the text. Only `AllocError` refuses.
-pub fn build(alloc: Global, raw: &RawModule) -> Result<Option<Module>, AllocError>
-    requires { HasBlocks raw.now }
-    ensures free { IfOk result (λ built. MatchOption built (¬ NoFault raw.now) (λ _. NoFault raw.now)) }
-    ensures meant { IfOk result (λ built. IfSome built (λ m. Means raw.now m)) }
+/// The module that the raw module of these functions means, `None` exactly where it has a fault of names or numbers.
+/// Each function has a block, as the grammar has it. Takes time linear in the text. Only `AllocError` refuses.
+pub fn build(alloc: Global, functions: &[RawFunction]) -> Result<Option<Module>, AllocError>
+    requires { HasBlocks (of_functions functions.now) }
+    ensures free { IfOk result (λ built. MatchOption built (¬ NoFault (of_functions functions.now))
+        (λ _. NoFault (of_functions functions.now))) }
+    ensures meant { IfOk result (λ built. IfSome built (λ m. Means (of_functions functions.now) m)) }
 {
-    let functions = raw.functions.as_slice();
     if !among_functions(alloc, functions)?.is_none() {
         return Ok(None);
     }

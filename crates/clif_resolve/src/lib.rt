@@ -13,4 +13,4 @@ mod types;
 pub use building::build;
 pub use functions::meant_function;
 pub use places::Places;
-pub use resolving::{meaning, resolve};
+pub use resolving::{meaning, resolve, resolve_func};

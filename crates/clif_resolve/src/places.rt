@@ -2,10 +2,10 @@
 ghost use Rattle.std.specs.Prelude.{◌≡◌, IfOk, IsSome, Some, flat_map, map};
 ghost use Rattle.name_tables.specs.Definitions.{callee_names};
 ghost use Rattle.clif_resolve.specs.Places.{spots_of};
-ghost use Rattle.clif_read.specs.Marks as marks;
+ghost use Rattle.clif_names.specs.Faults.{of_functions};
 ghost use Rattle.clif_meaning.specs.Spots as spec;
 
-use clif_read::{RawBlock, RawDecl, RawFuncName, RawFunction, RawLine, RawModule};
+use clif_read::{RawBlock, RawDecl, RawFunction, RawLine, RawModule};
 use ir_core::{Item, List};
 use std::alloc::{AllocError, Global};
 use std::marker::Model;
@@ -33,16 +33,6 @@ impl Model for Places {
     ghost Value = { List Spots };
 
     ghost view = { λ s. map spots_of s.functions };
-}
-
-/// The byte at which a function's name begins.
-fn name_spot(name: &RawFuncName) -> usize
-    ensures { result ≡ marks.name_spot name.now }
-{
-    match name {
-        RawFuncName::Text { spot, .. } => *spot,
-        RawFuncName::User { space, .. } => space.spot,
-    }
 }
 
 /// The spots of the words of callee declarations.
@@ -101,7 +91,7 @@ fn function_spots(alloc: Global, raw: &RawFunction) -> Result<FunctionSpots, All
     ensures { IfOk result (λ spots. spots_of spots ≡ spec.function_spots raw.now) }
 {
     Ok(FunctionSpots {
-        whole: name_spot(&raw.name),
+        whole: raw.name.spot(),
         callees: callee_spots(alloc, raw.decls.as_slice())?,
         blocks: block_spots(alloc, raw.blocks.as_slice())?,
         insts: inst_spots(alloc, raw.blocks.as_slice())?,
@@ -114,12 +104,22 @@ impl Places {
     pub fn of(alloc: Global, raw: &RawModule) -> Result<Places, AllocError>
         ensures { IfOk result (λ places. places ≡ spec.spots raw.now) }
     {
-        let mut functions = Vec::with_capacity(alloc, raw.functions.as_slice().len())?;
-        for func in raw.functions.as_slice() {
-            functions.push(function_spots(alloc, func)?)?;
+        Places::of_functions(alloc, raw.functions.as_slice())
+    }
+
+    /// The same for the raw module of these functions.
+    pub(crate) fn of_functions(
+        alloc: Global,
+        functions: &[RawFunction],
+    ) -> Result<Places, AllocError>
+        ensures { IfOk result (λ places. places ≡ spec.spots (of_functions functions.now)) }
+    {
+        let mut spots = Vec::with_capacity(alloc, functions.len())?;
+        for func in functions {
+            spots.push(function_spots(alloc, func)?)?;
         }
         Ok(Places {
-            functions: List::from_vec(functions),
+            functions: List::from_vec(spots),
         })
     }
 

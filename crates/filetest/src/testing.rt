@@ -160,7 +160,7 @@ fn needed_fault_lines(
     ensures memory { IfErr result (λ e. e ≡ NoMemory) }
 {
     if needed {
-        fault_lines(alloc, text, raw)
+        fault_lines(alloc, text, &raw)
     } else {
         Ok(Vec::new(alloc))
     }

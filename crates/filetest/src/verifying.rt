@@ -1,7 +1,8 @@
 //! Checks of the first fault of each function.
-ghost use Rattle.std.specs.Prelude.{◌≡◌, ◌≤◌, [], ◌∷◌, length, map, option_map, reverse, IfErr, IfOk, OnOk};
+ghost use Rattle.std.specs.Prelude.{◌≡◌, ◌<◌, ◌≤◌, length, map, option_map, IfErr, IfOk, OnOk};
 ghost use Rattle.clif_lex.specs.Places.{line_at};
 ghost use Rattle.clif_meaning.specs.Meaning.{HasBlocks};
+ghost use Rattle.clif_meaning.specs.Reads.{alone};
 ghost use Rattle.test_directives.specs.Views.{command_of, function_of};
 ghost use Rattle.filetest.specs.declared.testing.TestErr.TheVariants.{NoMemory};
 ghost use Rattle.filetest.specs.Checks as checks;
@@ -13,66 +14,37 @@ ghost use Rattle.filetest.specs.Views.{failure_of};
 
 use crate::report::{Pair, Writer};
 use crate::testing::TestErr;
-use clif_check::check_raw;
+use clif_check::check_func;
 use clif_lex::TextErr;
-use clif_read::{RawFunction, RawModule};
-use ir_core::List;
+use clif_read::RawModule;
 use std::alloc::{AllocError, Global};
 use test_directives::{Command, FunctionTests};
 
-/// The spot of the first fault of a raw module, `None` where it is accepted.
-fn fault_spot(alloc: Global, raw: &RawModule) -> Result<Option<usize>, TestErr>
-    requires { HasBlocks raw.now }
-    ensures spot { IfOk result (IsFaultSpot raw.now) }
+/// The spot of the first fault of a function, taken as a module by itself; `None` where it is accepted.
+fn fault_spot(alloc: Global, raw: &RawModule, func: usize) -> Result<Option<usize>, TestErr>
+    requires blocks { HasBlocks raw.now }
+    requires there { func < length raw.now.functions }
+    ensures spot { IfOk result (IsFaultSpot (alone raw.now func)) }
     ensures memory { IfErr result (λ e. e ≡ NoMemory) }
 {
-    match check_raw(alloc, raw) {
+    match check_func(alloc, raw, func) {
         Ok(_) => Ok(None),
         Err(TextErr::Fault { spot, .. }) => Ok(Some(spot)),
         Err(TextErr::NoMemory) => Err(TestErr::NoMemory),
     }
 }
 
-/// The raw module that has a function alone.
-fn alone(alloc: Global, headers: List<usize>, func: RawFunction) -> Result<RawModule, AllocError>
-    ensures { IfOk result (λ raw. (raw.headers ≡ headers) × (raw.functions ≡ func ∷ [])) }
-{
-    let mut functions = Vec::new(alloc);
-    functions.push(func)?;
-    Ok(RawModule {
-        headers,
-        functions: List::from_vec(functions),
-    })
-}
-
-/// The spots in the other order.
-fn reversed(spots: Vec<Option<usize>>) -> Vec<Option<usize>>
-    ensures { result.items ≡ reverse spots.items }
-{
-    let mut reversed = spots;
-    reversed.reverse();
-    reversed
-}
-
 /// The spots of the first faults of the functions, each taken as a module by itself. No function is copied.
-fn fault_spots(alloc: Global, raw: RawModule) -> Result<Vec<Option<usize>>, TestErr>
-    requires { HasBlocks raw }
-    ensures spots { IfOk result (λ spots. AreFaultSpots raw spots.items) }
+fn fault_spots(alloc: Global, raw: &RawModule) -> Result<Vec<Option<usize>>, TestErr>
+    requires { HasBlocks raw.now }
+    ensures spots { IfOk result (λ spots. AreFaultSpots raw.now spots.items) }
     ensures memory { IfErr result (λ e. e ≡ NoMemory) }
 {
-    let RawModule {
-        mut headers,
-        functions,
-    } = raw;
-    let mut left = functions.into_vec();
     let mut spots = Vec::new(alloc);
-    'functions: while let Some(func) = left.pop() {
-        let alone = alone(alloc, headers, func)?;
-        let spot = fault_spot(alloc, &alone)?;
-        spots.push(spot)?;
-        headers = alone.headers;
+    for func in 0..raw.functions.as_slice().len() {
+        spots.push(fault_spot(alloc, raw, func)?)?;
     }
-    Ok(reversed(spots))
+    Ok(spots)
 }
 
 /// The line of a byte of the text, further on than another byte, whose line is given.
@@ -127,11 +99,11 @@ fn lines_of_spots(
 pub(crate) fn fault_lines(
     alloc: Global,
     text: &[u8],
-    raw: RawModule,
+    raw: &RawModule,
 ) -> Result<Vec<Option<u32>>, TestErr>
     requires short { length text.now ≤ 4294967294 }
-    requires blocks { HasBlocks raw }
-    ensures lines { IfOk result (λ lines. AreFaultLines text.now raw lines.items) }
+    requires blocks { HasBlocks raw.now }
+    ensures lines { IfOk result (λ lines. AreFaultLines text.now raw.now lines.items) }
     ensures memory { IfErr result (λ e. e ≡ NoMemory) }
 {
     let spots = fault_spots(alloc, raw)?;

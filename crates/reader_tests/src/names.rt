@@ -11,7 +11,7 @@ fn fault_of(alloc: Global, text: &str) -> Result<(&'static str, usize), TextErr>
     let bytes = text.as_bytes();
     let list = tokens(alloc, bytes)?;
     let raw = read_raw_alone(alloc, bytes, &list)?;
-    match first_fault(alloc, &raw) {
+    match first_fault(alloc, raw.functions.as_slice()) {
         Ok(None) => Ok(("", 0)),
         Ok(Some(fault)) => Ok((fault.kind.name(), fault.spot)),
         Err(_) => Err(TextErr::NoMemory),

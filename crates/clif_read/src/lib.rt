@@ -8,6 +8,7 @@ pub mod laws;
 mod lines;
 mod modules;
 mod raw;
+mod room;
 mod signatures;
 mod tags;
 mod texts;

@@ -9,19 +9,13 @@ ghost use Rattle.clif_read.specs.LineValues as meaning;
 ghost use Rattle.clif_read.specs.Lines as spec;
 
 use crate::raw::{RawLine, RawTag};
+use crate::room::{guess_line_count, make_room, trim};
 use crate::tags::read_debug_tags;
 use clif_insts::{Opening, RawInst, RawOperands, read_few_more_values, read_inst};
 use clif_words::Class;
 use ir_core::{Few, List};
 use std::alloc::Global;
 use token_reader::{RawName, Reader, Stop};
-
-/// For how many lines the list of a block has room at first.
-const FIRST_ROOM: usize = 3;
-
-/// A list of two lines and no more than these keeps the room that is left over, at most as much again: to give it back
-/// costs more.
-const FEW_LINES: usize = 8;
 
 /// An instruction behind the `=` of its results.
 #[tactic(auto, unfolding(crate::specs::Lines::made_at))]
@@ -72,7 +66,7 @@ fn add_alias(
 {
     reader.take(Class::Arrow)?;
     let value = reader.take(Class::Value)?;
-    lines.reserve(1)?;
+    make_room(lines)?;
     lines.push_reserved(RawLine::Alias {
         location,
         alias,
@@ -97,7 +91,7 @@ fn add_results_line(
     let results = read_few_more_values(alloc, reader, first)?;
     let inst = read_result_inst(alloc, reader)?;
     let returns = is_return(&inst);
-    lines.reserve(1)?;
+    make_room(lines)?;
     lines.push_reserved(RawLine::Inst {
         location,
         tags: List::from_vec(Vec::new(alloc)),
@@ -143,7 +137,7 @@ fn add_plain_line(
 {
     let inst = read_inst(alloc, reader, opening)?;
     let returns = is_return(&inst);
-    lines.reserve(1)?;
+    make_room(lines)?;
     lines.push_reserved(RawLine::Inst {
         location,
         tags,
@@ -170,7 +164,7 @@ fn add_tagged_results(
     let results = read_few_more_values(alloc, reader, first)?;
     let inst = read_result_inst(alloc, reader)?;
     let returns = is_return(&inst);
-    lines.reserve(1)?;
+    make_room(lines)?;
     lines.push_reserved(RawLine::Inst {
         location,
         tags,
@@ -258,7 +252,7 @@ fn add_values_or_inst(
     if reader.next_is(Class::Equals) {
         let inst = read_result_inst(alloc, reader)?;
         let returns = is_return(&inst);
-        lines.reserve(1)?;
+        make_room(lines)?;
         lines.push_reserved(RawLine::Inst {
             location: None,
             tags: List::from_vec(Vec::new(alloc)),
@@ -342,25 +336,6 @@ fn begins_line(reader: &Reader<'_>) -> bool
     match reader.next_class() {
         Some(class) => may_begin_line(class),
         None => false,
-    }
-}
-
-/// Gives back the room that a list of one line or of many has left over.
-fn trim(lines: &mut Vec<RawLine>)
-    ensures { lines.new.items ≡ lines.old.items }
-{
-    if lines.len() < 2 || lines.len() > FEW_LINES {
-        lines.shrink_to_fit();
-    }
-}
-
-/// For how many lines a block has room at first: for one where its first line ends it.
-#[inline]
-fn guess_line_count(reader: &Reader<'_>) -> usize {
-    if reader.next_is_one_of(Class::Return, Class::Jump, Class::Trap) {
-        1
-    } else {
-        FIRST_ROOM
     }
 }
 

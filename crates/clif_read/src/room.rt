@@ -1,0 +1,69 @@
+//! Room for the lines of a block.
+
+ghost use Rattle.std.specs.Prelude.{◌≡◌, ◌+◌, ◌≤◌, vec_len, vec_capacity, OnOk};
+
+use crate::raw::RawLine;
+use clif_words::Class;
+use std::alloc::AllocError;
+use token_reader::Reader;
+
+/// For how many lines the list of a block has room at first.
+const FIRST_ROOM: usize = 4;
+
+/// From so many lines on a full list gets room for as many as a function may have.
+const MANY_LINES: usize = 16_384;
+
+/// The most lines of a function within the limits.
+const MOST_LINES: usize = 262_144;
+
+/// A list of two lines and no more than these keeps the room that is left over, at most as much again: to give it back
+/// costs more.
+const FEW_LINES: usize = 8;
+
+/// Makes room for a line behind the others. A list that grows past 32 MiB by doubling is copied to memory that the system
+/// gives anew, where each page is seen for the first time; one that has room for all its lines early is copied while it
+/// is small, and pages that it never fills cost nothing.
+#[inline]
+pub(crate) fn make_room(lines: &mut Vec<RawLine>) -> Result<(), AllocError>
+    ensures items { lines.new.items ≡ lines.old.items }
+    ensures room { OnOk result (vec_len lines.new + 1 ≤ vec_capacity lines.new) }
+{
+    if lines.len() < MANY_LINES {
+        lines.reserve(1)
+    } else {
+        make_much_room(lines)
+    }
+}
+
+/// Makes room for a line behind many.
+#[inline(never)]
+fn make_much_room(lines: &mut Vec<RawLine>) -> Result<(), AllocError>
+    ensures items { lines.new.items ≡ lines.old.items }
+    ensures room { OnOk result (vec_len lines.new + 1 ≤ vec_capacity lines.new) }
+{
+    let count = lines.len();
+    if count == lines.capacity() && count < MOST_LINES {
+        lines.reserve_exact(MOST_LINES - count)
+    } else {
+        lines.reserve(1)
+    }
+}
+
+/// Gives back the room that a list of one line or of many has left over.
+pub(crate) fn trim(lines: &mut Vec<RawLine>)
+    ensures { lines.new.items ≡ lines.old.items }
+{
+    if lines.len() < 2 || lines.len() > FEW_LINES {
+        lines.shrink_to_fit();
+    }
+}
+
+/// For how many lines a block has room at first: for one where its first line ends it.
+#[inline]
+pub(crate) fn guess_line_count(reader: &Reader<'_>) -> usize {
+    if reader.next_is_one_of(Class::Return, Class::Jump, Class::Trap) {
+        1
+    } else {
+        FIRST_ROOM
+    }
+}

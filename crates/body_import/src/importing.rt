@@ -73,8 +73,8 @@ fn plan_declarations(alloc: Global, caller: &Func, callee: &Func) -> Result<Impo
     plan_import(alloc, &index, caller, callee)
 }
 
-/// The types of a callee's values.
-fn value_types(alloc: Global, callee: &Func) -> Result<List<Ty>, AllocError>
+/// The types of a callee's values, in the order of their numbers. Only `AllocError` refuses.
+pub fn value_types(alloc: Global, callee: &Func) -> Result<List<Ty>, AllocError>
     ensures { IfOk result (λ list. list ≡ map (λ t. t.1) callee.now.function.types) }
 {
     let mut list = Vec::with_capacity(alloc, callee.values())?;
@@ -113,9 +113,9 @@ fn reserve_import(
     })
 }
 
-/// Gives a caller all that it needs of a callee before its body: the callee's slots behind its own, its first
-/// signatures and callee declarations that are equal to the callee's, or new ones behind its own, and the callee's
-/// values behind its own. Three steps: what is new is planned, room is made, and it is appended. After `AllocError` the
+/// Gives a caller all that it needs of a callee before its body. The callee's slots and values stand behind the caller's
+/// own. A signature or callee declaration of the callee is the caller's first equal one; where there is none, it stands
+/// behind the caller's own. Three steps: what is new is planned, room is made, and it is appended. After `AllocError` the
 /// caller is as before. Time: the length of the declarations of both, times the logarithm of their number, and the
 /// number of the callee's values; where the caller's list of values has to grow, also that of the caller's.
 pub fn import(alloc: Global, caller: &mut Func, callee: &Func) -> Result<Maps, AllocError>

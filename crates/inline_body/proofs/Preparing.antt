@@ -16,7 +16,7 @@ use Rattle.body_import.specs.declared.declarations.Import.{Import}
 use Rattle.body_import.specs.Imports.{IsImportOf}
 use Rattle.inline_body.specs.declared.blocks.BlockLines.{BlockLines}
 use Rattle.inline_body.specs.declared.names.Names.{Names}
-use Rattle.inline_body.specs.declared.piece.PreparedBody.{PreparedBody}
+use Rattle.inline_body.specs.declared.prepared.PreparedBody.{PreparedBody}
 use Rattle.inline_body.specs.Dense.{numbers_along}
 use Rattle.inline_body.specs.Inlined.{jump_line, inlined_block, blocks_from, BlockReached}
 use Rattle.inline_body.specs.Results.{tail_calls_in, starts_along, repeated}

@@ -24,7 +24,7 @@ use Rattle.body_import.specs.declared.declarations.Import.{Import}
 use Rattle.body_import.specs.Imports.{IsImportOf}
 use Rattle.body_import.proofs.FirstPlaces.{each_at}
 use Rattle.inline_body.specs.declared.names.Names.{Names}
-use Rattle.inline_body.specs.declared.piece.PreparedBody.{PreparedBody}
+use Rattle.inline_body.specs.declared.prepared.PreparedBody.{PreparedBody}
 use Rattle.inline_body.specs.Named.{names_of}
 use Rattle.inline_body.specs.Dense.{after_number, numbers_along}
 use Rattle.inline_body.specs.Inlined.{jump_line, results_from, inlined_block, blocks_from, BlockReached}

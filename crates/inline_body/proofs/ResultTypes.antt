@@ -1,17 +1,14 @@
 -- New results: their numbers and their types.
-use Rattle.std.proofs.Common.{◌≡◌, ℕ, zero, suc, ◌+◌, ◌*◌, ◌≤◌, ◌<◌, List, [], ◌∷◌, ◌++◌, map, length, take, get_or, slice_set, Bool, true, false, Option, Some, None, inl, inr, refl, sym, ap, ap₂, ◌∙◌, subst, arith, append_assoc, append-nil, length-append}
-use Rattle.std.specs.Prelude.{if◌then◌else◌, slice_get}
+use Rattle.std.proofs.Common.{◌≡◌, ℕ, zero, suc, ◌+◌, ◌*◌, ◌≤◌, List, [], ◌∷◌, ◌++◌, map, length, get_or, slice_set, Bool, true, false, Some, inl, inr, refl, sym, ap, ap₂, ◌∙◌, subst, arith, append_assoc, append-nil, length-append}
+use Rattle.std.specs.Prelude.{if◌then◌else◌}
 use Rattle.std.specs.List.{enumerate_from}
-use Rattle.std.proofs.lemmas.List.{get_or-set_same, get_or-set_other, length-set, take_more, length-map}
-use Rattle.std.proofs.lemmas.Option.{get_or_from_slice_get}
+use Rattle.std.proofs.lemmas.List.{get_or-set_same, get_or-set_other, length-set}
 use Rattle.ir_core.specs.declared.signatures.Ty.{Ty}
-use Rattle.ir_core.specs.Module.{Instruction, Plain, Branches, SequencePoint, Return, Call, ReturnCall, TryCall, Line, Block, Function}
-use Rattle.ir_core.specs.Lookup.{type_in, type_of, block_numbers}
+use Rattle.ir_core.specs.Module.{Instruction, Plain, Branches, SequencePoint, Return, Call, ReturnCall, TryCall, Line, Block}
+use Rattle.ir_core.specs.Lookup.{type_in, block_numbers}
 use Rattle.ir_core.specs.Lists.{In, Different, Below}
-use Rattle.ir_core.specs.Sound.{IsSound}
-use Rattle.ir_core.proofs.Walking.{type_found}
 use Rattle.ir_semantics.specs.Renaming.{Renaming, typed_under}
-use Rattle.ir_semantics.specs.Splice.{Splicing, Kind, Within, kind_of, callee_names, with_type, typed_results, new_types_by, line_types, new_types}
+use Rattle.ir_semantics.specs.Splice.{Splicing, Kind, Within, kind_of, with_type, typed_results, new_types_by, line_types, new_types}
 use Rattle.ir_core.specs.Edits.{lines_of}
 use Rattle.inline_body.specs.Inlined.{block_at}
 use Rattle.inline_body.specs.Results.{is_tail_call, tail_calls, tail_calls_in, starts_along, repeated, with_values, OneTail}
@@ -64,14 +61,6 @@ repeated_sum (suc m) n (suc k) xs e = ap (λ z. xs ++ z) (repeated_sum m n k xs 
 pub repeated_length : {A : Type 0} (n : ℕ) (xs : List A) → length (repeated n xs) ≡ length xs * n
 repeated_length zero xs = omega arith
 repeated_length (suc n) xs = let a = length-append xs (repeated n xs) in let b = repeated_length n xs in omega (arith, a, b)
-
-pub next_type : (f : Function) (v : ℕ) (t : Ty) → IsSound f → v < length f.types → type_of f v ≡ Some t → take (v + 1) (map (λ x. x.1) f.types) ≡ take v (map (λ x. x.1) f.types) ++ (t ∷ [])
-next_type f v t sound below e =
-    let ts = map (λ (x : ℕ × Ty). x.1) f.types in
-    let at : slice_get ts v ≡ Some t = sym (type_found 0 v v ts (omega arith)) ∙ (ap (λ (z : List (ℕ × Ty)). type_in z v) (sym sound.numbered) ∙ e) in
-    let n = length-map f.types (λ (x : ℕ × Ty). x.1) in
-    let l : v < length ts = omega (arith, n, below) in
-    take_more ts v t l ∙ ap (λ z. take v ts ++ (z ∷ [])) (get_or_from_slice_get ts v t t at)
 
 pub enumerate_join : (n m : ℕ) (xs ys : List Ty) → m ≡ n + length xs → enumerate_from n xs ++ enumerate_from m ys ≡ enumerate_from n (xs ++ ys)
 enumerate_join n m [] ys e = ap (λ z. enumerate_from z ys) (omega (arith, e))

@@ -13,7 +13,7 @@ use Rattle.ir_semantics.specs.Splice.{Splicing, Kind, kind_of, caller_names, cal
 use Rattle.ir_semantics.specs.Splice.{after_blocks, spliced_blocks, new_types, spliced}
 use Rattle.ir_core.specs.Viewed.{line_of}
 use Rattle.inline_body.specs.WithBody.{with_body}
-use Rattle.inline_body.specs.declared.piece.PreparedBody.{PreparedBody}
+use Rattle.inline_body.specs.declared.prepared.PreparedBody.{PreparedBody}
 use Rattle.inline_body.specs.Prepared.{IsBodyOf, appended, body_of}
 use Rattle.inline_body.proofs.OwnNames.{values_kept, lines_kept}
 use Rattle.inline_body.proofs.SplicedBlocks.{spliced_blocks_are}

@@ -7,7 +7,7 @@ use Rattle.ir_core.specs.Sound.{instruction_count}
 use Rattle.ir_core.specs.Edits.{IsPoint, lines_of}
 use Rattle.ir_semantics.specs.Splice.{Naming, Splicing, splice_with}
 use Rattle.body_import.specs.declared.declarations.Import.{Import}
-use Rattle.inline_body.specs.declared.piece.PreparedBody.{PreparedBody}
+use Rattle.inline_body.specs.declared.prepared.PreparedBody.{PreparedBody}
 use Rattle.inline_body.specs.Prepared.{IsBodyOf, IsReady}
 use Rattle.inline_body.specs.Results.{tail_calls_in, OneTail}
 

@@ -16,7 +16,7 @@ use Rattle.ir_semantics.specs.Renaming.{typed_under}
 use Rattle.ir_semantics.specs.Splice.{Splicing, Within, kind_of, callee_names, body, jump_in, new_types}
 use Rattle.ir_core.specs.Viewed.{line_of}
 use Rattle.inline_body.specs.Inlined.{blocks_from}
-use Rattle.inline_body.specs.declared.piece.PreparedBody.{PreparedBody}
+use Rattle.inline_body.specs.declared.prepared.PreparedBody.{PreparedBody}
 
 -- the function with a prepared body's declarations
 abbrev pub appended : Function → PreparedBody → Function

@@ -8,7 +8,7 @@ ghost use Rattle.inline_body.specs.PlainCall.{CanSplice, IsPrepared};
 use crate::blocks::{BlockLines, InlinedBlocks, inline_blocks};
 use crate::names::Names;
 use crate::parts::site_parts;
-use crate::piece::PreparedBody;
+use crate::prepared::PreparedBody;
 use crate::results::number_results;
 use crate::tables::number_blocks;
 use body_import::Import;

@@ -7,6 +7,7 @@ ghost use Rattle.inline_body.specs.Results.{is_tail_call as spec_is_tail_call, t
 ghost use Rattle.inline_body.specs.Results.{repeated};
 
 use crate::tables::count_blocks;
+use body_import::value_types;
 use ir_core::{Func, Inst, InstData, List, Ty, Value};
 use std::alloc::{AllocError, Global};
 
@@ -102,10 +103,7 @@ pub fn new_types(
 ) -> Result<List<Ty>, AllocError>
     ensures { IfOk result (λ list. list ≡ map (λ t. t.1) callee.now.function.types ++ repeated tail_calls results.now) }
 {
-    let mut list = Vec::with_capacity(alloc, callee.values())?;
-    for value in 0..callee.values() {
-        list.push(callee.ty(Value::new(value as u32)))?;
-    }
+    let mut list = value_types(alloc, callee)?.into_vec();
     for _call in 0..tail_calls {
         push_types(&mut list, results)?;
     }

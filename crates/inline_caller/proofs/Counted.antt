@@ -10,7 +10,7 @@ use Rattle.ir_semantics.specs.Renaming.{block_under}
 use Rattle.ir_semantics.specs.Splice.{Splicing, kind_of, caller_names, body, cut_block, after_blocks, spliced_blocks, spliced}
 use Rattle.body_import.specs.declared.declarations.Import.{Import}
 use Rattle.inline_body.specs.declared.blocks.BlockLines.{BlockLines}
-use Rattle.inline_body.specs.declared.piece.PreparedBody.{PreparedBody}
+use Rattle.inline_body.specs.declared.prepared.PreparedBody.{PreparedBody}
 use Rattle.inline_body.specs.WithBody.{empty_from, numbers_of}
 use Rattle.inline_body.specs.Prepared.{IsBodyOf, body_of}
 use Rattle.inline_body.specs.PlainCall.{splicing_at, IsPrepared}

@@ -1,4 +1,5 @@
 pub mod Counted
+pub mod PreparedCalls
 pub mod ReplacedCalls
 pub mod Indexed
 pub mod Definitions

@@ -1,3 +1,4 @@
 pub mod Replacing
+pub mod Prepared
 pub mod Standing
 pub mod Laws

@@ -4,7 +4,8 @@ ghost use Rattle.body_import.specs.Imports.{IsImportOf};
 ghost use Rattle.inline_body.specs.PlainCall.{IsSplice};
 ghost use Rattle.inline_caller.specs.Replacing.{CanReplace};
 
-use crate::putting::put_callee;
+use crate::prepared::{blocks_added, prepare_planned};
+use crate::putting::put_piece;
 use body_import::{Import, Index, extend_index, index_declarations, plan_import};
 use inline_body::count_blocks;
 use ir_core::{Func, Point};
@@ -115,7 +116,7 @@ impl Caller {
             import.sigs.added.as_slice(),
             import.callees.added.as_slice(),
         )?;
-        self.block_count = put_callee(
+        let call = prepare_planned(
             alloc,
             &mut self.func,
             self.block_count,
@@ -123,8 +124,9 @@ impl Caller {
             site,
             callee,
         )?;
+        self.block_count += blocks_added(&call);
+        put_piece(&mut self.func, call, steps);
         self.indexed = true;
-        steps.tick();
         Ok(())
     }
 }

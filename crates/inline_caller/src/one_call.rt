@@ -3,17 +3,16 @@ ghost use Rattle.std.specs.Prelude.{◌≡◌, ◌+◌, OnOk, OnErr};
 ghost use Rattle.inline_body.specs.PlainCall.{IsSplice};
 ghost use Rattle.inline_caller.specs.Replacing.{CanReplace};
 
-use crate::kinds::{CallKind, call_kind};
-use inline_body::splice_plain;
-use inline_ends::{splice_tail, splice_try};
+use crate::prepared::prepare;
+use crate::putting::put_piece;
 use ir_core::{Func, Point};
 use std::alloc::{AllocError, Global};
 use std::sync::ledger::Ledger;
 use step_counter::Steps;
 
-/// Replaces the call at the place by its callee's body, and counts a step. After `AllocError` the caller is as before,
-/// and no step was counted. Time is the size of both, times the logarithm of the number of declarations; for many calls
-/// of one function a `Caller` takes less.
+/// Replaces the call at the place by its callee's body, and counts a step: `prepare`, then `put_piece`. After
+/// `AllocError` the caller is as before, and no step was counted. Time is the size of both, times the logarithm of the
+/// number of declarations; for many calls of one function a `Caller` takes less.
 pub fn splice<L: Ledger>(
     alloc: Global,
     caller: &mut Func,
@@ -27,15 +26,7 @@ pub fn splice<L: Ledger>(
     ensures counted { OnOk result (steps.new ≡ steps.old + 1) }
     ensures uncounted { OnErr result (steps.new ≡ steps.old) }
 {
-    let block = site.block;
-    let index = site.index;
-    let kind = call_kind(&caller.inst(site).inst);
-    let place = Point { block, index };
-    match kind {
-        CallKind::Plain => splice_plain(alloc, caller, place, callee)?,
-        CallKind::Tail => splice_tail(alloc, caller, place, callee)?,
-        CallKind::Try => splice_try(alloc, caller, place, callee)?,
-    }
-    steps.tick();
+    let call = prepare(alloc, caller, site, callee)?;
+    put_piece(caller, call, steps);
     Ok(())
 }

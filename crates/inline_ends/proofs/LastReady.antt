@@ -18,7 +18,7 @@ use Rattle.ir_semantics.specs.Splice.{Naming, Splicing, kind_of, args_of, first_
 use Rattle.body_import.specs.declared.declarations.Import.{Import}
 use Rattle.body_import.specs.Imports.{IsImportOf}
 use Rattle.inline_body.specs.declared.names.Names.{Names}
-use Rattle.inline_body.specs.declared.piece.PreparedBody.{PreparedBody}
+use Rattle.inline_body.specs.declared.prepared.PreparedBody.{PreparedBody}
 use Rattle.inline_body.specs.Inlined.{jump_line, blocks_from}
 use Rattle.inline_body.specs.WithBody.{counts_with}
 use Rattle.inline_body.specs.Prepared.{appended}

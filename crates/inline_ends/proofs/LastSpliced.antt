@@ -6,7 +6,7 @@ use Rattle.ir_core.specs.Module.{Block, Function}
 use Rattle.ir_core.specs.Viewed.{line_of}
 use Rattle.ir_semantics.specs.Splice.{Splicing, kind_of, body, after_blocks, spliced}
 use Rattle.inline_ends.specs.Ending.{with_last_body}
-use Rattle.inline_body.specs.declared.piece.PreparedBody.{PreparedBody}
+use Rattle.inline_body.specs.declared.prepared.PreparedBody.{PreparedBody}
 use Rattle.inline_body.specs.Prepared.{appended, body_of}
 use Rattle.inline_body.proofs.Spliced.{splice_with_blocks}
 use Rattle.inline_body.proofs.SplicedBlocks.{spliced_blocks_are}

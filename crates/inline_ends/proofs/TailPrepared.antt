@@ -14,7 +14,7 @@ use Rattle.ir_semantics.specs.Splice.{Last, kind_of, args_of, first_number, afte
 use Rattle.body_import.specs.declared.declarations.Import.{Import}
 use Rattle.body_import.specs.Imports.{IsImportOf}
 use Rattle.inline_body.specs.declared.names.Names.{Names}
-use Rattle.inline_body.specs.declared.piece.PreparedBody.{PreparedBody}
+use Rattle.inline_body.specs.declared.prepared.PreparedBody.{PreparedBody}
 use Rattle.inline_body.proofs.BodyDefinitions.{shifted_differ}
 use Rattle.inline_body.proofs.Ready.{numbers_below, line_at, named_below, names_reach, moved_undefined}
 use Rattle.inline_body.proofs.Preparing.{same_line}

@@ -15,7 +15,7 @@ use Rattle.ir_semantics.specs.Splice.{Tries, kind_of, args_of, first_number, aft
 use Rattle.body_import.specs.declared.declarations.Import.{Import}
 use Rattle.body_import.specs.Imports.{IsImportOf}
 use Rattle.inline_body.specs.declared.names.Names.{Names}
-use Rattle.inline_body.specs.declared.piece.PreparedBody.{PreparedBody}
+use Rattle.inline_body.specs.declared.prepared.PreparedBody.{PreparedBody}
 use Rattle.inline_body.proofs.BodyDefinitions.{shifted_differ}
 use Rattle.inline_body.proofs.Found.{found_at}
 use Rattle.inline_body.proofs.Ready.{numbers_below, line_at, named_below, names_reach, moved_undefined}

@@ -13,7 +13,7 @@ use Rattle.ir_semantics.specs.Import.{sigs_after, callees_after}
 use Rattle.ir_semantics.specs.Renaming.{typed_under}
 use Rattle.ir_semantics.specs.Splice.{Naming, Splicing, kind_of, callee_names, body, jump_in, after_blocks, new_types}
 use Rattle.body_import.specs.declared.declarations.Import.{Import}
-use Rattle.inline_body.specs.declared.piece.PreparedBody.{PreparedBody}
+use Rattle.inline_body.specs.declared.prepared.PreparedBody.{PreparedBody}
 use Rattle.inline_body.specs.WithBody.{empty_from, all_of, lines_in, numbers_of, counts_with}
 use Rattle.inline_body.specs.Prepared.{appended, body_of}
 use Rattle.inline_body.specs.PlainCall.{Keeps, splicing_at}

@@ -1,5 +1,5 @@
 //! A callee's body prepared for a call, and how it is put into the caller.
-ghost use Rattle.std.specs.Prelude.{◌≡◌, slice_get, Some, OnOk, OnErr};
+ghost use Rattle.std.specs.Prelude.{◌≡◌, slice_get, Some};
 ghost use Rattle.ir_semantics.specs.Splice.{Splicing, spliced};
 ghost use Rattle.ir_core.specs.Edits.{HasRoom, lines_of};
 ghost use Rattle.ir_core.specs.Viewed.{line_of};
@@ -7,9 +7,7 @@ ghost use Rattle.inline_body.specs.Prepared.{IsBodyOf, IsReady, room_of};
 
 use crate::blocks::BlockLines;
 use crate::placing::put_body;
-use crate::prepare::body_room;
 use ir_core::{Callee, Func, InstData, List, Point, Sig, SlotDecl, Ty, Values};
-use std::alloc::AllocError;
 
 /// A callee's body as it stands in its caller in the place of a call: new declarations, the jump into the body, the
 /// site's results (none where the call ends its block), the parameters of the body's first block and of its others, and
@@ -29,7 +27,7 @@ pub struct PreparedBody {
 
 /// Puts a prepared body in the place of a plain call, and answers the call: the function is then the splice. No memory
 /// is taken.
-pub fn put_piece(caller: &mut Func, site: Point, body: PreparedBody) -> InstData
+pub fn put_within(caller: &mut Func, site: Point, body: PreparedBody) -> InstData
     requires room { HasRoom (room_of body) caller.old.room }
     requires ready { IsReady caller.old.function site body }
     ensures spliced { (p : Splicing) → IsBodyOf p caller.old.function site body → caller.new.function ≡ spliced p }
@@ -57,25 +55,4 @@ pub fn put_piece(caller: &mut Func, site: Point, body: PreparedBody) -> InstData
         block_params,
         block_lines,
     )
-}
-
-/// Makes room for a prepared body, and puts it in the place of a plain call: the function is then the splice. After
-/// `AllocError` the caller is as before.
-pub fn reserve_and_put(caller: &mut Func, site: Point, body: PreparedBody) -> Result<(), AllocError>
-    requires { IsReady caller.old.function site body }
-    ensures spliced { OnOk result
-        ((p : Splicing) → IsBodyOf p caller.old.function site body → caller.new.function ≡ spliced p) }
-    ensures same { OnErr result (caller.new.function ≡ caller.old.function) }
-{
-    let room = body_room(&body);
-    match caller.reserve(room) {
-        Ok(()) => {
-            drop(put_piece(caller, site, body));
-            Ok(())
-        }
-        Err(error) => {
-            drop(body);
-            Err(error)
-        }
-    }
 }

@@ -6,7 +6,7 @@ use Rattle.ir_core.specs.Viewed.{line_of}
 use Rattle.inline_body.specs.Prepared.{body_of}
 use Rattle.inline_ends.specs.Ending.{with_last_body}
 use Rattle.inline_ends.proofs.LastSpliced.{splice_is}
-use Rattle.inline_ends.proofs.piece.put_last_piece.Goals as goal
+use Rattle.inline_ends.proofs.prepared.put_last.Goals as goal
 
 pub put_last_body-requires-clause-undefined : goal.put_last_body-requires-clause-undefined
 put_last_body-requires-clause-undefined c = λ v i j. c.requires.ready.undefined v i (subst (λ (z : Function). In v (definitions z.blocks)) c.append.ensures.body j)

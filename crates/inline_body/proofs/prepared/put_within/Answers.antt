@@ -6,7 +6,7 @@ use Rattle.ir_core.specs.Viewed.{line_of}
 use Rattle.inline_body.specs.WithBody.{with_body}
 use Rattle.inline_body.specs.Prepared.{body_of}
 use Rattle.inline_body.proofs.Spliced.{splice_is}
-use Rattle.inline_body.proofs.piece.put_piece.Goals as goal
+use Rattle.inline_body.proofs.prepared.put_within.Goals as goal
 
 pub put_body-requires-clause-undefined : goal.put_body-requires-clause-undefined
 put_body-requires-clause-undefined c = λ v i j. c.requires.ready.undefined v i (subst (λ (z : Function). In v (definitions z.blocks)) c.append.ensures.body j)

@@ -1,5 +1,5 @@
 //! A prepared body put in the place of a call that ends its block.
-ghost use Rattle.std.specs.Prelude.{◌≡◌, slice_get, Some, OnOk, OnErr};
+ghost use Rattle.std.specs.Prelude.{◌≡◌, slice_get, Some};
 ghost use Rattle.ir_semantics.specs.Splice.{Splicing, spliced};
 ghost use Rattle.ir_core.specs.Edits.{HasRoom, lines_of};
 ghost use Rattle.ir_core.specs.Viewed.{line_of};
@@ -7,13 +7,12 @@ ghost use Rattle.inline_body.specs.Prepared.{room_of};
 ghost use Rattle.inline_ends.specs.LastBody.{IsLastBodyOf, IsLastReady};
 
 use crate::placing::put_last_body;
-use inline_body::{PreparedBody, body_room};
+use inline_body::PreparedBody;
 use ir_core::{Func, InstData, Point};
-use std::alloc::AllocError;
 
 /// Puts a prepared body in the place of a call that ends its block, and answers the call: the function is then the
 /// splice. No memory is taken.
-pub fn put_last_piece(caller: &mut Func, site: Point, body: PreparedBody) -> InstData
+pub fn put_last(caller: &mut Func, site: Point, body: PreparedBody) -> InstData
     requires room { HasRoom (room_of body) caller.old.room }
     requires ready { IsLastReady caller.old.function site body }
     ensures spliced { (p : Splicing) → IsLastBodyOf p caller.old.function site body → caller.new.function ≡ spliced p }
@@ -33,29 +32,4 @@ pub fn put_last_piece(caller: &mut Func, site: Point, body: PreparedBody) -> Ins
     } = body;
     caller.append(slots, sigs, callees, types);
     put_last_body(caller, site, jump, first, block_params, block_lines)
-}
-
-/// Makes room for a prepared body, and puts it in the place of a call that ends its block: the function is then the
-/// splice. After `AllocError` the caller is as before.
-pub fn reserve_and_put_last(
-    caller: &mut Func,
-    site: Point,
-    body: PreparedBody,
-) -> Result<(), AllocError>
-    requires { IsLastReady caller.old.function site body }
-    ensures spliced { OnOk result
-        ((p : Splicing) → IsLastBodyOf p caller.old.function site body → caller.new.function ≡ spliced p) }
-    ensures same { OnErr result (caller.new.function ≡ caller.old.function) }
-{
-    let room = body_room(&body);
-    match caller.reserve(room) {
-        Ok(()) => {
-            drop(put_last_piece(caller, site, body));
-            Ok(())
-        }
-        Err(error) => {
-            drop(body);
-            Err(error)
-        }
-    }
 }

@@ -1,6 +1,0 @@
-use Rattle.std.proofs.Common.{refl}
-use Rattle.inline_ends.proofs.LastReady.{is_splice}
-use Rattle.inline_ends.proofs.try_splice.splice_try.Goals as goal
-
-pub returns-clause-ok : goal.returns-clause-ok
-returns-clause-ok c = is_splice c.args.caller.now.function c.args.callee.now.function c.args.caller.now.function c.reserve_and_put_last.new.caller.function c.args.site _ c.in_ok-body.body c.in_ok-body.ensures refl c.in_ok-reserve_and_put_last.ensures.spliced

@@ -113,11 +113,12 @@ fn reserve_import(
     })
 }
 
-/// Gives a caller all that it needs of a callee before its body. The callee's slots and values stand behind the caller's
-/// own. A signature or callee declaration of the callee is the caller's first equal one; where there is none, it stands
-/// behind the caller's own. Three steps: what is new is planned, room is made, and it is appended. After `AllocError` the
-/// caller is as before. Time: the length of the declarations of both, times the logarithm of their number, and the
-/// number of the callee's values; where the caller's list of values has to grow, also that of the caller's.
+/// Gives a caller all that it needs of a callee before its body. The callee's slots and values stand behind the
+/// caller's own. A signature or callee declaration of the callee is the caller's first equal one; where there is none,
+/// it stands behind the caller's own. Three steps: what is new is planned, room is made, and it is appended. After
+/// `AllocError` the caller is as before. Time: the length of the declarations of both, times the logarithm of their
+/// number, and the number of the callee's values; where the caller's list of values has to grow, also that of the
+/// caller's.
 pub fn import(alloc: Global, caller: &mut Func, callee: &Func) -> Result<Maps, AllocError>
     requires few_slots { length caller.old.function.slots + length callee.now.function.slots < 2 ^ 32 - 1 }
     requires few_sigs { length caller.old.function.sigs + length callee.now.function.sigs < 2 ^ 32 - 1 }

@@ -20,9 +20,9 @@ const MOST_LINES: usize = 262_144;
 /// costs more.
 const FEW_LINES: usize = 8;
 
-/// Makes room for a line behind the others. A list that grows past 32 MiB by doubling is copied to memory that the system
-/// gives anew, where each page is seen for the first time; one that has room for all its lines early is copied while it
-/// is small, and pages that it never fills cost nothing.
+/// Makes room for a line behind the others. A list that grows past 32 MiB by doubling is copied to memory that the
+/// system gives anew, where each page is seen for the first time; one that has room for all its lines early is copied
+/// while it is small, and pages that it never fills cost nothing.
 #[inline]
 pub(crate) fn make_room(lines: &mut Vec<RawLine>) -> Result<(), AllocError>
     ensures items { lines.new.items ≡ lines.old.items }

@@ -5,6 +5,7 @@ pub mod Endings
 pub mod WordPlaces
 pub mod DenseLaws
 pub mod RunLaws
+pub mod Searching
 pub mod Folds
 pub mod Walks
 pub mod LeastLaws

@@ -1,7 +1,7 @@
 //! Words of one kind in the order in which they came, with a short way from a word to its place.
 ghost use Rattle.std.specs.Prelude.{◌≡◌, ◌<◌, ◌++◌, ◌∷◌, [], ◌+◌, ◌^◌, Option, None, IfSome, length, OnOk, nat_eq};
-ghost use Rattle.std.specs.Prelude.{position};
-ghost use Rattle.name_tables.specs.Dense.{SameAt};
+ghost use Rattle.std.specs.Prelude.{position, true, Some, IfOk, get_or};
+ghost use Rattle.name_tables.specs.Dense.{SameAt, IsIncreasing, LeadToPlaces, AreRight, or_far};
 
 use indexmap::IndexMap;
 use std::alloc::{AllocError, Global};
@@ -108,8 +108,10 @@ struct Behind {
     order: Vec<u64>,
     /// One more than the place of each word with a small number, or 0.
     near: Vec<u32>,
-    /// The places of the other words.
-    far: IndexMap<u64, usize>,
+    /// The places of the other words. None as long as each word is greater than the one before it: then the order is
+    /// searched.
+    far: Option<IndexMap<u64, usize>>,
+    alloc: Global,
 }
 
 impl Model for Behind {
@@ -131,7 +133,8 @@ impl Behind {
         Behind {
             order: Vec::new(alloc),
             near: Vec::new(alloc),
-            far: IndexMap::new(alloc),
+            far: None,
+            alloc,
         }
     }
 
@@ -149,12 +152,12 @@ impl Behind {
         ensures place { result ≡ position (nat_eq word) self.now }
         ensures small { IfSome result (λ place. place < 2 ^ 63) }
     {
-        match self.near.get(word as usize) {
-            Some(0) | None => match self.far.get(&word) {
-                Some(place) => Some(*place),
-                None => None,
+        match near_place(&self.near, word) {
+            Some(place) => Some(place),
+            None => match &self.far {
+                Some(far) => far.get(&word).copied(),
+                None => self.order.binary_search(&word).ok(),
             },
-            Some(next) => Some(*next as usize - 1),
         }
     }
 
@@ -163,23 +166,85 @@ impl Behind {
         requires { position (nat_eq word) self.old ≡ None }
         ensures { OnOk result (self.new ≡ self.old ++ word ∷ []) }
     {
+        keep_far(self.alloc, &mut self.far, &self.order, &self.near, word)?;
         let place = self.order.len();
         if word / 4 <= place as u64 + 256 && place < u32::MAX as usize {
             grow(&mut self.near, word as usize)?;
             self.order.push(word)?;
             self.near[word as usize] = place as u32 + 1;
-        } else {
-            self.order.push(word)?;
-            match self.far.insert(word, place) {
-                Ok(_) => {}
-                Err(failed) => {
-                    self.order.pop();
-                    return Err(failed.into());
-                }
+            return Ok(());
+        }
+        self.order.push(word)?;
+        let Some(far) = &mut self.far else {
+            return Ok(());
+        };
+        match far.insert(word, place) {
+            Ok(_) => Ok(()),
+            Err(failed) => {
+                self.order.pop();
+                Err(failed.into())
             }
         }
-        Ok(())
     }
+}
+
+/// What the short way tells of a word.
+#[inline]
+fn near_place(near: &[u32], word: u64) -> Option<usize>
+    ensures place { result ≡ or_far (get_or near.now word 0) None }
+    ensures small { IfSome result (λ place. place < 2 ^ 32) }
+{
+    match near.get(word as usize) {
+        Some(0) | None => None,
+        Some(next) => Some(*next as usize - 1),
+    }
+}
+
+/// Whether a word is greater than the last of these.
+fn is_above(word: u64, order: &[u64]) -> bool
+    ensures { result ≡ true → IsIncreasing order.now → IsIncreasing (order.now ++ word ∷ []) }
+{
+    match order.last() {
+        None => true,
+        Some(last) => *last < word,
+    }
+}
+
+/// The places of those words that the short way doesn't tell.
+fn far_places(
+    alloc: Global,
+    order: &[u64],
+    near: &[u32],
+) -> Result<IndexMap<u64, usize>, AllocError>
+    requires increasing { IsIncreasing order.now }
+    requires near { LeadToPlaces order.now near.now None }
+    ensures { IfOk result (λ far. LeadToPlaces order.now near.now (Some far)) }
+{
+    let mut far = IndexMap::new(alloc);
+    for (place, word) in order.iter().enumerate() {
+        if near_place(near, *word).is_none() {
+            far.insert(*word, place)?;
+        }
+    }
+    Ok(far)
+}
+
+/// Keeps the long way from here on, unless each word, this one too, is greater than the one before it.
+fn keep_far(
+    alloc: Global,
+    far: &mut Option<IndexMap<u64, usize>>,
+    order: &[u64],
+    near: &[u32],
+    word: u64,
+) -> Result<(), AllocError>
+    requires { AreRight order.now near.now far.old }
+    ensures right { AreRight order.now near.now far.new }
+    ensures increasing { OnOk result (far.new ≡ None → IsIncreasing (order.now ++ word ∷ [])) }
+{
+    if far.is_none() && !is_above(word, order) {
+        *far = Some(far_places(alloc, order, near)?);
+    }
+    Ok(())
 }
 
 /// Makes room for the place of a word.

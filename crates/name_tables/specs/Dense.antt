@@ -1,5 +1,6 @@
 -- A table with a short way from a word to its place, and a long one where there is no short one.
-use Rattle.std.specs.Prelude.{◌≡◌, ℕ, zero, suc, ◌+◌, nat_eq, List, [], ◌<◌, ◌++◌, map, length, get_or, Option, None, Some, position}
+use Rattle.std.specs.Prelude.{◌≡◌, ℕ, zero, suc, ◌+◌, ◌<◌, nat_eq, List, [], ◌++◌, map, length, get_or}
+use Rattle.std.specs.Prelude.{Option, None, Some, position}
 use Rattle.std.specs.Global.{Box}
 use Rattle.std.specs.List.{range_with_len}
 use Rattle.std.specs.declared.hash.FoldHasher.{FoldHasher}

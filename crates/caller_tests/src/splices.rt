@@ -6,6 +6,7 @@ use clif_check::check_text;
 use clif_numbers::func_numbers;
 use clif_print::put_function;
 use inline_caller::{prepare, put_piece, splice};
+use ir_check::Checked;
 use ir_core::{Func, Point};
 use std::alloc::Global;
 use std::marker::Brand;
@@ -144,32 +145,32 @@ enum Way {
     OneStep,
 }
 
-/// The second function of a text, with its first line replaced by the body of the first function.
+/// The second function of a module, with its first line replaced by the body of the first function.
 #[tactic(auto, using(inline_caller::proofs::PreparedCalls::can_put))]
-fn replaced_by<R: Threads + Sync, L: Ledger>(
-    rt: &R,
+fn replaced_by<L: Ledger>(
     alloc: Global,
-    text: &str,
+    checked: &Checked,
     way: Way,
     blank: Blank,
 ) -> Option<Vec<u8>>
     requires { (blank.name ≡ L.name) × (blank.parts ≡ L.parts) × (0 < blank.parts) }
 {
     let mut steps: Steps<L> = Steps::open(blank);
-    let checked = check_text(rt, alloc, text.as_bytes(), 1).ok()?;
     if checked.module().len() != 2 {
         return None;
     }
     let callee = function(checked.module(), 0);
     let mut caller = function(checked.module(), 1).copy().ok()?;
     let Point { block, index } = first_line(&caller)?;
-    if !can_replace(alloc, &caller, Point { block, index }, callee).ok()? {
+    let Ok(true) = can_replace(alloc, &caller, Point { block, index }, callee) else {
         return None;
-    }
+    };
     let site = Point { block, index };
     match way {
         Way::TwoSteps => {
-            let call = prepare(alloc, &mut caller, site, callee).ok()?;
+            let Ok(call) = prepare(alloc, &mut caller, site, callee) else {
+                return None;
+            };
             put_piece(&mut caller, call, &mut steps);
         }
         Way::OneStep => splice(alloc, &mut caller, site, callee, &mut steps).ok()?,
@@ -177,15 +178,23 @@ fn replaced_by<R: Threads + Sync, L: Ledger>(
     text_of(alloc, &caller)
 }
 
+/// The same by a counter that is made here.
+fn replaced(alloc: Global, checked: &Checked, way: Way) -> Option<Vec<u8>> {
+    replaced_by::<Brand>(alloc, checked, way, Blank::new(1))
+}
+
 /// Whether the second function of a text becomes the other text, in two steps and in one.
-fn becomes<R: Threads + Sync>(rt: &R, alloc: Global, text: &str, replaced: &str) -> bool {
-    let Some(put) = replaced_by::<R, Brand>(rt, alloc, text, Way::TwoSteps, Blank::new(1)) else {
+fn becomes<R: Threads + Sync>(rt: &R, alloc: Global, text: &str, other: &str) -> bool {
+    let Ok(checked) = check_text(rt, alloc, text.as_bytes(), 1) else {
         return false;
     };
-    let Some(spliced) = replaced_by::<R, Brand>(rt, alloc, text, Way::OneStep, Blank::new(1)) else {
+    let Some(put) = replaced(alloc, &checked, Way::TwoSteps) else {
         return false;
     };
-    put.as_slice() == replaced.as_bytes() && spliced.as_slice() == replaced.as_bytes()
+    let Some(spliced) = replaced(alloc, &checked, Way::OneStep) else {
+        return false;
+    };
+    put.as_slice() == other.as_bytes() && spliced.as_slice() == other.as_bytes()
 }
 
 #[test]

@@ -2,6 +2,7 @@
 //! of their own, since a crate with tests is proved once more with them, and since their texts are read and checked.
 #![tactic(auto)]
 
-pub mod sites;
+#[cfg(test)]
+mod sites;
 #[cfg(test)]
 mod splices;

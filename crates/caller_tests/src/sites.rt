@@ -1,5 +1,5 @@
 //! Calls that can be replaced.
-ghost use Rattle.std.specs.Prelude.{◌≤◌, ◌<◌, [], length, IfOk, IfSome, IsTrue};
+ghost use Rattle.std.specs.Prelude.{◌≡◌, ◌≤◌, ◌<◌, [], length, IfOk, IfSome, IsTrue, Some, slice_get};
 ghost use Rattle.ir_core.specs.Edits.{IsPoint};
 ghost use Rattle.ir_core.specs.Size.{size_of};
 ghost use Rattle.ir_core.specs.WellFormed.{WellFormed};
@@ -15,9 +15,10 @@ use std::alloc::{AllocError, Global};
 const LIMIT: usize = 262_144;
 
 /// The function at a place of an accepted module.
-pub fn function(from: &Module, index: usize) -> &Func
+pub(crate) fn function(from: &Module, index: usize) -> &Func
     requires accepted { Accepted from.now }
     requires there { index < length from.now }
+    ensures at { slice_get from.now index ≡ Some result.now.function }
     ensures whole { WellFormed result.now.function }
     ensures accepted { RulesHold [] result.now.function }
 {
@@ -25,7 +26,7 @@ pub fn function(from: &Module, index: usize) -> &Func
 }
 
 /// The first line of the first block. `None` where there is none.
-pub fn first_line(func: &Func) -> Option<Point>
+pub(crate) fn first_line(func: &Func) -> Option<Point>
     ensures { IfSome result (IsPoint func.now.function) }
 {
     let block = func.blocks().next()?;
@@ -46,7 +47,7 @@ fn is_small(func: &Func) -> bool
 
 /// Whether the line at the place is a direct call that the callee's body can replace within the limit. Only
 /// `AllocError` refuses.
-pub fn can_replace(
+pub(crate) fn can_replace(
     alloc: Global,
     caller: &Func,
     site: Point,

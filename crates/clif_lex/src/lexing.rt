@@ -1,7 +1,7 @@
 //! The tokens of a text.
 
 ghost use Rattle.std.specs.Prelude.{◌≡◌, ◌∷◌, ◌&&◌, ◌+◌, ◌<◌, ◌≤◌, ◌^◌, Bool, true, false, drop, length, slice_get};
-ghost use Rattle.std.specs.Prelude.{IfSome, IfOk, IfErr};
+ghost use Rattle.std.specs.Prelude.{IfSome, IfOk, IfErr, OnOk, vec_len, vec_capacity};
 ghost use Rattle.std.specs.List.{prefix_len};
 ghost use Rattle.std.specs.Char.{is_ascii_digit, is_ascii_hexdigit};
 ghost use Rattle.clif_lex.specs.Bytes as bytes;
@@ -17,7 +17,7 @@ use crate::bytes::{first, is_blank, is_letter, is_mark, is_sign, is_word_byte, s
 use crate::faults::LexErr;
 use crate::numbers::{is_in_range, lacks_digits, number_len, unsigned};
 use crate::spans::{Span, Token, TokenKind, Tokens};
-use std::alloc::Global;
+use std::alloc::{AllocError, Global};
 
 /// Where the word bytes that stand at a place end.
 #[inline]
@@ -248,6 +248,19 @@ fn guess_token_count(byte_count: usize) -> usize {
     if count < MOST_ROOM { count } else { MOST_ROOM }
 }
 
+/// Makes room for a token behind the others, where there is none.
+#[inline]
+fn make_room(spans: &mut Vec<Span>) -> Result<(), AllocError>
+    ensures items { spans.new.items ≡ spans.old.items }
+    ensures room { OnOk result (vec_len spans.new + 1 ≤ vec_capacity spans.new) }
+{
+    if spans.len() < spans.capacity() {
+        Ok(())
+    } else {
+        spans.reserve(1)
+    }
+}
+
 /// The tokens that stand from one byte up to another, as if the text ended there, or the first fault between them.
 /// Spans and faults are places in the whole text. `preamble` says whether a Header may stand at the front.
 /// A text of 2^32 bytes or more is refused with NoMemory, since spans are kept in 32 bits.
@@ -274,7 +287,8 @@ pub fn tokens_between(
     let mut at = blanks_end(stretch, from);
     'tokens: while at < stretch.len() {
         let token = token_at(in_preamble, stretch, at)?;
-        spans.push(Span::new(token))?;
+        make_room(&mut spans)?;
+        spans.push_reserved(Span::new(token));
         in_preamble = stays_preamble(in_preamble, token.kind);
         at = blanks_end(stretch, token.end);
     }

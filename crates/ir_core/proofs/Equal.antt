@@ -1,7 +1,7 @@
 -- Names and signatures that are the same are equal.
 use Rattle.std.proofs.Common.{◌≡◌, ◌⊎◌, inl, inr, ℕ, List, [], ◌∷◌, Bool, true, false, ◌&&◌, nat_eq, refl, sym, ap, ap₂, ◌∙◌, eq-eqb, ne_eqb}
 use Rattle.std.proofs.lemmas.Bool.{cases_eq}
-use Rattle.std.specs.Cmp.Lexicographic.{pointwise}
+use Rattle.std.specs.Str.{bytes_eq}
 use Rattle.ir_core.specs.declared.names.FuncName.{FuncName}
 use Rattle.ir_core.specs.declared.names.FuncName.TheVariants as name
 use Rattle.ir_core.specs.declared.signatures.Sig.{Sig}
@@ -37,11 +37,11 @@ bytes_same : (as' : List ℕ) → same_bytes as' as' ≡ true
 bytes_same [] = refl
 bytes_same (a ∷ as') = true_both (nat_eq a a) (same_bytes as' as') (eq-eqb a a refl) (bytes_same as')
 
-pub pointwise_bytes : (as' bs : List ℕ) → pointwise nat_eq as' bs ≡ same_bytes as' bs
-pointwise_bytes [] [] = refl
-pointwise_bytes (a ∷ as') (b ∷ bs) = ap (λ x. nat_eq a b && x) (pointwise_bytes as' bs)
-pointwise_bytes [] (b ∷ bs) = refl
-pointwise_bytes (a ∷ as') [] = refl
+pub eq_bytes : (as' bs : List ℕ) → bytes_eq as' bs ≡ same_bytes as' bs
+eq_bytes [] [] = refl
+eq_bytes (a ∷ as') (b ∷ bs) = ap (λ x. nat_eq a b && x) (eq_bytes as' bs)
+eq_bytes [] (b ∷ bs) = refl
+eq_bytes (a ∷ as') [] = refl
 
 pub name_equal : (a b : FuncName) → same_name a b ≡ true → a ≡ b
 name_equal (name.Text a) (name.Text b) h = ap name.Text (bytes_equal a b h)

@@ -1,5 +1,7 @@
 //! The bytes of names.
 ghost use Rattle.std.specs.Prelude.{◌≡◌, ◌≤◌, length, IfOk};
+ghost use Rattle.std.specs.Str.{bytes_eq};
+ghost use Rattle.ir_core.specs.Lookup.{same_bytes};
 
 use std::alloc::{AllocError, Global};
 use std::marker::Model;
@@ -70,6 +72,31 @@ impl NameBytes {
             ShortOrLong::Long(bytes) => bytes.as_slice(),
         }
     }
+
+    /// Whether the two have the same bytes.
+    #[inline]
+    #[tactic(auto, using(crate::proofs::Equal::eq_bytes))]
+    pub(crate) fn is(&self, other: &NameBytes) -> bool
+        ensures { result ≡ same_bytes self.now other.now }
+    {
+        are_same(self.as_slice(), other.as_slice())
+    }
+}
+
+/// Whether the bytes are the same. Most names are so short that a loop takes less than a comparison of whole runs.
+#[inline]
+fn are_same(bytes: &[u8], others: &[u8]) -> bool
+    ensures { result ≡ bytes_eq bytes.now others.now }
+{
+    if bytes.len() != others.len() {
+        return false;
+    }
+    for (i, byte) in bytes.iter().enumerate() {
+        if *byte != others[i] {
+            return false;
+        }
+    }
+    true
 }
 
 impl Clone for NameBytes {

@@ -47,7 +47,7 @@ impl FuncName {
         ensures { result ≡ same_name self.now other.now }
     {
         match (self, other) {
-            (FuncName::Text(text), FuncName::Text(others)) => text.as_slice() == others.as_slice(),
+            (FuncName::Text(text), FuncName::Text(others)) => text.is(others),
             (FuncName::User(first, second), FuncName::User(others_first, others_second)) => {
                 first == others_first && second == others_second
             }

@@ -38,7 +38,7 @@ tokens-preserved c =
     let t = c.in_ok-token.token in
     let next = takes_token l.in_preamble (map token_of l.spans.items) l.at stretch t total c.tokens-test.true l.invariant.1 (sym c.in_ok-token.ensures.is) c.in_ok-token.ensures.some l.invariant.0 in
     let blanks = c.blanks_end-at-in-tokens.ensures in
-    (rw (c.in_ok-push.ensures.items, map-append, c.new.ensures, c.stays_preamble-in_preamble.ensures, blanks.same) next, blanks.stop, blanks.within)
+    (rw (c.push_reserved.ensures.items, c.in_ok-make_room.ensures.items, map-append, c.new.ensures, c.stays_preamble-in_preamble.ensures, blanks.same) next, blanks.stop, blanks.within)
 
 pub returns-clause-tokens : goal.returns-clause-tokens
 returns-clause-tokens c =

@@ -29,8 +29,8 @@ fn may_leave_out(opcode: Opcode, operands: &RawOperands) -> bool
     }
 }
 
-/// The line of an instruction, `ty` being the instruction's type. Takes time linear in the line; only `AllocError`
-/// refuses.
+/// The line of an instruction, `ty` being the instruction's type. Takes time linear in the line, but for the logarithm
+/// that words with numbers far apart take; only `AllocError` refuses.
 pub fn line(
     alloc: Global,
     words: &WordNumbers<'_>,

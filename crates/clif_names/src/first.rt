@@ -25,7 +25,7 @@ pub struct NamesFault {
 }
 
 /// The first fault of names and numbers of the raw module that has these functions, where there is one. Takes time
-/// linear in the text.
+/// linear in the text, but for the logarithm that words with numbers far apart take.
 pub fn first_fault(
     alloc: Global,
     functions: &[RawFunction],

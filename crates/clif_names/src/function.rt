@@ -26,7 +26,8 @@ pub struct FunctionNames {
 }
 
 impl FunctionNames {
-    /// The names of a function. Takes time linear in the function's text.
+    /// The names of a function. Takes time linear in the function's text, but for the logarithm that words with numbers
+    /// far apart take.
     pub fn of(alloc: Global, func: &RawFunction) -> Result<FunctionNames, AllocError>
         ensures { IfOk result (λ names. AreNamesOf func.now names) }
     {
@@ -107,7 +108,7 @@ impl FunctionNames {
         }
     }
 
-    /// The least spots of the function's faults. Takes time linear in the function's text.
+    /// The least spots of the function's faults. Takes time linear in the function's text, but for the same logarithm.
     pub fn least(&self, func: &RawFunction) -> LeastSpots
         requires { AreNamesOf func.now self.now }
         ensures { AreLeast (FunctionFault func.now) result }

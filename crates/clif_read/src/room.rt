@@ -10,6 +10,9 @@ use token_reader::Reader;
 /// For how many lines the list of a block has room at first.
 const FIRST_ROOM: usize = 4;
 
+/// From so many lines on a full list gets room for four times as many.
+const SEVERAL_LINES: usize = 16;
+
 /// From so many lines on a full list gets room for as many as a function may have.
 const MANY_LINES: usize = 16_384;
 
@@ -20,32 +23,34 @@ const MOST_LINES: usize = 262_144;
 /// costs more.
 const FEW_LINES: usize = 8;
 
-/// Makes room for a line behind the others. A list that grows past 32 MiB by doubling is copied to memory that the
-/// system gives anew, where each page is seen for the first time; one that has room for all its lines early is copied
-/// while it is small, and pages that it never fills cost nothing.
+/// Makes room for a line behind the others, where there is none. A list that grows past 32 MiB by doubling is copied to
+/// memory that the system gives anew, where each page is seen for the first time; one that has room for all its lines
+/// early is copied while it is small, and pages that it never fills cost nothing.
 #[inline]
 pub(crate) fn make_room(lines: &mut Vec<RawLine>) -> Result<(), AllocError>
     ensures items { lines.new.items ≡ lines.old.items }
     ensures room { OnOk result (vec_len lines.new + 1 ≤ vec_capacity lines.new) }
 {
-    if lines.len() < MANY_LINES {
-        lines.reserve(1)
+    if lines.len() < lines.capacity() {
+        Ok(())
     } else {
-        make_much_room(lines)
+        make_more_room(lines)
     }
 }
 
-/// Makes room for a line behind many.
+/// Makes room for more lines behind those of a full list.
 #[inline(never)]
-fn make_much_room(lines: &mut Vec<RawLine>) -> Result<(), AllocError>
+fn make_more_room(lines: &mut Vec<RawLine>) -> Result<(), AllocError>
     ensures items { lines.new.items ≡ lines.old.items }
     ensures room { OnOk result (vec_len lines.new + 1 ≤ vec_capacity lines.new) }
 {
     let count = lines.len();
-    if count == lines.capacity() && count < MOST_LINES {
-        lines.reserve_exact(MOST_LINES - count)
-    } else {
+    if count < SEVERAL_LINES || count >= MOST_LINES {
         lines.reserve(1)
+    } else if count < MANY_LINES {
+        lines.reserve_exact(3 * count)
+    } else {
+        lines.reserve_exact(MOST_LINES - count)
     }
 }
 

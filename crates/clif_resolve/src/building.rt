@@ -10,7 +10,8 @@ use ir_core::Module;
 use std::alloc::{AllocError, Global};
 
 /// The module that the raw module of these functions means, `None` exactly where it has a fault of names or numbers.
-/// Each function has a block, as the grammar has it. Takes time linear in the text. Only `AllocError` refuses.
+/// Each function has a block, as the grammar has it. Takes time linear in the text, but for the logarithm that words
+/// with numbers far apart take. Only `AllocError` refuses.
 pub fn build(alloc: Global, functions: &[RawFunction]) -> Result<Option<Module>, AllocError>
     requires { HasBlocks (of_functions functions.now) }
     ensures free { IfOk result (λ built. MatchOption built (¬ NoFault (of_functions functions.now))

@@ -19,8 +19,8 @@ use clif_read::{RawBlock, RawFunction, RawLine};
 use ir_core::{Func, List, Room, Sig};
 use std::alloc::{AllocError, Global};
 
-/// The function that is meant, `None` exactly where it has a fault of names or numbers. Takes time linear in its text.
-/// Only `AllocError` refuses.
+/// The function that is meant, `None` exactly where it has a fault of names or numbers. Takes time linear in its text,
+/// but for the logarithm that words with numbers far apart take. Only `AllocError` refuses.
 pub fn meant_function(alloc: Global, raw: &RawFunction) -> Result<Option<Func>, AllocError>
     requires { raw.now.blocks ≢ [] }
     ensures free { IfOk result

@@ -13,7 +13,8 @@ use clif_read::{RawFunction, RawModule};
 use ir_core::Module;
 use std::alloc::Global;
 
-/// The module that a raw module means, and where its items stand in the text. Takes time linear in the text.
+/// The module that a raw module means, and where its items stand in the text. Takes time linear in the text, but for
+/// the logarithm that words with numbers far apart take.
 ///
 /// # Errors
 ///
@@ -28,7 +29,8 @@ pub fn resolve(alloc: Global, raw: &RawModule) -> Result<(Module, Places), TextE
 }
 
 /// What `resolve` gives for the raw module that has the function of this number alone: the module of that function, and
-/// where its items stand in the text. Takes time linear in the function's text.
+/// where its items stand in the text. Takes time linear in the function's text, but for the logarithm that words with
+/// numbers far apart take.
 ///
 /// # Errors
 ///
@@ -47,7 +49,8 @@ pub fn resolve_func(
     resolve_functions(alloc, &raw.functions.as_slice()[func..func + 1])
 }
 
-/// The module that a raw module means. Takes time linear in the text.
+/// The module that a raw module means. Takes time linear in the text, but for the logarithm that words with numbers far
+/// apart take.
 ///
 /// # Errors
 ///

@@ -52,7 +52,7 @@ impl FuncNumbers {
         ensures kept { KeepsRoom self.old self.new }
     {
         self.values.make_room(func.values())?;
-        self.blocks.make_room(count_blocks(func))
+        self.blocks.make_room(func.block_count())
     }
 
     /// The numbers of a whole function in place of those before, in their memory. Only `AllocError` refuses, where
@@ -182,16 +182,9 @@ fn block_order(empty: Vec<u32>, func: &Func) -> Result<Vec<u32>, AllocError>
     ensures succeeds { length func.now.function.blocks ≤ vec_capacity empty → IsOk result }
 {
     let mut order = empty;
-    order.reserve(count_blocks(func))?;
+    order.reserve(func.block_count())?;
     for block in func.blocks() {
         order.push_reserved(block.number());
     }
     Ok(order)
-}
-
-/// How many blocks the function has.
-fn count_blocks(func: &Func) -> usize
-    ensures { result ≡ length func.now.function.blocks }
-{
-    func.blocks().count()
 }

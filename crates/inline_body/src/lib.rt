@@ -31,4 +31,4 @@ pub use prepare::{body_room, prepare_body};
 pub use prepared::{PreparedBody, put_within};
 pub use results::{NewResults, new_types, number_results, result_types};
 pub use site::{Opened, append_lines, open};
-pub use tables::{count_blocks, number_blocks};
+pub use tables::number_blocks;

@@ -6,7 +6,6 @@ ghost use Rattle.ir_core.specs.Viewed.{instruction_of, line_of};
 ghost use Rattle.inline_body.specs.Results.{is_tail_call as spec_is_tail_call, tail_calls, tail_calls_in, starts_along};
 ghost use Rattle.inline_body.specs.Results.{repeated};
 
-use crate::tables::count_blocks;
 use body_import::value_types;
 use ir_core::{Func, Inst, InstData, List, Ty, Value};
 use std::alloc::{AllocError, Global};
@@ -57,7 +56,7 @@ pub fn number_results(
         ≡ starts_along first count callee.now.function.blocks) }
     ensures tail_calls { IfOk result (λ r. r.tail_calls ≡ tail_calls_in callee.now.function.blocks) }
 {
-    let mut table = vec![in alloc; 0; count_blocks(callee)]?;
+    let mut table = vec![in alloc; 0; callee.block_count()]?;
     let mut number = first as usize;
     let mut tails = 0;
     'written: for block in callee.blocks() {

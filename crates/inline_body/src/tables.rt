@@ -6,13 +6,6 @@ ghost use Rattle.inline_body.specs.Dense.{after_number, numbers_along};
 use ir_core::{Block, Func, List};
 use std::alloc::{AllocError, Global};
 
-/// The number of blocks.
-pub fn count_blocks(func: &Func) -> usize
-    ensures { result ≡ length func.now.function.blocks }
-{
-    func.blocks().count()
-}
-
 /// The number behind a number, where the one behind `first` is left out.
 fn number_after(first: u32, number: u32) -> u32
     requires { number + 2 < 2 ^ 32 }
@@ -32,7 +25,7 @@ pub fn number_blocks(alloc: Global, callee: &Func, first: u32) -> Result<List<Bl
     ensures numbers { IfOk result (λ t. map (λ b. get_or t b 0) (block_numbers callee.now.function.blocks)
         ≡ numbers_along first first (block_numbers callee.now.function.blocks)) }
 {
-    let mut table = vec![in alloc; Block::new(0); count_blocks(callee)]?;
+    let mut table = vec![in alloc; Block::new(0); callee.block_count()]?;
     let mut number = first;
     'written: for block in callee.blocks() {
         table[block.number() as usize] = Block::new(number);

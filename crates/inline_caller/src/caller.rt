@@ -7,7 +7,6 @@ ghost use Rattle.inline_caller.specs.Replacing.{CanReplace};
 use crate::prepared::{blocks_added, prepare_planned};
 use crate::putting::put_piece;
 use body_import::{Import, Index, extend_index, index_declarations, plan_import};
-use inline_body::count_blocks;
 use ir_core::{Func, Point};
 use std::alloc::{AllocError, Global};
 use std::marker::Model;
@@ -42,7 +41,7 @@ impl Caller {
         ensures { IfOk result (λ c. c ≡ func.now.function) }
     {
         let _ = func.values();
-        let block_count = count_blocks(func) as u32;
+        let block_count = func.block_count() as u32;
         let index = index_declarations(alloc, func)?;
         Ok(Caller {
             func: func.copy()?,

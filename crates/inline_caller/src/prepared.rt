@@ -10,7 +10,7 @@ ghost use Rattle.inline_caller.specs.Replacing.{CanReplace};
 
 use crate::kinds::{CallKind, call_kind};
 use body_import::{Import, index_declarations, plan_import};
-use inline_body::{PreparedBody, body_room, count_blocks, prepare_body};
+use inline_body::{PreparedBody, body_room, prepare_body};
 use inline_ends::{prepare_tail, prepare_try};
 use ir_core::{Func, Point, Room};
 use std::alloc::{AllocError, Global};
@@ -142,7 +142,7 @@ pub fn prepare(
     ensures same { caller.new.function ≡ caller.old.function }
 {
     let _ = caller.values();
-    let block_count = count_blocks(caller) as u32;
+    let block_count = caller.block_count() as u32;
     let import = {
         let index = index_declarations(alloc, caller)?;
         plan_import(alloc, &index, caller, callee)?

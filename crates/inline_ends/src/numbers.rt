@@ -3,7 +3,6 @@ ghost use Rattle.std.specs.Prelude.{◌≡◌, ◌+◌, ◌<◌, ◌^◌, length
 ghost use Rattle.ir_core.specs.Lookup.{block_numbers};
 ghost use Rattle.inline_ends.specs.Ending.{numbered};
 
-use inline_body::count_blocks;
 use ir_core::{Block, Func, List};
 use std::alloc::{AllocError, Global};
 
@@ -14,7 +13,7 @@ pub fn number_blocks(alloc: Global, callee: &Func, first: u32) -> Result<List<Bl
     ensures numbers { IfOk result (λ t. map (λ b. get_or t b 0) (block_numbers callee.now.function.blocks)
         ≡ numbered first (block_numbers callee.now.function.blocks)) }
 {
-    let mut table = vec![in alloc; Block::new(0); count_blocks(callee)]?;
+    let mut table = vec![in alloc; Block::new(0); callee.block_count()]?;
     let mut number = first;
     'written: for block in callee.blocks() {
         table[block.number() as usize] = Block::new(number);

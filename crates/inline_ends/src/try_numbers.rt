@@ -5,7 +5,6 @@ ghost use Rattle.ir_core.specs.Viewed.{line_of};
 ghost use Rattle.inline_ends.specs.Tried.{plain_calls, plain_calls_in, numbered_with_calls};
 
 use crate::trying::is_plain_call;
-use inline_body::count_blocks;
 use ir_core::{Block, Func, InstData, List};
 use std::alloc::{AllocError, Global};
 
@@ -34,7 +33,7 @@ pub fn number_try_blocks(
     ensures numbers { IfOk result (λ t. map (λ b. get_or t b 0) (block_numbers callee.now.function.blocks)
         ≡ numbered_with_calls first callee.now.function.blocks) }
 {
-    let mut table = vec![in alloc; Block::new(0); count_blocks(callee)]?;
+    let mut table = vec![in alloc; Block::new(0); callee.block_count()]?;
     let mut number = first;
     'written: for block in callee.blocks() {
         table[block.number() as usize] = Block::new(number);

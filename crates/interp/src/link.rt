@@ -9,13 +9,6 @@ use crate::state::{Links, Program};
 use ir_core::{Callee, Func, Module};
 use std::alloc::{AllocError, Global};
 
-/// The number of a function's blocks.
-fn count_blocks(func: &Func) -> usize
-    ensures { result ≡ length func.now.function.blocks }
-{
-    func.blocks().count()
-}
-
 /// For each callee declaration the place of the function that has its name.
 fn find_callees(
     alloc: Global,
@@ -37,7 +30,7 @@ fn find_links(alloc: Global, module: &Module, at: usize) -> Result<Links, AllocE
     ensures { IfOk result (λ links. LinksOf «module».now (function_at «module».now at) links) }
 {
     let func = module.func(at);
-    let blocks = count_blocks(func);
+    let blocks = func.block_count();
     let _values = func.values();
     let callees = find_callees(alloc, module, func.callees())?;
     Ok(Links { blocks, callees })

@@ -101,6 +101,14 @@ impl Func {
         self.types.len()
     }
 
+    /// The number of blocks.
+    #[inline]
+    pub fn block_count(&self) -> usize
+        ensures { result ≡ length self.now.function.blocks }
+    {
+        self.blocks.len()
+    }
+
     /// The type of a value.
     pub fn ty(&self, value: Value) -> Ty
         requires { value < length self.now.function.types }

@@ -19,7 +19,7 @@ written-init c =
     let count = ap tail_calls_in blocks in
     record {
       left = ap₂ (λ p q. with_values c.in_ok-table.table.items p (starts_along c.args.first c.args.count q)) numbers blocks;
-      long = omega (arith, c.in_ok-table.ensures.len, c.in_ok-table.table.ok.0, c.count_blocks.ensures);
+      long = omega (arith, c.in_ok-table.ensures.len, c.in_ok-table.table.ok.0, c.block_count.ensures);
       below = subst (Below (length bs)) (sym numbers) sound.block_range;
       there = subst (Each (λ n. In n (block_numbers bs))) (sym numbers) (each_in (block_numbers bs) (block_numbers bs) (λ n i. i));
       small = ap (λ q. c.args.first + c.args.count * tail_calls_in q) blocks;
@@ -52,6 +52,6 @@ returns-clause-starts c =
     let ks = block_numbers bs in
     let vs = starts_along c.args.first c.args.count bs in
     let sound = c.blocks-block-items.ensures.sound in
-    let long : length c.in_ok-table.table.items ≡ length bs = omega (arith, c.in_ok-table.ensures.len, c.in_ok-table.table.ok.0, c.count_blocks.ensures) in
+    let long : length c.in_ok-table.table.items ≡ length bs = omega (arith, c.in_ok-table.ensures.len, c.in_ok-table.table.ok.0, c.block_count.ensures) in
     let is : c.written.table.items ≡ with_values c.in_ok-table.table.items ks vs = ap (λ (z : List ℕ). with_values c.written.table.items z (starts_along c.written.number c.args.count (map (block_at bs) z))) (sym c.in-None.ensures.steps.0) ∙ c.written.invariant.left in
     ap (λ (z : List ℕ). map (λ b. get_or z b 0) ks) is ∙ values_at c.in_ok-table.table.items ks vs (length-map bs (λ b. b.number) ∙ sym (starts_length c.args.first c.args.count bs)) sound.blocks_differ (subst (λ (n : ℕ). Below n ks) (sym long) sound.block_range)

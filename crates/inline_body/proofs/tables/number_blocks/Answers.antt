@@ -11,7 +11,7 @@ pub returns-clause-numbers : goal.returns-clause-numbers
 returns-clause-numbers c =
     let ks = block_numbers c.args.callee.now.function.blocks in
     let sound = c.blocks-block-items.ensures.sound in
-    let long : length c.in_ok-table.table.items ≡ length c.args.callee.now.function.blocks = omega (arith, c.in_ok-table.ensures.len, c.in_ok-table.table.ok.0, c.count_blocks.ensures) in
+    let long : length c.in_ok-table.table.items ≡ length c.args.callee.now.function.blocks = omega (arith, c.in_ok-table.ensures.len, c.in_ok-table.table.ok.0, c.block_count.ensures) in
     let vs = numbers_along c.args.first c.args.first ks in
     let is : c.written.table.items ≡ with_values c.in_ok-table.table.items ks vs =
     ap (λ (z : List ℕ). with_values c.written.table.items z (numbers_along c.args.first c.written.number z))

@@ -22,7 +22,7 @@ written-init c =
     let count = ap plain_calls_in blocks in
     record {
       left = ap₂ (λ p q. with_values c.in_ok-table.table.items p (numbered_with_calls c.args.first q)) numbers blocks;
-      long = omega (arith, c.in_ok-table.ensures.len, c.in_ok-table.table.ok.0, c.count_blocks.ensures);
+      long = omega (arith, c.in_ok-table.ensures.len, c.in_ok-table.table.ok.0, c.block_count.ensures);
       below = subst (Below (length bs)) (sym numbers) sound.block_range;
       there = subst (Each (λ n. In n (block_numbers bs))) (sym numbers) (each_in (block_numbers bs) (block_numbers bs) (λ n i. i));
       small = omega (arith, count, long);
@@ -54,6 +54,6 @@ returns-clause-numbers c =
     let ks = block_numbers bs in
     let vs = numbered_with_calls c.args.first bs in
     let sound = c.blocks-block-items.ensures.sound in
-    let long : length c.in_ok-table.table.items ≡ length bs = omega (arith, c.in_ok-table.ensures.len, c.in_ok-table.table.ok.0, c.count_blocks.ensures) in
+    let long : length c.in_ok-table.table.items ≡ length bs = omega (arith, c.in_ok-table.ensures.len, c.in_ok-table.table.ok.0, c.block_count.ensures) in
     let is : c.written.table.items ≡ with_values c.in_ok-table.table.items ks vs = ap (λ (z : List ℕ). with_values c.written.table.items z (numbered_with_calls c.written.number (map (block_at bs) z))) (sym c.in-None.ensures.steps.0) ∙ c.written.invariant.left in
     ap (λ (z : List ℕ). map (λ b. get_or z b 0) ks) (c.from_vec.ensures ∙ is) ∙ values_at c.in_ok-table.table.items ks vs (length-map bs (λ b. b.number) ∙ sym (calls_length c.args.first bs)) sound.blocks_differ (subst (λ (n : ℕ). Below n ks) (sym long) sound.block_range)

@@ -8,9 +8,9 @@ use Rattle.interp.proofs.link.find_links.Goals as goal
 
 pub returns : goal.returns
 returns c =
-    subst (λ (f : Function). LinksOf c.args.module.now f (record { blocks = c.count_blocks-blocks.result; callees = c.in_ok-callees.callees })) (sym (at_found c.args.module.now c.args.at c.func-func.result.now.function c.func-func.ensures.at))
+    subst (λ (f : Function). LinksOf c.args.module.now f (record { blocks = c.block_count-blocks.result; callees = c.in_ok-callees.callees })) (sym (at_found c.args.module.now c.args.at c.func-func.result.now.function c.func-func.ensures.at))
     (record {
       sound = c.values-values.ensures.sound;
       callees = c.in_ok-callees.ensures ∙ ap (map (λ (k : Callee). place_of k.name c.args.module.now)) c.callees.ensures;
-      blocks = c.count_blocks-blocks.ensures;
+      blocks = c.block_count-blocks.ensures;
     })

@@ -5,9 +5,11 @@ use Rattle.std.proofs.lemmas.Option.{get_or_from_slice_get}
 use Rattle.ir_core.specs.declared.names.FuncName.{FuncName}
 use Rattle.ir_core.specs.declared.declarations.Callee.{Callee}
 use Rattle.ir_core.specs.Lists.{In}
-use Rattle.ir_core.specs.Lookup.{and_then, find_function}
+use Rattle.ir_core.specs.Lookup.{and_then, same_name, find_function}
 use Rattle.ir_core.specs.Module.{Line, Function, Module}
 use Rattle.ir_core.specs.Uses.{callee_of}
+use Rattle.ir_core.specs.WellFormed.{DifferentNames}
+use Rattle.ir_core.proofs.Equal.{name_equal}
 use Rattle.ir_core.proofs.Indexing.{place_cases}
 use Rattle.inline_outcomes.proofs.Functions.{function_name}
 use Rattle.inline_acceptance.proofs.KeptFunctions.{get_in}
@@ -15,7 +17,7 @@ use Rattle.inline_acceptance.proofs.KeptLists.{get_map, map_get, in_map}
 use Rattle.call_graph.specs.Calls.{number_of}
 use Rattle.call_graph.specs.Reach.{apart}
 use Rattle.call_graph.specs.Order.{names_of, piece_number}
-use Rattle.call_graph.proofs.Numbers.{some_at}
+use Rattle.call_graph.proofs.Numbers.{some_at, number_is}
 use Rattle.call_graph.proofs.PieceNumbers.{apart_by_numbers}
 use Rattle.inline_pass.specs.Policy.{Policy}
 use Rattle.inline_pass.specs.Finished.{finished, finished_body}
@@ -73,6 +75,11 @@ pub found_other : (m : Module) (piece : List ℕ) (j k : ℕ) (f : Function) (y 
 found_other m piece j k f y at pieces l e off number =
     let g = found_there m y k l e in
     other_piece m j k f g.0 y at g.1 g.2 (λ q. off (number_at m piece k g.0 pieces g.1 ∙ (q ∙ sym (number_at m piece j f pieces at)))) number
+
+-- ---- the number of a name that a given function has
+
+pub named_number : (m : Module) (k : ℕ) (f : Function) (y : FuncName) → DifferentNames m → slice_get m k ≡ Some f → true ≡ same_name f.name y → Some k ≡ number_of m y
+named_number m k f y different at same = sym (number_is m different k f at) ∙ ap (number_of m) (name_equal f.name y (sym same))
 
 -- ---- the body that a name has
 

@@ -56,4 +56,8 @@ pub trait Bodies {
     fn counts(&self, func: usize) -> Option<Counts>
         requires { In func (has self.now) }
         ensures { AreCountsOf (policy self.now) (functions self.now) func result };
+
+    /// The number of a function whose name is worth trying first where a callee's is looked for. It is only a hint: it
+    /// may be any number, or none.
+    fn likely_callee(&self) -> Option<usize>;
 }

@@ -47,7 +47,8 @@ pub fn finish_body<B: Bodies, L: Ledger>(
     if size == usize::MAX {
         return Err(AllocError);
     }
-    let targets = targets(alloc, functions, order.piece.as_slice(), func, own)?;
+    let likely = bodies.likely_callee();
+    let targets = targets(alloc, functions, likely, order.piece.as_slice(), func, own)?;
     let mut progress = Progress {
         caller: Caller::new(alloc, own)?,
         size,

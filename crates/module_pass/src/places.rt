@@ -48,6 +48,10 @@ impl Bodies for Places {
             None => unreachable!(),
         }
     }
+
+    fn likely_callee(&self) -> Option<usize> {
+        None
+    }
 }
 
 /// So many places with nothing in them.

@@ -53,6 +53,10 @@ impl Bodies for Callees {
             None => unreachable!(),
         }
     }
+
+    fn likely_callee(&self) -> Option<usize> {
+        self.known.first().copied()
+    }
 }
 
 impl Callees {

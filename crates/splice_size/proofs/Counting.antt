@@ -31,15 +31,12 @@ plus_none x =
     nought : (a : ℕ) → a + 0 ≡ a
     nought a = omega arith
 
-none_plus : (x : Counts) → plus none x ≡ x
+pub none_plus : (x : Counts) → plus none x ≡ x
 none_plus x =
     counts_same _ _ _ _ _ _ _ _ _ _ _ _ _ _ _ _ (nought x.blocks) (nought x.returned) (nought x.returns) (nought x.calls) (nought x.results) (nought x.tail_calls) (nought x.try_calls) (nought x.sequence_points)
   where
     nought : (a : ℕ) → 0 + a ≡ a
     nought a = omega arith
-
-pub none_first : (x : Counts) → plus (of_size 0) x ≡ x
-none_first x = none_plus x
 
 summed_join : {A : Type 0} (f : A → Counts) (xs ys : List A) → summed f (xs ++ ys) ≡ plus (summed f xs) (summed f ys)
 summed_join f [] ys = sym (none_plus (summed f ys))
@@ -54,6 +51,9 @@ summed_map f g [] = refl
 summed_map f g (x ∷ xs) = ap (plus (f (g x))) (summed_map f g xs)
 
 -- ---- sizes
+
+pub plus_size : (a b : Counts) → sum_size (plus a b) ≡ sum_size a + sum_size b
+plus_size a b = omega arith
 
 pub sizes_summed : {A : Type 0} (f : A → Counts) (g : A → ℕ) → ((x : A) → sum_size (f x) ≡ g x) → (xs : List A) → sum_size (summed f xs) ≡ total g xs
 sizes_summed f g e [] = omega arith

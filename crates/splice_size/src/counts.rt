@@ -1,10 +1,10 @@
 //! What of a callee counts where its body comes in place of a call.
-ghost use Rattle.std.specs.Prelude.{◌≡◌, ℕ, ◌+◌, ◌-◌, ◌<◌, ◌≤◌, ◌^◌, IfSome, SomeIff, List, length, map};
+ghost use Rattle.std.specs.Prelude.{◌≡◌, ◌+◌, ◌-◌, ◌<◌, ◌≤◌, ◌^◌, OnSome, SomeIff, map};
 ghost use Rattle.ir_core.specs.Lists.{In};
 ghost use Rattle.ir_core.specs.Lookup.{block_numbers};
 ghost use Rattle.ir_core.specs.Size.{total, block_size, line_size, sig_size, size_at, size_of};
 ghost use Rattle.ir_core.specs.Viewed.{line_of};
-ghost use Rattle.splice_size.specs.Counts.{none, plus, summed, of_size, line_counts, counts_at, counts_of, sum_size};
+ghost use Rattle.splice_size.specs.Counts.{none, plus, summed, line_counts, counts_at, counts_of, sum_size};
 ghost use Rattle.splice_size.specs.Counts.{IsSmall};
 
 use crate::sizes::{take_line, take_sig};
@@ -32,12 +32,12 @@ pub struct Counts {
 }
 
 impl Counts {
-    /// The counts of a part that has a size and nothing else that counts.
-    fn sized(blocks: usize) -> Counts
-        ensures { result ≡ of_size blocks }
+    /// Nothing that counts.
+    fn none() -> Counts
+        ensures { result ≡ none }
     {
         Counts {
-            blocks,
+            blocks: 0,
             returned: 0,
             returns: 0,
             calls: 0,
@@ -45,25 +45,6 @@ impl Counts {
             tail_calls: 0,
             try_calls: 0,
             sequence_points: 0,
-        }
-    }
-
-    /// The counts of two parts together.
-    fn with(self, other: Counts) -> Counts
-        requires small { IsSmall self }
-        requires other_small { IsSmall other }
-        requires few { sum_size self + sum_size other < 2 ^ 64 }
-        ensures { result ≡ plus self other }
-    {
-        Counts {
-            blocks: self.blocks + other.blocks,
-            returned: self.returned + other.returned,
-            returns: self.returns + other.returns,
-            calls: self.calls + other.calls,
-            results: self.results + other.results,
-            tail_calls: self.tail_calls + other.tail_calls,
-            try_calls: self.try_calls + other.try_calls,
-            sequence_points: self.sequence_points + other.sequence_points,
         }
     }
 }
@@ -94,77 +75,69 @@ fn count_blocks(callee: &Func, limit: usize) -> Option<Counts>
     ensures { SomeIff result
         (total block_size callee.now.function.blocks ≤ limit) (counts_of callee.now.function) }
 {
-    let mut counts = Counts::sized(0);
+    let mut counts = Counts::none();
     let mut left = limit;
     for block in callee.blocks() {
-        let more = count_block(callee, block, left)?;
-        left -= more.blocks + more.returned;
-        counts = counts.with(more);
+        left = add_block(&mut counts, callee, block, left)?;
     }
     Some(counts)
 }
 
-/// The counts of a block, where its size is at most the limit.
-fn count_block(callee: &Func, block: Block, limit: usize) -> Option<Counts>
-    requires { In block (block_numbers callee.now.function.blocks) }
-    ensures counts { SomeIff result
-        (size_at callee.now.function.blocks block ≤ limit) (counts_at callee.now.function.blocks block) }
-    ensures small { IfSome result IsSmall }
-    ensures size { IfSome result (λ c. sum_size c ≡ size_at callee.now.function.blocks block) }
+/// Adds the counts of a block, and answers what its size leaves of the limit, where it is within.
+fn add_block(counts: &mut Counts, callee: &Func, block: Block, limit: usize) -> Option<usize>
+    requires there { In block (block_numbers callee.now.function.blocks) }
+    requires small { IsSmall counts.old }
+    requires few { sum_size counts.old + limit < 2 ^ 64 }
+    ensures left { SomeIff result
+        (size_at callee.now.function.blocks block ≤ limit) (limit - size_at callee.now.function.blocks block) }
+    ensures added { OnSome result (counts.new ≡ plus counts.old (counts_at callee.now.function.blocks block)) }
 {
     let left = limit.checked_sub(1)?;
     let left = left.checked_sub(callee.params(block).len())?;
-    let lines = count_lines(callee.inst_slice(block), left)?;
-    Some(Counts::sized(limit - left).with(lines))
+    counts.blocks += limit - left;
+    add_lines(counts, callee.inst_slice(block), left)
 }
 
-/// The counts of instructions, where their size is at most the limit.
-fn count_lines(lines: &[InstData], limit: usize) -> Option<Counts>
-    ensures counts { SomeIff result
-        (total line_size (map line_of lines.now) ≤ limit) (summed line_counts (map line_of lines.now)) }
-    ensures small { IfSome result IsSmall }
-    ensures size { IfSome result (λ c. sum_size c ≡ total line_size (map line_of lines.now)) }
+/// Adds the counts of instructions, and answers what their size leaves of the limit, where it is within.
+fn add_lines(counts: &mut Counts, lines: &[InstData], limit: usize) -> Option<usize>
+    requires small { IsSmall counts.old }
+    requires few { sum_size counts.old + limit < 2 ^ 64 }
+    ensures left { SomeIff result
+        (total line_size (map line_of lines.now) ≤ limit) (limit - total line_size (map line_of lines.now)) }
+    ensures added { OnSome result (counts.new ≡ plus counts.old (summed line_counts (map line_of lines.now))) }
 {
-    let mut counts = Counts::sized(0);
     let mut left = limit;
     for added in lines {
         let rest = take_line(left, added)?;
-        counts = counts.with(count_line(added, left - rest));
+        add_line(counts, added, left - rest);
         left = rest;
     }
-    Some(counts)
+    Some(left)
 }
 
-/// The counts of an instruction of the size.
-fn count_line(added: &InstData, size: usize) -> Counts
-    requires { size ≡ line_size (line_of added.now) }
-    ensures { result ≡ line_counts (line_of added.now) }
+/// Adds the counts of an instruction of the size.
+#[inline]
+fn add_line(counts: &mut Counts, added: &InstData, size: usize)
+    requires size { size ≡ line_size (line_of added.now) }
+    requires small { IsSmall counts.old }
+    requires few { sum_size counts.old + size < 2 ^ 64 }
+    ensures { counts.new ≡ plus counts.old (line_counts (line_of added.now)) }
 {
-    let mut counts = Counts::sized(size);
+    counts.blocks += size;
     match &added.inst {
-        Inst::SequencePoint => {
-            counts.sequence_points = 1;
-            counts
-        }
+        Inst::SequencePoint => counts.sequence_points += 1,
         Inst::Return(values) => {
-            counts.returned = values.as_slice().len();
-            counts.blocks = size - counts.returned;
-            counts.returns = 1;
-            counts
+            let returned = values.as_slice().len();
+            counts.blocks -= returned;
+            counts.returned += returned;
+            counts.returns += 1;
         }
         Inst::Call { .. } | Inst::CallIndirect { .. } => {
-            counts.calls = 1;
-            counts.results = added.results.as_slice().len();
-            counts
+            counts.calls += 1;
+            counts.results += added.results.as_slice().len();
         }
-        Inst::ReturnCall { .. } | Inst::ReturnCallIndirect { .. } => {
-            counts.tail_calls = 1;
-            counts
-        }
-        Inst::TryCall { .. } | Inst::TryCallIndirect { .. } => {
-            counts.try_calls = 1;
-            counts
-        }
+        Inst::ReturnCall { .. } | Inst::ReturnCallIndirect { .. } => counts.tail_calls += 1,
+        Inst::TryCall { .. } | Inst::TryCallIndirect { .. } => counts.try_calls += 1,
         Inst::Nop
         | Inst::Const(_)
         | Inst::Pure { .. }
@@ -179,6 +152,6 @@ fn count_line(added: &InstData, size: usize) -> Counts
         | Inst::BrTable { .. }
         | Inst::Trap(_)
         | Inst::Trapz { .. }
-        | Inst::Trapnz { .. } => counts,
+        | Inst::Trapnz { .. } => {}
     }
 }

@@ -83,7 +83,8 @@ fn count_blocks(callee: &Func, limit: usize) -> Option<Counts>
     Some(counts)
 }
 
-/// Adds the counts of a block, and answers what its size leaves of the limit, where it is within.
+/// Adds the counts of a block, and answers what its size leaves of the limit, where it is within. Where it is not, the
+/// counts are of no use any more.
 fn add_block(counts: &mut Counts, callee: &Func, block: Block, limit: usize) -> Option<usize>
     requires there { In block (block_numbers callee.now.function.blocks) }
     requires small { IsSmall counts.old }
@@ -98,7 +99,7 @@ fn add_block(counts: &mut Counts, callee: &Func, block: Block, limit: usize) -> 
     add_lines(counts, callee.inst_slice(block), left)
 }
 
-/// Adds the counts of instructions, and answers what their size leaves of the limit, where it is within.
+/// The same of instructions.
 fn add_lines(counts: &mut Counts, lines: &[InstData], limit: usize) -> Option<usize>
     requires small { IsSmall counts.old }
     requires few { sum_size counts.old + limit < 2 ^ 64 }

@@ -1,5 +1,5 @@
 //! Bytes that wait to be given to a sink.
-ghost use Rattle.std.specs.Prelude.{◌≡◌, ◌≤◌, ◌++◌, ◌+◌, ◌↔◌, IsTrue, List, [], take, length};
+ghost use Rattle.std.specs.Prelude.{◌≡◌, ◌≤◌, ◌<◌, ◌++◌, ◌+◌, ◌↔◌, IsTrue, List, [], take, length};
 ghost use Rattle.std.specs.Fmt.{decimal};
 
 use std::marker::Model;
@@ -66,9 +66,33 @@ impl Waiting {
         self.len = start + bytes.len();
     }
 
-    /// Appends the digits of the number, written in place.
+    /// Appends the digits of the number, written in place. Most numbers have one digit.
     #[inline(always)]
     pub(crate) fn append_digits(&mut self, number: u64)
+        requires { length self.old + 20 ≤ 4096 }
+        ensures { self.new ≡ self.old ++ decimal number }
+    {
+        if number < 10 {
+            self.append_digit(number as u8);
+        } else {
+            self.append_several_digits(number);
+        }
+    }
+
+    /// Appends one digit.
+    #[inline(always)]
+    fn append_digit(&mut self, digit: u8)
+        requires room { length self.old + 1 ≤ 4096 }
+        requires one { digit < 10 }
+        ensures { self.new ≡ self.old ++ decimal digit }
+    {
+        self.bytes[self.len] = b'0' + digit;
+        self.len += 1;
+    }
+
+    /// Appends the digits of a number that may have several.
+    #[inline(never)]
+    fn append_several_digits(&mut self, number: u64)
         requires { length self.old + 20 ≤ 4096 }
         ensures { self.new ≡ self.old ++ decimal number }
     {

@@ -1,7 +1,7 @@
 use Rattle.std.proofs.Common.{◌≡◌, ℕ, ◌+◌, ◌++◌, List, length, length-take-le, arith, sym, ap, ◌∙◌}
 use Rattle.std.specs.Fmt.{decimal}
 use Rattle.text_output.proofs.Digits.{length_most, digits_behind}
-use Rattle.text_output.proofs.waiting.Waiting.append_digits.Goals as goal
+use Rattle.text_output.proofs.waiting.Waiting.append_several_digits.Goals as goal
 
 pub overflow_add-end : goal.overflow_add-end
 overflow_add-end c = omega (arith, c.digits.ensures, length_most c.args.number (omega (arith, c.ranges.number.fits)), c.self.invariant)

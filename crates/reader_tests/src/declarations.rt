@@ -3,11 +3,12 @@
 use crate::modules::{fault, read};
 use clif_read::{RawAttribute, RawCalleeSig, RawDecl, RawFuncName, RawFunction, RawSignature};
 use ir_core::{Conv, Ty};
+use std::test::Fail;
 use token_reader::{RawName, RawNumber};
 
 #[test]
 fn names_the_first_fault_of_a_declaration(rt: HostRuntime) {
-    for (text, kind, row, column) in [
+    for &(text, kind, row, column) in &[
         // names
         ("function", "Syntax", 1, 9),
         ("function f", "Syntax", 1, 10),
@@ -143,17 +144,22 @@ fn has_declarations(function: &RawFunction) -> bool {
     }
 }
 
-#[test]
-fn reads_declarations(rt: HostRuntime) {
-    match read(&rt, rt.alloc(), DECLARED) {
-        Err(_) => assert!(rt; false, "no module"),
-        Ok(found) => match found.functions.as_slice() {
-            [function] => {
-                assert!(rt; is_text(&function.name, b"ab", 9));
-                assert!(rt; is_first_signature(&function.signature));
-                assert!(rt; has_declarations(function));
-            }
-            _ => assert!(rt; false, "not one function"),
-        },
+/// Whether the name, the signature and the declarations of `DECLARED`'s one function are read.
+fn has_parts(functions: &[RawFunction]) -> Option<(bool, bool, bool)> {
+    match functions {
+        [function] => Some((
+            is_text(&function.name, b"ab", 9),
+            is_first_signature(&function.signature),
+            has_declarations(function),
+        )),
+        _ => None,
     }
+}
+
+#[test]
+fn reads_declarations(rt: HostRuntime) -> Result<(), Fail> {
+    let found = read(&rt, rt.alloc(), DECLARED.as_bytes())?;
+    let parts = has_parts(found.functions.as_slice());
+    assert!(rt; parts == Some((true, true, true)), "read are {parts:?}");
+    Ok(())
 }

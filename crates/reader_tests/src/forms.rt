@@ -185,7 +185,7 @@ fn first_counts(functions: &[RawFunction]) -> Option<(usize, usize, (usize, usiz
 
 #[test]
 fn reads_every_form(rt: HostRuntime) -> Result<(), Fail> {
-    let found = read(&rt, rt.alloc(), EVERYTHING)?;
+    let found = read(&rt, rt.alloc(), EVERYTHING.as_bytes())?;
     assert_eq!(rt; found.headers.as_slice().len(), 3);
     let functions = found.functions.as_slice();
     assert!(rt; parts(functions) == Some((6, 2, 14, 4)));

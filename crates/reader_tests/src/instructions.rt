@@ -6,21 +6,24 @@ use clif_words::{OPCODES, Opcode};
 use std::alloc::Global;
 use token_reader::{Reader, Stop};
 
+/// The opcode of the instruction that the text begins with, where it stops and how many tokens the text has, or why
+/// there is none.
+fn first_inst(alloc: Global, text: &str) -> Result<(Opcode, usize, usize), SyntaxErr> {
+    let bytes = text.as_bytes();
+    let list = tokens(alloc, bytes).or(Err(SyntaxErr::NoMemory))?;
+    let count = list.len();
+    inst(alloc, bytes, &list, 0).map(|(found, stop)| (found.opcode.kind, stop, count))
+}
+
 /// Where the instruction that the text begins with stops, or why there is none.
 fn stop_of(alloc: Global, text: &str) -> Result<usize, SyntaxErr> {
-    let bytes = text.as_bytes();
-    match tokens(alloc, bytes) {
-        Ok(list) => match inst(alloc, bytes, &list, 0) {
-            Ok((_, stop)) => Ok(stop),
-            Err(fault) => Err(fault),
-        },
-        Err(_) => Err(SyntaxErr::NoMemory),
-    }
+    let (_, stop, _) = first_inst(alloc, text)?;
+    Ok(stop)
 }
 
 #[test]
 fn reads_instructions(rt: HostRuntime) {
-    for (text, stop) in [
+    for &(text, stop) in &[
         ("nop ; the end", 2),
         ("iadd v0, v1 v2 = nop", 4),
         ("iconst.i64 -5", 4),
@@ -48,7 +51,7 @@ fn reads_instructions(rt: HostRuntime) {
 
 #[test]
 fn names_the_first_fault(rt: HostRuntime) {
-    for (text, fault) in [
+    for &(text, fault) in &[
         ("", SyntaxErr::Syntax(0)),
         ("iadd v0\nreturn v0", SyntaxErr::Syntax(2)),
         ("return v0,", SyntaxErr::Syntax(3)),
@@ -97,33 +100,26 @@ fn names_the_first_fault(rt: HostRuntime) {
 /// Why no instruction begins the text, behind what stands before it.
 fn refusal(alloc: Global, text: &str, opening: Opening) -> Option<Stop> {
     let bytes = text.as_bytes();
-    match tokens(alloc, bytes) {
-        Ok(list) => match read_inst(alloc, &mut Reader::new(bytes, &list, 0), opening) {
-            Ok(_) => None,
-            Err(stop) => Some(stop),
-        },
-        Err(_) => None,
-    }
+    let list = tokens(alloc, bytes).ok()?;
+    read_inst(alloc, &mut Reader::new(bytes, &list, 0), opening).err()
 }
 
 /// Whether nothing stands behind the instruction between two places of the list of the text's tokens, or why there is
 /// none.
 fn is_alone_between(alloc: Global, text: &str, from: usize, end: usize) -> Result<bool, Stop> {
     let bytes = text.as_bytes();
-    let Ok(list) = tokens(alloc, bytes) else {
-        return Err(Stop::NoMemory);
-    };
+    let list = tokens(alloc, bytes).or(Err(Stop::NoMemory))?;
     if from > end || end > list.len() {
         return Err(Stop::NoMemory);
     }
     let mut reader = Reader::between(bytes, &list, from, end);
-    read_inst(alloc, &mut reader, Opening::AfterResults)?;
-    Ok(reader.is_at_end())
+    let found = read_inst(alloc, &mut reader, Opening::AfterResults);
+    found.and(Ok(reader.is_at_end()))
 }
 
 #[test]
 fn reads_between_two_places(rt: HostRuntime) {
-    for (from, end, found) in [
+    for &(from, end, found) in &[
         (0, 1, Ok(true)),
         (0, 2, Ok(true)),
         (0, 3, Ok(false)),
@@ -143,7 +139,7 @@ fn reads_between_two_places(rt: HostRuntime) {
 
 #[test]
 fn refuses_words_by_what_stands_before(rt: HostRuntime) {
-    for (text, opening, why) in [
+    for &(text, opening, why) in &[
         ("v2", Opening::AfterResults, Stop::UnknownOpcode),
         ("block1", Opening::AfterResults, Stop::UnknownOpcode),
         ("v2", Opening::AfterTags, Stop::Syntax),
@@ -248,13 +244,9 @@ try_call_indirect.i64 v0(), sig0, block1, []
 
 /// The opcode, where the whole text is one instruction.
 fn opcode(alloc: Global, text: &str) -> Option<Opcode> {
-    let bytes = text.as_bytes();
-    match tokens(alloc, bytes) {
-        Ok(list) => match inst(alloc, bytes, &list, 0) {
-            Ok((found, stop)) if stop == list.len() => Some(found.opcode.kind),
-            _ => None,
-        },
-        Err(_) => None,
+    match first_inst(alloc, text) {
+        Ok((opcode, stop, count)) if stop == count => Some(opcode),
+        _ => None,
     }
 }
 

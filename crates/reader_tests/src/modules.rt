@@ -1,8 +1,8 @@
 //! What no clause says: that the definitions are what the text form of CLIF asks for, and that modules are read.
 
 use clif_insts::RawOperands;
-use clif_lex::{TextErr, TextKind, place, tokens};
-use clif_read::{RawLine, RawModule};
+use clif_lex::{TextErr, TextKind, Tokens, place, tokens};
+use clif_read::{RawFunction, RawLine, RawModule};
 use read_workers::read_raw;
 use std::alloc::{AllocError, Global};
 use std::test::Fail;
@@ -12,11 +12,10 @@ use std::thread::Threads;
 pub(crate) fn read<R: Threads + Sync>(
     rt: &R,
     alloc: Global,
-    text: &str,
+    text: &[u8],
 ) -> Result<RawModule, TextErr> {
-    let bytes = text.as_bytes();
-    let list = tokens(alloc, bytes)?;
-    read_raw(rt, alloc, bytes, &list, 1)
+    let list = tokens(alloc, text)?;
+    read_raw(rt, alloc, text, &list, 1)
 }
 
 /// Where a text's first fault is: its kind, line and column. Line 0 says that there is none.
@@ -25,10 +24,10 @@ pub(crate) fn fault<R: Threads + Sync>(
     alloc: Global,
     text: &str,
 ) -> (&'static str, u32, u32) {
-    match read(rt, alloc, text) {
-        Ok(_) => ("", 0, 0),
-        Err(TextErr::NoMemory) => ("NoMemory", 0, 0),
-        Err(TextErr::Fault { kind, spot }) => {
+    match read(rt, alloc, text.as_bytes()).err() {
+        None => ("", 0, 0),
+        Some(TextErr::NoMemory) => ("NoMemory", 0, 0),
+        Some(TextErr::Fault { kind, spot }) => {
             if spot <= text.len() && text.len() < 10000 {
                 let found = place(text.as_bytes(), spot);
                 (kind.name(), found.line, found.column)
@@ -46,9 +45,19 @@ fn with_line(alloc: Global, line: &str) -> Result<String, AllocError> {
     )
 }
 
+/// Where the first fault of a text with this line is.
+fn line_fault<R: Threads + Sync>(
+    rt: &R,
+    alloc: Global,
+    line: &str,
+) -> Result<(&'static str, u32, u32), AllocError> {
+    let text = with_line(alloc, line)?;
+    Ok(fault(rt, alloc, &text))
+}
+
 #[test]
 fn names_the_first_fault_of_a_line(rt: HostRuntime) -> Result<(), AllocError> {
-    for (line, kind, row, column) in [
+    for &(line, kind, row, column) in &[
         ("v1 = iadd v0, #", "BadChar", 3, 19),
         ("v1 = iconst.i64 0x", "BadNumber", 3, 21),
         ("v1 = iadd v0", "Syntax", 4, 5),
@@ -106,9 +115,8 @@ fn names_the_first_fault_of_a_line(rt: HostRuntime) -> Result<(), AllocError> {
             53,
         ),
     ] {
-        let text = with_line(rt.alloc(), line)?;
         assert_eq!(rt;
-            fault(&rt, rt.alloc(), &text),
+            line_fault(&rt, rt.alloc(), line)?,
             (kind, row, column),
             "at {line}"
         );
@@ -129,10 +137,9 @@ fn returned(lines: &[RawLine]) -> usize {
     count
 }
 
-/// How many lines the one block of a text's one function has, and how many values their `return`s have.
-fn line_counts<R: Threads + Sync>(rt: &R, alloc: Global, text: &str) -> Option<(usize, usize)> {
-    let found = read(rt, alloc, text).ok()?;
-    match found.functions.as_slice() {
+/// How many lines the one block of one function has, and how many values their `return`s have.
+fn block_counts(functions: &[RawFunction]) -> Option<(usize, usize)> {
+    match functions {
         [function] => match function.blocks.as_slice() {
             [block] => {
                 let lines = block.lines.as_slice();
@@ -144,9 +151,16 @@ fn line_counts<R: Threads + Sync>(rt: &R, alloc: Global, text: &str) -> Option<(
     }
 }
 
+/// How many lines the block of a text with this line has, and how many values their `return`s have.
+fn line_counts<R: Threads + Sync>(rt: &R, alloc: Global, line: &str) -> Option<(usize, usize)> {
+    let text = with_line(alloc, line).ok()?;
+    let found = read(rt, alloc, text.as_bytes()).ok()?;
+    block_counts(found.functions.as_slice())
+}
+
 #[test]
-fn reads_lines(rt: HostRuntime) -> Result<(), AllocError> {
-    for (line, lines, values) in [
+fn reads_lines(rt: HostRuntime) {
+    for &(line, lines, values) in &[
         ("v1 = iconst.i64 1_", 2, 1),
         ("v1 = iconst.i64 1__0", 2, 1),
         ("v1 = iconst.i64 0xf_", 2, 1),
@@ -171,16 +185,14 @@ fn reads_lines(rt: HostRuntime) -> Result<(), AllocError> {
             1,
         ),
     ] {
-        let text = with_line(rt.alloc(), line)?;
-        let found = line_counts(&rt, rt.alloc(), &text);
+        let found = line_counts(&rt, rt.alloc(), line);
         assert!(rt; found == Some((lines, values)), "at {line}");
     }
-    Ok(())
 }
 
 #[test]
 fn names_the_first_fault_of_a_text(rt: HostRuntime) {
-    for (text, kind, row, column) in [
+    for &(text, kind, row, column) in &[
         ("", "", 0, 0),
         ("; a\n; b", "", 0, 0),
         ("test:x\n; c\r\nset a\r\n", "", 0, 0),
@@ -253,34 +265,38 @@ block2(v2: i64):
 }
 ";
 
-/// Why the text is no module.
-fn refusal<R: Threads + Sync>(rt: &R, alloc: Global, text: &[u8]) -> Option<TextErr> {
-    match tokens(alloc, text) {
-        Ok(list) => read_raw(rt, alloc, text, &list, 1).err(),
-        Err(err) => Some(TextErr::from(err)),
+/// How many of the text's fronts that end behind a token are modules, where the fault of each other one is that it ends.
+/// Else the end of the first front with another fault.
+fn count_modules<R: Threads + Sync>(
+    rt: &R,
+    alloc: Global,
+    text: &[u8],
+    list: &Tokens,
+) -> Result<usize, usize> {
+    let mut modules: usize = 0;
+    for i in 0..list.len() {
+        let end = list.get(i).end;
+        let front = text.get(..end).ok_or(end)?;
+        let cut = TextErr::Fault {
+            kind: TextKind::Syntax,
+            spot: end,
+        };
+        match read(rt, alloc, front).err() {
+            None => modules = modules.saturating_add(1),
+            Some(err) if err == cut => {}
+            Some(_) => return Err(end),
+        }
     }
+    Ok(modules)
 }
 
 #[test]
 fn names_the_end_of_a_cut_text(rt: HostRuntime) -> Result<(), Fail> {
     let bytes = JOINED.as_bytes();
     let whole = tokens(rt.alloc(), bytes)?;
-    assert!(rt; whole.len() == 146);
-    let mut modules: usize = 0;
-    for i in 0..whole.len() {
-        let end = whole.get(i).end;
-        assert!(rt; end <= bytes.len());
-        match refusal(&rt, rt.alloc(), &bytes[..end]) {
-            None => modules = modules.saturating_add(1),
-            Some(err) => {
-                let want = TextErr::Fault {
-                    kind: TextKind::Syntax,
-                    spot: end,
-                };
-                assert!(rt; err == want, "at {end}");
-            }
-        }
-    }
-    assert_eq!(rt; modules, 2);
+    assert_eq!(rt;
+        (whole.len(), count_modules(&rt, rt.alloc(), bytes, &whole)),
+        (146, Ok(2))
+    );
     Ok(())
 }

@@ -2,25 +2,35 @@
 
 use clif_lex::{TextErr, tokens};
 use clif_names::{FunctionNames, first_fault, function_size};
-use clif_read::read_raw_alone;
-use std::alloc::Global;
+use clif_read::{RawFunction, RawModule, read_raw_alone};
+use std::alloc::{AllocError, Global};
 use std::test::Fail;
 
-/// The kind of a text's first fault and its spot, or nothing where there is none.
-fn fault_of(alloc: Global, text: &str) -> Result<(&'static str, usize), TextErr> {
+/// The module of a text.
+fn read(alloc: Global, text: &str) -> Result<RawModule, TextErr> {
     let bytes = text.as_bytes();
     let list = tokens(alloc, bytes)?;
-    let raw = read_raw_alone(alloc, bytes, &list)?;
-    match first_fault(alloc, raw.functions.as_slice()) {
+    read_raw_alone(alloc, bytes, &list)
+}
+
+/// The kind of the first fault of functions and its spot, or nothing where there is none.
+fn fault_among(alloc: Global, functions: &[RawFunction]) -> Result<(&'static str, usize), TextErr> {
+    match first_fault(alloc, functions) {
         Ok(None) => Ok(("", 0)),
         Ok(Some(fault)) => Ok((fault.kind.name(), fault.spot)),
         Err(_) => Err(TextErr::NoMemory),
     }
 }
 
+/// The kind of a text's first fault and its spot, or nothing where there is none.
+fn fault_of(alloc: Global, text: &str) -> Result<(&'static str, usize), TextErr> {
+    let raw = read(alloc, text)?;
+    fault_among(alloc, raw.functions.as_slice())
+}
+
 #[test]
-fn finds_the_first_fault(rt: HostRuntime) -> Result<(), Fail> {
-    let rows = [
+fn finds_the_first_fault(rt: HostRuntime) {
+    for &(text, kind, spot) in &[
         ("function %f() {\nblock0:\nreturn\n}", "", 0),
         (
             "function %f() {\nblock0:\nreturn\nblock0:\nreturn\n}",
@@ -58,26 +68,34 @@ fn finds_the_first_fault(rt: HostRuntime) -> Result<(), Fail> {
             "NumberRange",
             36,
         ),
-    ];
-    for (text, kind, spot) in rows {
-        assert_eq!(rt; fault_of(rt.alloc(), text)?, (kind, spot), "in {text}");
+    ] {
+        assert_eq!(rt; fault_of(rt.alloc(), text), Ok((kind, spot)), "in {text}");
     }
-    Ok(())
+}
+
+/// The numbers of a slot's word, a signature's and a callee's, of two blocks' words and of four values'.
+fn numbers(alloc: Global, func: &RawFunction) -> Result<[usize; 9], AllocError> {
+    let names = FunctionNames::of(alloc, func)?;
+    Ok([
+        names.slot(3),
+        names.sig(2),
+        names.callee(9),
+        names.block(8),
+        names.block(9),
+        names.value(5),
+        names.value(1),
+        names.value(7),
+        names.value(6),
+    ])
 }
 
 #[test]
 fn numbers_the_words(rt: HostRuntime) -> Result<(), Fail> {
     let text = "function %f() {\nss3 = explicit_slot 8\nsig2 = ()\nfn9 = %g sig2\nblock4:\n\
         v5 = iconst.i8 1\nv1 -> v5\nv7 = iconst.i8 2\njump block8\nblock8:\nreturn\n}";
-    let bytes = text.as_bytes();
-    let list = tokens(rt.alloc(), bytes)?;
-    let raw = read_raw_alone(rt.alloc(), bytes, &list)?;
+    let raw = read(rt.alloc(), text)?;
     for func in raw.functions.as_slice() {
-        let names = FunctionNames::of(rt.alloc(), func)?;
-        assert_eq!(rt; (names.slot(3), names.sig(2), names.callee(9)), (0, 0, 0));
-        assert_eq!(rt; (names.block(8), names.block(9)), (1, 2));
-        assert_eq!(rt; (names.value(5), names.value(1), names.value(7)), (0, 0, 1));
-        assert_eq!(rt; names.value(6), 2);
+        assert_eq!(rt; numbers(rt.alloc(), func), Ok([0, 0, 0, 1, 2, 0, 0, 1, 2]));
         assert_eq!(rt; function_size(func), 11);
     }
     Ok(())

@@ -36,7 +36,7 @@ fn reads_numbers(rt: HostRuntime) {
 
 #[test]
 fn names_the_first_byte_that_does_not_fit(rt: HostRuntime) {
-    for (text, spot) in [
+    for &(text, spot) in &[
         ("throw 3", 6),
         ("return(1,)", 9),
         ("return, ", 8),
@@ -48,10 +48,7 @@ fn names_the_first_byte_that_does_not_fit(rt: HostRuntime) {
         ("return 9x", 7),
         ("test", 0),
     ] {
-        let read = script(rt.alloc(), text);
-        assert!(rt;
-            matches!(read, Err(ScriptErr::BadScript(at)) if at == spot),
-            "at {text}"
-        );
+        let fault = script(rt.alloc(), text).err();
+        assert_eq!(rt; fault, Some(ScriptErr::BadScript(spot)), "at {text}");
     }
 }

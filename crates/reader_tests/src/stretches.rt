@@ -28,26 +28,20 @@ fn text_with(alloc: Global, line: &str) -> Result<String, AllocError> {
     text_of(alloc, "nop", line, "nop")
 }
 
-/// What a text was read as: how many headers and functions, or its fault.
-fn counts(found: Result<RawModule, TextErr>) -> (usize, usize, Option<TextErr>) {
-    match found {
-        Ok(found) => (
-            found.headers.as_slice().len(),
-            found.functions.as_slice().len(),
-            None,
-        ),
-        Err(err) => (0, 0, Some(err)),
-    }
+/// How many headers and functions a module has.
+fn counts(found: RawModule) -> (usize, usize) {
+    (
+        found.headers.as_slice().len(),
+        found.functions.as_slice().len(),
+    )
 }
 
 /// Whether a text is read in stretches of any size, as one header and three functions.
 fn is_read_in_stretches<R: Threads + Sync>(rt: &R, alloc: Global, text: &[u8]) -> bool {
-    for workers in WORKERS {
-        for size in SIZES {
-            let Some(found) = read_text_ranges(rt, alloc, text, workers, size) else {
-                return false;
-            };
-            if counts(Ok(found)) != (1, 3, None) {
+    for &workers in &WORKERS {
+        for &size in &SIZES {
+            let found = read_text_ranges(rt, alloc, text, workers, size);
+            if found.map(counts) != Some((1, 3)) {
                 return false;
             }
         }
@@ -63,31 +57,44 @@ fn reads_in_stretches(rt: HostRuntime) -> Result<(), AllocError> {
     Ok(())
 }
 
+/// Whether a text has the same fault, in stretches of any size, as where it is read whole.
+fn is_refused_alike<R: Threads + Sync>(rt: &R, alloc: Global, text: &[u8]) -> bool {
+    let wanted = read(rt, alloc, text).err();
+    for &workers in &WORKERS {
+        for &size in &SIZES {
+            let found = read_text_by(rt, alloc, text, workers, size);
+            if found.err() != wanted {
+                return false;
+            }
+        }
+    }
+    wanted.is_some()
+}
+
 #[test]
 fn finds_the_first_fault(rt: HostRuntime) -> Result<(), AllocError> {
     let text = text_with(rt.alloc(), "v1 = frob v0")?;
-    let wanted = read(&rt, rt.alloc(), text.as_str()).err();
-    assert!(rt; wanted.is_some());
-    for workers in WORKERS {
-        for size in SIZES {
-            let found = read_text_by(&rt, rt.alloc(), text.as_bytes(), workers, size);
-            assert_eq!(rt; found.err(), wanted);
-        }
-    }
+    assert!(rt; is_refused_alike(&rt, rt.alloc(), text.as_bytes()));
     Ok(())
+}
+
+/// How many headers and functions are read in ranges of a text's tokens.
+fn counts_in_token_ranges<R: Threads + Sync>(
+    rt: &R,
+    alloc: Global,
+    text: &[u8],
+    workers: usize,
+    size: usize,
+) -> Option<(usize, usize)> {
+    let list = tokens(alloc, text).ok()?;
+    read_token_ranges(rt, alloc, text, &list, workers, size).map(counts)
 }
 
 /// Whether a text is read in ranges of its tokens of any size, as one header and three functions.
 fn is_read_in_token_ranges<R: Threads + Sync>(rt: &R, alloc: Global, text: &[u8]) -> bool {
-    let Ok(list) = tokens(alloc, text) else {
-        return false;
-    };
-    for workers in WORKERS {
-        for size in RANGE_SIZES {
-            let Some(found) = read_token_ranges(rt, alloc, text, &list, workers, size) else {
-                return false;
-            };
-            if counts(Ok(found)) != (1, 3, None) {
+    for &workers in &WORKERS {
+        for &size in &RANGE_SIZES {
+            if counts_in_token_ranges(rt, alloc, text, workers, size) != Some((1, 3)) {
                 return false;
             }
         }
@@ -102,16 +109,24 @@ fn reads_in_token_ranges(rt: HostRuntime) -> Result<(), AllocError> {
     Ok(())
 }
 
+/// How many headers and functions workers read, or the first fault. None where the text has no tokens.
+fn counts_by_workers<R: Threads + Sync>(
+    rt: &R,
+    alloc: Global,
+    text: &[u8],
+    workers: usize,
+    size: usize,
+) -> Option<Result<(usize, usize), TextErr>> {
+    let list = tokens(alloc, text).ok()?;
+    Some(read_raw_by(rt, alloc, text, &list, workers, size).map(counts))
+}
+
 /// Whether a text is read by several workers as one reads it.
-fn is_read_alike<R: Threads + Sync>(rt: &R, alloc: Global, text: &str) -> bool {
-    let Ok(list) = tokens(alloc, text.as_bytes()) else {
-        return false;
-    };
-    let wanted = counts(read(rt, alloc, text));
-    for workers in WORKERS {
-        for size in RANGE_SIZES {
-            let found = read_raw_by(rt, alloc, text.as_bytes(), &list, workers, size);
-            if counts(found) != wanted {
+fn is_read_alike<R: Threads + Sync>(rt: &R, alloc: Global, text: &[u8]) -> bool {
+    let wanted = Some(read(rt, alloc, text).map(counts));
+    for &workers in &WORKERS {
+        for &size in &RANGE_SIZES {
+            if counts_by_workers(rt, alloc, text, workers, size) != wanted {
                 return false;
             }
         }
@@ -121,7 +136,7 @@ fn is_read_alike<R: Threads + Sync>(rt: &R, alloc: Global, text: &str) -> bool {
 
 #[test]
 fn reads_any_text_by_workers(rt: HostRuntime) {
-    for text in [
+    for &text in &[
         "",
         "; nothing",
         "test run\nset opt_level=speed\n; no function\n",
@@ -131,22 +146,39 @@ fn reads_any_text_by_workers(rt: HostRuntime) {
         "function %a() {\nblock0:\n    return\nfunction %b() {\nblock0:\n    return\n}\n",
         "i64 function %a() {\nblock0:\n    return\n}\n",
     ] {
-        assert!(rt; is_read_alike(&rt, rt.alloc(), text), "at {text}");
+        assert!(rt;
+            is_read_alike(&rt, rt.alloc(), text.as_bytes()),
+            "at {text}"
+        );
     }
+}
+
+/// Whether a text with these lines is refused, and by several workers as by one.
+fn is_refused_by_workers<R: Threads + Sync>(
+    rt: &R,
+    alloc: Global,
+    first: &str,
+    second: &str,
+    third: &str,
+) -> Result<bool, AllocError> {
+    let text = text_of(alloc, first, second, third)?;
+    let bytes = text.as_bytes();
+    Ok(read(rt, alloc, bytes).is_err() && is_read_alike(rt, alloc, bytes))
 }
 
 #[test]
 fn finds_the_first_fault_by_workers(rt: HostRuntime) -> Result<(), AllocError> {
-    for (first, second, third) in [
+    for &(first, second, third) in &[
         ("v1, v2 nop", "nop", "nop"),
         ("nop", "v1 = frob v0", "nop"),
         ("nop", "nop", "v1 = fadd v0, v0"),
         ("frob", "v1, v2 nop", "}"),
         ("nop", "}", "frob"),
     ] {
-        let text = text_of(rt.alloc(), first, second, third)?;
-        assert!(rt; read(&rt, rt.alloc(), text.as_str()).is_err(), "at {text}");
-        assert!(rt; is_read_alike(&rt, rt.alloc(), text.as_str()), "at {text}");
+        assert!(rt;
+            is_refused_by_workers(&rt, rt.alloc(), first, second, third)?,
+            "at {first}, {second}, {third}"
+        );
     }
     Ok(())
 }

@@ -1,40 +1,42 @@
 //! Whole files, read for what they ask.
 use clif_lex::tokens;
 use clif_read::read_raw_alone;
+use std::alloc::AllocError;
 use test_directives::{DirectiveErr, TestFile, read_tests};
 
 /// What the file asks for. The text is one that is read.
 fn asked(rt: HostRuntime, text: &[u8]) -> Result<TestFile, DirectiveErr> {
-    let Ok(tokens) = tokens(rt.alloc(), text) else {
-        return Err(DirectiveErr::NoMemory);
-    };
-    let Ok(raw) = read_raw_alone(rt.alloc(), text, &tokens) else {
-        return Err(DirectiveErr::NoMemory);
-    };
     if text.len() > 1_000_000 {
         return Err(DirectiveErr::NoMemory);
     }
+    let tokens = tokens(rt.alloc(), text).or(Err(DirectiveErr::NoMemory))?;
+    let raw = read_raw_alone(rt.alloc(), text, &tokens).or(Err(DirectiveErr::NoMemory))?;
     read_tests(rt.alloc(), text, &tokens, &raw)
+}
+
+/// How many commands and functions the file has.
+fn counts(file: TestFile) -> (usize, usize) {
+    (file.commands.len(), file.functions.len())
 }
 
 #[test]
 fn a_file_asks(rt: HostRuntime) {
     let text =
         b"test interpret\ntest inline x callee-size=7\nfunction %g() {\nblock0:\n    return\n}\n; run: %g()\n";
-    match asked(rt, text.as_slice()) {
-        Ok(file) => {
-            assert_eq!(rt; file.commands.len(), 2);
-            assert_eq!(rt; file.functions.len(), 1);
-        }
-        Err(_) => assert!(rt; false, "it is not read"),
-    }
+    assert_eq!(rt; asked(rt, text.as_slice()).map(counts), Ok((2, 1)));
 }
 
 const FUNCTION: &str = "function %f(i8) -> i8 {\nblock0(v0: i8):\n    return v0\n}\n";
 
+/// Why a file with this directive behind `FUNCTION` asks for nothing that there is.
+fn directive_fault(rt: HostRuntime, directive: &str) -> Result<Option<DirectiveErr>, AllocError> {
+    let text = format!(in rt.alloc(); "{FUNCTION}; {directive}")?;
+    Ok(asked(rt, text.as_bytes()).err())
+}
+
 #[test]
-fn a_bad_line_is_named(rt: HostRuntime) {
-    for (directive, bad) in [
+fn a_bad_line_is_named(rt: HostRuntime) -> Result<(), AllocError> {
+    for &(directive, bad) in &[
         ("run: %f(-128) == 255", None),
         ("run: %f(256)", Some(5)),
         ("run: %f(1) == []", Some(5)),
@@ -47,14 +49,8 @@ fn a_bad_line_is_named(rt: HostRuntime) {
         ("regex: x", Some(5)),
         ("run", None),
     ] {
-        let text = format!(in rt.alloc(); "{FUNCTION}; {directive}");
-        let Ok(text) = text else {
-            return assert!(rt; false, "out of memory");
-        };
-        match (asked(rt, text.as_bytes()), bad) {
-            (Ok(_), None) => {}
-            (Err(DirectiveErr::BadDirective(line)), Some(bad)) => assert_eq!(rt; line, bad),
-            _ => assert!(rt; false, "at {directive}"),
-        }
+        let bad = bad.map(DirectiveErr::BadDirective);
+        assert_eq!(rt; directive_fault(rt, directive)?, bad, "at {directive}");
     }
+    Ok(())
 }

@@ -20,15 +20,15 @@ fn has_report(alloc: Global, text: &str, report: &str) -> bool {
 
 /// The line of the text that has a bad directive.
 fn bad_line(alloc: Global, text: &[u8]) -> Option<u32> {
-    match report_on(alloc, text) {
-        Err(TestErr::BadDirective(line)) => Some(line),
+    match report_on(alloc, text).err() {
+        Some(TestErr::BadDirective(line)) => Some(line),
         _ => None,
     }
 }
 
 #[test]
 fn reports(rt: HostRuntime) {
-    for (text, report) in [
+    for &(text, report) in &[
         (
             "test inline precise-output\n\
             target x86_64\n\n\
@@ -129,9 +129,15 @@ const TRACED: &str = "test interpret\n\
     ; run: %f(5) == 9\n\
     ; trace: host %h(5)\n";
 
+/// The line of `TRACED` with this directive behind it that has a bad directive.
+fn traced_bad_line(alloc: Global, directive: &str) -> Result<Option<u32>, AllocError> {
+    let text = format!(in alloc; "{TRACED}; {directive}\n")?;
+    Ok(bad_line(alloc, text.as_bytes()))
+}
+
 #[test]
 fn bad_last_directives(rt: HostRuntime) -> Result<(), AllocError> {
-    for directive in [
+    for &directive in &[
         "run: %f(",
         "run: %x()",
         "run: %f(5, 6)",
@@ -144,18 +150,15 @@ fn bad_last_directives(rt: HostRuntime) -> Result<(), AllocError> {
         "run: %f(5) == return",
         "host: x",
     ] {
-        let text = format!(in rt.alloc(); "{TRACED}; {directive}\n")?;
-        assert!(rt;
-            bad_line(rt.alloc(), text.as_bytes()) == Some(11),
-            "at {directive}"
-        );
+        let found = traced_bad_line(rt.alloc(), directive)?;
+        assert!(rt; found == Some(11), "at {directive}");
     }
     Ok(())
 }
 
 #[test]
 fn bad_directives(rt: HostRuntime) {
-    for (text, line) in [
+    for &(text, line) in &[
         ("test\n", 1),
         ("test inline callee-size=01\n", 1),
         (

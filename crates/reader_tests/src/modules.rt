@@ -265,7 +265,7 @@ block2(v2: i64):
 }
 ";
 
-/// How many of the text's fronts that end behind a token are modules, where the fault of each other one is that it ends.
+/// How many of the text's fronts that end behind a token are modules, where the fault of each other is that it ends.
 /// Else the end of the first front with another fault.
 fn count_modules<R: Threads + Sync>(
     rt: &R,

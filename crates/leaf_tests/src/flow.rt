@@ -47,16 +47,27 @@ fn one_fault_in_mid_stream(rt: HostRuntime) -> Result<(), AllocError> {
     Ok(())
 }
 
+/// A sink with room for five bytes, whose second call fails.
+fn sink_with_fault(alloc: Global) -> Result<MemSink, AllocError> {
+    MemSink::new(alloc, vec![in alloc; 1]?, 5)
+}
+
+/// What the sink answers to three pieces.
+fn put_three(sink: &mut MemSink) -> [Result<(), Failed>; 3] {
+    [put(sink, b"abc"), put(sink, b"de"), put(sink, b"def")]
+}
+
 #[test]
 fn one_fault_in_mid_sink(rt: HostRuntime) -> Result<(), AllocError> {
-    let alloc = rt.alloc();
-    let mut sink = MemSink::new(alloc, vec![in alloc; 1]?, 5)?;
-    assert!(rt; put(&mut sink, b"abc") == Ok(()));
-    assert!(rt; put(&mut sink, b"de") == Err(Failed));
-    assert!(rt; put(&mut sink, b"def") == Err(Failed));
+    let mut sink = sink_with_fault(rt.alloc())?;
+    assert!(rt; put_three(&mut sink) == [Ok(()), Err(Failed), Err(Failed)]);
     assert!(rt; sink.bytes() == b"abcde".as_slice());
-    assert!(rt; put(&mut NullSink::new(), b"abc") == Ok(()));
     Ok(())
+}
+
+#[test]
+fn null_sink_takes_all(rt: HostRuntime) {
+    assert!(rt; put(&mut NullSink::new(), b"abc") == Ok(()));
 }
 
 #[test]

@@ -37,31 +37,41 @@ fn has_tokens(alloc: Global, text: &[u8], want: &[(TokenKind, &str)]) -> bool {
     found.len() == want.len()
 }
 
+/// Texts with the two tokens of each.
+static TOKENS: [(&str, &[(TokenKind, &str)]); 10] = [
+    // each kind, with the spelling that it takes
+    (
+        "test interpret\nset a\n",
+        &[(HEADER, "test interpret"), (HEADER, "set a")],
+    ),
+    (
+        "; c\r\n  target x86_64\r\n",
+        &[(COMMENT, "; c\r"), (HEADER, "target x86_64\r")],
+    ),
+    ("%f_0 v0", &[(NAME, "%f_0"), (WORD, "v0")]),
+    ("-0x1_f->", &[(NUMBER, "-0x1_f"), (ARROW, "->")]),
+    ("@0ag", &[(SRCLOC, "@0a"), (WORD, "g")]),
+    ("tests:", &[(WORD, "tests"), (COLON, ":")]),
+    // the rules on underscores, signs and first words
+    ("1__0 0xf_", &[(NUMBER, "1__0"), (NUMBER, "0xf_")]),
+    ("v0+8", &[(WORD, "v0"), (NUMBER, "+8")]),
+    ("1 test", &[(NUMBER, "1"), (WORD, "test")]),
+    ("test:x\nv01", &[(HEADER, "test:x"), (WORD, "v01")]),
+];
+
+/// The first of the texts that has other tokens.
+fn first_wrong(alloc: Global) -> Option<&'static str> {
+    for (text, want) in TOKENS.iter() {
+        if !has_tokens(alloc, text.as_bytes(), want) {
+            return Some(*text);
+        }
+    }
+    None
+}
+
 #[test]
 fn reads_tokens(rt: HostRuntime) {
-    for (text, want) in [
-        // each kind, with the spelling that it takes
-        (
-            "test interpret\nset a\n",
-            [(HEADER, "test interpret"), (HEADER, "set a")],
-        ),
-        (
-            "; c\r\n  target x86_64\r\n",
-            [(COMMENT, "; c\r"), (HEADER, "target x86_64\r")],
-        ),
-        ("%f_0 v0", [(NAME, "%f_0"), (WORD, "v0")]),
-        ("-0x1_f->", [(NUMBER, "-0x1_f"), (ARROW, "->")]),
-        ("@0ag", [(SRCLOC, "@0a"), (WORD, "g")]),
-        ("tests:", [(WORD, "tests"), (COLON, ":")]),
-        // the rules on underscores, signs and first words
-        ("1__0 0xf_", [(NUMBER, "1__0"), (NUMBER, "0xf_")]),
-        ("v0+8", [(WORD, "v0"), (NUMBER, "+8")]),
-        ("1 test", [(NUMBER, "1"), (WORD, "test")]),
-        ("test:x\nv01", [(HEADER, "test:x"), (WORD, "v01")]),
-    ] {
-        let agrees = has_tokens(rt.alloc(), text.as_bytes(), want.as_slice());
-        assert!(rt; agrees, "at {text}");
-    }
+    assert_eq!(rt; first_wrong(rt.alloc()), None);
 }
 
 /// The value of the first token, if it is a number.
@@ -160,33 +170,36 @@ fn has_fault(alloc: Global, text: &[u8], want: TextKind, line: u32, column: u32)
     kind == want && found.line == line && found.column == column
 }
 
+/// Ends of a text, each with its fault, whose line is counted from the text's first one.
+static FAULTS: [(&str, TextKind, u32, u32); 10] = [
+    (
+        "    v1 = iadd v0, #\n    return v0\n}\n",
+        TextKind::BadChar,
+        3,
+        19,
+    ),
+    (
+        "    v1 = iconst.i64 0x\n    return v0\n}\n",
+        TextKind::BadNumber,
+        3,
+        21,
+    ),
+    ("1_a", TextKind::BadNumber, 3, 1),
+    ("\n 0x_1", TextKind::BadNumber, 4, 2),
+    ("0X1", TextKind::BadNumber, 3, 1),
+    (" @g", TextKind::BadNumber, 3, 2),
+    ("18446744073709551616", TextKind::BadNumber, 3, 1),
+    ("-9223372036854775809", TextKind::BadNumber, 3, 1),
+    ("v0 -", TextKind::BadChar, 3, 4),
+    ("%", TextKind::BadChar, 3, 1),
+];
+
 #[test]
 fn names_faults(rt: HostRuntime) -> Result<(), AllocError> {
     let head = "function %f(i64) -> i64 {\nblock0(v0: i64):\n";
-    for (line, want, line_number, column) in [
-        (
-            "    v1 = iadd v0, #\n    return v0\n}\n",
-            TextKind::BadChar,
-            3,
-            19,
-        ),
-        (
-            "    v1 = iconst.i64 0x\n    return v0\n}\n",
-            TextKind::BadNumber,
-            3,
-            21,
-        ),
-        ("1_a", TextKind::BadNumber, 3, 1),
-        ("\n 0x_1", TextKind::BadNumber, 4, 2),
-        ("0X1", TextKind::BadNumber, 3, 1),
-        (" @g", TextKind::BadNumber, 3, 2),
-        ("18446744073709551616", TextKind::BadNumber, 3, 1),
-        ("-9223372036854775809", TextKind::BadNumber, 3, 1),
-        ("v0 -", TextKind::BadChar, 3, 4),
-        ("%", TextKind::BadChar, 3, 1),
-    ] {
+    for (line, want, line_number, column) in FAULTS.iter() {
         let text = format!(in rt.alloc(); "{head}{line}")?;
-        let agrees = has_fault(rt.alloc(), text.as_bytes(), want, line_number, column);
+        let agrees = has_fault(rt.alloc(), text.as_bytes(), *want, *line_number, *column);
         assert!(rt; agrees, "at {line}");
     }
     Ok(())

@@ -1,7 +1,10 @@
 //! The vectors that bench/eval_vectors.py writes, which has its own integers, against `eval`.
+ghost use Rattle.std.specs.Prelude.{◌≤◌};
+
 use crate::narrow_vectors::NARROW;
 use crate::wide_vectors::WIDE;
 use clk_num::{Bits, Cc, Evaled, Op, TrapCode, Width, eval, fits};
+use std::str::SplitWhitespace;
 
 static UNARY: [Op; 21] = [
     Op::Ineg,
@@ -65,34 +68,40 @@ static SHIFTS: [Op; 5] = [Op::Ishl, Op::Ushr, Op::Sshr, Op::Rotl, Op::Rotr];
 
 static SELECT: [Op; 1] = [Op::Select];
 
+/// The letter before the digits of a value of each width.
+static LETTERS: [(char, Width); 5] = [
+    ('B', Width::W8),
+    ('H', Width::W16),
+    ('W', Width::W32),
+    ('D', Width::W64),
+    ('Q', Width::W128),
+];
+
 /// The value that a word stands for.
 fn value(word: &str) -> Option<Bits> {
-    for (letter, width) in [
-        ('B', Width::W8),
-        ('H', Width::W16),
-        ('W', Width::W32),
-        ('D', Width::W64),
-        ('Q', Width::W128),
-    ] {
-        if let Some(digits) = word.strip_prefix(letter) {
+    for (letter, width) in LETTERS.iter() {
+        if let Some(digits) = word.strip_prefix(*letter) {
             let value = u128::from_str_radix(digits, 16).ok()?;
-            return Some(Bits::new(width, value));
+            return Some(Bits::new(*width, value));
         }
     }
     None
 }
 
-/// The result that a word stands for.
-fn wanted(word: &str) -> Option<Evaled> {
-    if word == "!z" {
-        return Some(Evaled::Trap(TrapCode::IntDivz));
-    }
-    if word == "!o" {
-        return Some(Evaled::Trap(TrapCode::IntOvf));
-    }
+/// The one or two values that a word stands for.
+fn values(word: &str) -> Option<Evaled> {
     match word.split_once(',') {
         Some((first, second)) => Some(Evaled::Two(value(first)?, value(second)?)),
         None => Some(Evaled::One(value(word)?)),
+    }
+}
+
+/// The result that a word stands for.
+fn wanted(word: &str) -> Option<Evaled> {
+    match word {
+        "!z" => Some(Evaled::Trap(TrapCode::IntDivz)),
+        "!o" => Some(Evaled::Trap(TrapCode::IntOvf)),
+        _ => values(word),
     }
 }
 
@@ -105,30 +114,23 @@ fn agrees(op: Op, args: &[Bits], word: &str) -> bool {
     }
 }
 
-/// How many cases the line has, where each agrees.
-fn agreeing(line: &str) -> Option<u32> {
-    let mut words = line.split_whitespace();
-    let kind = words.next()?;
-    let x = value(words.next()?)?;
-    let mut args = [x, x, x];
-    let (ops, count) = if kind == "u" {
-        (UNARY.as_slice(), 1)
-    } else if kind == "t" {
-        args[1] = value(words.next()?)?;
-        args[2] = value(words.next()?)?;
-        (SELECT.as_slice(), 3)
-    } else {
-        args[1] = value(words.next()?)?;
-        let ops = if kind == "b" {
-            BINARY.as_slice()
-        } else {
-            SHIFTS.as_slice()
-        };
-        (ops, 2)
-    };
+/// The operations that a line of this kind has results of, and how many operands they take.
+fn operations(kind: &str) -> (&'static [Op], usize)
+    ensures { result.1 ≤ 3 }
+{
+    match kind {
+        "u" => (UNARY.as_slice(), 1),
+        "b" => (BINARY.as_slice(), 2),
+        "t" => (SELECT.as_slice(), 3),
+        _ => (SHIFTS.as_slice(), 2),
+    }
+}
+
+/// How many operations there are, where each agrees with its word and no word is left.
+fn agreeing_words(ops: &[Op], args: &[Bits], words: &mut SplitWhitespace) -> Option<u32> {
     let mut cases: u32 = 0;
     for op in ops {
-        if !agrees(*op, &args[..count], words.next()?) {
+        if !agrees(*op, args, words.next()?) {
             return None;
         }
         cases = cases.wrapping_add(1);
@@ -137,6 +139,23 @@ fn agreeing(line: &str) -> Option<u32> {
         Some(_) => None,
         None => Some(cases),
     }
+}
+
+/// Takes a value from each of the next words.
+fn take_values(words: &mut SplitWhitespace, values: &mut [Bits]) -> Option<()> {
+    for place in values {
+        *place = value(words.next()?)?;
+    }
+    Some(())
+}
+
+/// How many cases the line has, where each agrees.
+fn agreeing(line: &str) -> Option<u32> {
+    let mut words = line.split_whitespace();
+    let (ops, count) = operations(words.next()?);
+    let mut args = [Bits::new(Width::W8, 0); 3];
+    take_values(&mut words, &mut args[..count])?;
+    agreeing_words(ops, &args[..count], &mut words)
 }
 
 /// How many cases the lines have, where each agrees; else the first line that does not.
@@ -151,10 +170,13 @@ fn agreeing_lines(lines: &str) -> Result<u32, &str> {
     Ok(cases)
 }
 
+/// The lines of all vectors.
+static VECTORS: [&str; 2] = [NARROW, WIDE];
+
 #[test]
 fn eval_gives_what_python_gives(rt: HostRuntime) {
     let mut cases: u32 = 0;
-    for lines in [NARROW, WIDE] {
+    for lines in VECTORS.iter() {
         match agreeing_lines(lines) {
             Ok(agreed) => cases = cases.wrapping_add(agreed),
             Err(line) => assert!(rt; false, "at {line}"),

@@ -14,17 +14,40 @@ fn inner(alloc: Global) -> Result<(Tags, bool), AllocError> {
     Ok((inner, has_slot))
 }
 
+/// The tags of the site and then those of the callee's line.
+fn both(alloc: Global) -> Result<Tags, AllocError> {
+    let (inner, _) = inner(alloc)?;
+    prefixed(alloc, &outer(alloc)?, &inner)
+}
+
+#[test]
+fn slots_are_seen(rt: HostRuntime) -> Result<(), AllocError> {
+    let (_, has_slot) = inner(rt.alloc())?;
+    assert!(rt; has_slot);
+    assert!(rt; !outer(rt.alloc())?.has_slot());
+    Ok(())
+}
+
+/// Whether a copy of the tags is equal to them.
+fn is_copied(tags: &Tags) -> Result<bool, AllocError> {
+    Ok(tags.clone()? == *tags)
+}
+
+/// Whether these are all the tags, in their order.
+fn is_both(tags: &Tags) -> bool {
+    tags.list() == [Tag::User(7), Tag::Slot(3), Tag::User(1)].as_slice()
+}
+
+/// How many tags the list has that is taken out.
+fn count(tags: Tags) -> usize {
+    tags.into_list().len()
+}
+
 #[test]
 fn outer_tags_stand_first(rt: HostRuntime) -> Result<(), AllocError> {
-    let alloc = rt.alloc();
-    let outer = outer(alloc)?;
-    let (inner, has_slot) = inner(alloc)?;
-    assert!(rt; has_slot);
-    assert!(rt; !outer.has_slot());
-    let tags = prefixed(alloc, &outer, &inner)?;
-    let expected = [Tag::User(7), Tag::Slot(3), Tag::User(1)];
-    assert!(rt; tags.list() == expected.as_slice());
-    assert!(rt; tags.clone()? == tags);
-    assert_eq!(rt; tags.into_list().len(), 3);
+    let tags = both(rt.alloc())?;
+    assert!(rt; is_both(&tags));
+    assert!(rt; is_copied(&tags)?);
+    assert_eq!(rt; count(tags), 3);
     Ok(())
 }

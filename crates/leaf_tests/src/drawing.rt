@@ -27,7 +27,7 @@ fn halves<R: Threads + Sync>(
 fn each_number_is_drawn(rt: HostRuntime) -> Result<(), AllocError> {
     for workers in [0, 1, 2, 5, 200] {
         let halves = halves(&rt, rt.alloc(), 100, workers)?;
-        assert!(rt; are_halves(halves.as_slice()));
+        assert!(rt; are_halves(halves.as_slice()), "by {workers}");
     }
     assert!(rt; halves(&rt, rt.alloc(), 0, 5)?.is_empty());
     Ok(())

@@ -170,7 +170,7 @@ fn has_fault(alloc: Global, text: &[u8], want: TextKind, line: u32, column: u32)
     kind == want && found.line == line && found.column == column
 }
 
-/// Ends of a text, each with its fault, whose line is counted from the text's first one.
+/// Ends of a text, each with its fault and the fault's line and column in the whole text.
 static FAULTS: [(&str, TextKind, u32, u32); 10] = [
     (
         "    v1 = iadd v0, #\n    return v0\n}\n",

@@ -170,13 +170,20 @@ fn agreeing_lines(lines: &str) -> Result<u32, &str> {
     Ok(cases)
 }
 
-/// The lines of all vectors.
-static VECTORS: [&str; 2] = [NARROW, WIDE];
+/// The lines of i8, i16 and i32. A proof takes long to step past so long a text, so that no function does more with it.
+fn narrow() -> &'static str {
+    NARROW
+}
+
+/// The lines of i64 and i128, which stand alone for the same reason.
+fn wide() -> &'static str {
+    WIDE
+}
 
 #[test]
 fn eval_gives_what_python_gives(rt: HostRuntime) {
     let mut cases: u32 = 0;
-    for lines in VECTORS.iter() {
+    for lines in [narrow(), wide()] {
         match agreeing_lines(lines) {
             Ok(agreed) => cases = cases.wrapping_add(agreed),
             Err(line) => assert!(rt; false, "at {line}"),

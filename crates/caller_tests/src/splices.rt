@@ -1,5 +1,8 @@
 //! What no clause says: that memory suffices to replace a call of each kind, in two steps and in one.
-ghost use Rattle.std.specs.Prelude.{◌≡◌, ◌<◌};
+ghost use Rattle.std.specs.Prelude.{◌≡◌, ◌<◌, []};
+ghost use Rattle.ir_core.specs.WellFormed.{WellFormed};
+ghost use Rattle.ir_semantics.specs.Accepted.{RulesHold};
+ghost use Rattle.inline_caller.specs.Replacing.{CanReplace};
 
 use crate::sites::{can_replace, first_line, function};
 use clif_check::check_text;
@@ -145,8 +148,47 @@ enum Way {
     OneStep,
 }
 
-/// The second function of a module, with its first line replaced by the body of the first function.
+/// Replaces a call that can be replaced. `None` where memory runs out.
 #[tactic(auto, using(inline_caller::proofs::PreparedCalls::can_put))]
+fn replace<L: Ledger>(
+    alloc: Global,
+    caller: &mut Func,
+    site: Point,
+    callee: &Func,
+    way: Way,
+    steps: &mut Steps<L>,
+) -> Option<()>
+    requires { CanReplace caller.old.function callee.now.function site }
+{
+    match way {
+        Way::TwoSteps => {
+            let call = prepare(alloc, caller, site, callee).ok()?;
+            put_piece(caller, call, steps);
+            Some(())
+        }
+        Way::OneStep => splice(alloc, caller, site, callee, steps).ok(),
+    }
+}
+
+/// Replaces the first line of a caller by the body of a callee. `None` where it is no call that can be replaced.
+fn replace_first<L: Ledger>(
+    alloc: Global,
+    caller: &mut Func,
+    callee: &Func,
+    way: Way,
+    steps: &mut Steps<L>,
+) -> Option<()>
+    requires whole { WellFormed caller.old.function × WellFormed callee.now.function }
+    requires accepted { RulesHold [] caller.old.function × RulesHold [] callee.now.function }
+{
+    let Point { block, index } = first_line(caller)?;
+    let Ok(true) = can_replace(alloc, caller, Point { block, index }, callee) else {
+        return None;
+    };
+    replace(alloc, caller, Point { block, index }, callee, way, steps)
+}
+
+/// The second function of a module, with its first line replaced by the body of the first function.
 fn replaced_by<L: Ledger>(
     alloc: Global,
     checked: &Checked,
@@ -161,20 +203,7 @@ fn replaced_by<L: Ledger>(
     }
     let callee = function(checked.module(), 0);
     let mut caller = function(checked.module(), 1).copy().ok()?;
-    let Point { block, index } = first_line(&caller)?;
-    let Ok(true) = can_replace(alloc, &caller, Point { block, index }, callee) else {
-        return None;
-    };
-    let site = Point { block, index };
-    match way {
-        Way::TwoSteps => {
-            let Ok(call) = prepare(alloc, &mut caller, site, callee) else {
-                return None;
-            };
-            put_piece(&mut caller, call, &mut steps);
-        }
-        Way::OneStep => splice(alloc, &mut caller, site, callee, &mut steps).ok()?,
-    }
+    replace_first(alloc, &mut caller, callee, way, &mut steps)?;
     text_of(alloc, &caller)
 }
 
@@ -183,18 +212,18 @@ fn replaced(alloc: Global, checked: &Checked, way: Way) -> Option<Vec<u8>> {
     replaced_by::<Brand>(alloc, checked, way, Blank::new(1))
 }
 
+/// Whether the second function of a module becomes the text that way.
+fn becomes_by(alloc: Global, checked: &Checked, way: Way, text: &str) -> bool {
+    replaced(alloc, checked, way).is_some_and(|found| found.as_slice() == text.as_bytes())
+}
+
 /// Whether the second function of a text becomes the other text, in two steps and in one.
 fn becomes<R: Threads + Sync>(rt: &R, alloc: Global, text: &str, other: &str) -> bool {
     let Ok(checked) = check_text(rt, alloc, text.as_bytes(), 1) else {
         return false;
     };
-    let Some(put) = replaced(alloc, &checked, Way::TwoSteps) else {
-        return false;
-    };
-    let Some(spliced) = replaced(alloc, &checked, Way::OneStep) else {
-        return false;
-    };
-    put.as_slice() == other.as_bytes() && spliced.as_slice() == other.as_bytes()
+    becomes_by(alloc, &checked, Way::TwoSteps, other)
+        && becomes_by(alloc, &checked, Way::OneStep, other)
 }
 
 #[test]

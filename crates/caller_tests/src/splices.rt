@@ -170,7 +170,8 @@ fn replace<L: Ledger>(
     }
 }
 
-/// Replaces the first line of a caller by the body of a callee. `None` where it is no call that can be replaced.
+/// Replaces the first line of a caller by the body of a callee. `None` where it is no call that can be replaced, and
+/// where memory runs out.
 fn replace_first<L: Ledger>(
     alloc: Global,
     caller: &mut Func,

@@ -4,6 +4,7 @@ use clif_check::check_text;
 use clif_lex::{TextErr, place};
 use ir_check::Checked;
 use std::alloc::Global;
+use std::process::Abort;
 use std::thread::Threads;
 
 /// What `check` answers to a text.
@@ -55,4 +56,17 @@ pub(crate) fn check<R: Threads + Sync>(
         Ok(checked) => Answer::Accepted(checked.module().len()),
         Err(answer) => answer,
     }
+}
+
+/// Asserts that `check` answers so to a text, read by so many workers. The words name the case.
+pub(crate) fn assert_answer<R: Abort + Threads + Sync>(
+    rt: &R,
+    alloc: Global,
+    text: &[u8],
+    workers: usize,
+    wanted: Answer,
+    words: &str,
+) {
+    let found = check(rt, alloc, text, workers);
+    assert_eq!(rt; found, wanted, "at {words}");
 }

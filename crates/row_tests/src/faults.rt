@@ -1,6 +1,6 @@
 //! Texts that are refused, each with the kind and the place of its first fault, and texts that are accepted.
 
-use crate::checking::{Answer, check};
+use crate::checking::{Answer, assert_answer};
 use crate::texts::{CATCHES_TWICE, CONSTANT, UNREACHED};
 use std::alloc::{AllocError, Global};
 
@@ -21,7 +21,7 @@ fn with_wide_line(alloc: Global, line: &str) -> Result<String, AllocError> {
 
 #[test]
 fn first_fault_of_a_line(rt: HostRuntime) -> Result<(), AllocError> {
-    for (line, kind, row, column) in [
+    for (line, kind, row, column) in &[
         ("v1 = iadd v0, #", "BadChar", 3, 19),
         ("v1 = iconst.i64 0x", "BadNumber", 3, 21),
         ("v1 = iadd v0", "Syntax", 4, 5),
@@ -42,25 +42,25 @@ fn first_fault_of_a_line(rt: HostRuntime) -> Result<(), AllocError> {
         ("trap user1", "NoTerminator", 3, 5),
     ] {
         let text = with_line(rt.alloc(), line)?;
-        let found = check(&rt, rt.alloc(), text.as_bytes(), 1);
-        assert_eq!(rt; found, Answer::Refused(kind, row, column), "at {line}");
+        let wanted = Answer::Refused(kind, *row, *column);
+        assert_answer(&rt, rt.alloc(), text.as_bytes(), 1, wanted, line);
     }
     Ok(())
 }
 
 #[test]
 fn first_fault_of_a_wide_line(rt: HostRuntime) -> Result<(), AllocError> {
-    for line in ["v6 = udiv v2, v2", "v6 = iconst.i128 1"] {
+    for line in &["v6 = udiv v2, v2", "v6 = iconst.i128 1"] {
         let text = with_wide_line(rt.alloc(), line)?;
-        let found = check(&rt, rt.alloc(), text.as_bytes(), 1);
-        assert_eq!(rt; found, Answer::Refused("TypeMismatch", 4, 10), "at {line}");
+        let wanted = Answer::Refused("TypeMismatch", 4, 10);
+        assert_answer(&rt, rt.alloc(), text.as_bytes(), 1, wanted, line);
     }
     Ok(())
 }
 
 #[test]
 fn first_fault_of_a_text(rt: HostRuntime) {
-    for (text, kind, row, column) in [
+    for (text, kind, row, column) in &[
         (
             "function %f() tail {\n    ss0 = explicit_slot 4\n    fn0 = %h() tail\nblock0:\n    \
              <ss0> return_call fn0()\n}\n",
@@ -126,16 +126,16 @@ fn first_fault_of_a_text(rt: HostRuntime) {
             36,
         ),
     ] {
-        let found = check(&rt, rt.alloc(), text.as_bytes(), 1);
-        assert_eq!(rt; found, Answer::Refused(kind, row, column), "at {text}");
+        let wanted = Answer::Refused(kind, *row, *column);
+        assert_answer(&rt, rt.alloc(), text.as_bytes(), 1, wanted, text);
     }
 }
 
 #[test]
 fn accepted_texts(rt: HostRuntime) {
-    for (text, functions) in [("", 0), (CONSTANT, 2), (UNREACHED, 1)] {
-        let found = check(&rt, rt.alloc(), text.as_bytes(), 1);
-        assert_eq!(rt; found, Answer::Accepted(functions), "at {text}");
+    for (text, functions) in &[("", 0), (CONSTANT, 2), (UNREACHED, 1)] {
+        let wanted = Answer::Accepted(*functions);
+        assert_answer(&rt, rt.alloc(), text.as_bytes(), 1, wanted, text);
     }
 }
 
@@ -157,26 +157,22 @@ fn texts_cut_behind_a_token(rt: HostRuntime) {
     let mut column = 1u32;
     let mut functions = 0usize;
     let mut cuts = 0u32;
-    for i in 0..text.len() {
-        let (cut, rest) = text.split_at(i);
-        let (Some(last), Some(next)) = (cut.last(), rest.first()) else {
-            continue;
-        };
+    for i in 1..text.len() {
+        let last = text[i - 1];
         column = column.saturating_add(1);
-        if *last == b'\n' {
+        if last == b'\n' {
             row = row.saturating_add(1);
             column = 1;
         }
-        if ends_token(*last, *next) {
+        if ends_token(last, text[i]) {
             cuts = cuts.saturating_add(1);
-            let wanted = if *last == b'}' {
+            let wanted = if last == b'}' {
                 functions = functions.saturating_add(1);
                 Answer::Accepted(functions)
             } else {
                 Answer::Refused("Syntax", row, column)
             };
-            let found = check(&rt, rt.alloc(), cut, 1);
-            assert_eq!(rt; found, wanted, "at {i}");
+            assert_answer(&rt, rt.alloc(), &text[..i], 1, wanted, "a cut");
         }
     }
     assert_eq!(rt; (functions, cuts), (2, 146));

@@ -1,9 +1,10 @@
 //! What a caller takes over from a callee before its body.
+ghost use Rattle.std.specs.Prelude.{◌≡◌, length, IsTrue};
 
 use crate::checking::accepted;
-use body_import::import;
+use body_import::{Maps, import};
 use ir_core::{Func, FuncRef, SigRef};
-use std::alloc::AllocError;
+use std::alloc::{AllocError, Global};
 
 /// A caller with a slot, two signatures and two callees; its callee has each of these signatures, one of these callees,
 /// and one more.
@@ -35,22 +36,44 @@ fn counts(func: &Func) -> (usize, usize, usize, usize) {
     )
 }
 
+/// Whether a function has a slot, and two signatures, callee declarations and values.
+fn has_declarations(func: &Func) -> bool
+    ensures slots { IsTrue result → length func.now.function.slots ≡ 1 }
+    ensures sigs { IsTrue result → length func.now.function.sigs ≡ 2 }
+    ensures callees { IsTrue result → length func.now.function.callees ≡ 2 }
+    ensures values { IsTrue result → length func.now.function.types ≡ 2 }
+{
+    func.slots().len() == 1
+        && func.sigs().len() == 2
+        && func.callees().len() == 2
+        && func.values() == 2
+}
+
+/// Whether the numbers of what is taken over are these.
+fn is_mapped(maps: &Maps) -> bool {
+    maps.slot_base == 1
+        && maps.value_base == 2
+        && maps.sigs.as_slice() == [SigRef::new(1), SigRef::new(0)].as_slice()
+        && maps.callees.as_slice() == [FuncRef::new(2), FuncRef::new(0)].as_slice()
+}
+
+/// Whether a caller takes over what is new to it in a callee, and the numbers of the rest.
+fn takes_over(alloc: Global, caller: &Func, callee: &Func) -> Result<bool, AllocError> {
+    let mut caller = caller.copy()?;
+    if !has_declarations(&caller) || !has_declarations(callee) {
+        return Ok(false);
+    }
+    let maps = import(alloc, &mut caller, callee)?;
+    Ok(is_mapped(&maps) && counts(&caller) == (2, 2, 3, 4))
+}
+
 #[test]
 fn takes_over_what_a_callee_declares(rt: HostRuntime) -> Result<(), AllocError> {
     let Ok(checked) = accepted(&rt, rt.alloc(), DECLARATIONS.as_bytes(), 1) else {
         return Err(AllocError);
     };
-    assert_eq!(rt; checked.module().len(), 2);
-    let mut caller = checked.module().func(0).copy()?;
-    let callee = checked.module().func(1);
-    assert!(rt; caller.slots().len() == 1 && callee.slots().len() == 1);
-    assert!(rt; caller.sigs().len() == 2 && callee.sigs().len() == 2);
-    assert!(rt; caller.callees().len() == 2 && callee.callees().len() == 2);
-    assert!(rt; caller.values() == 2 && callee.values() == 2);
-    let maps = import(rt.alloc(), &mut caller, callee)?;
-    assert_eq!(rt; (maps.slot_base, maps.value_base), (1, 2));
-    assert!(rt; maps.sigs.as_slice() == [SigRef::new(1), SigRef::new(0)].as_slice());
-    assert!(rt; maps.callees.as_slice() == [FuncRef::new(2), FuncRef::new(0)].as_slice());
-    assert_eq!(rt; counts(&caller), (2, 2, 3, 4));
+    let module = checked.module();
+    assert_eq!(rt; module.len(), 2);
+    assert!(rt; takes_over(rt.alloc(), module.func(0), module.func(1))?);
     Ok(())
 }

@@ -1,6 +1,6 @@
 //! The largest function and the largest module, and what is past them.
 
-use crate::checking::{Answer, check};
+use crate::checking::{Answer, assert_answer};
 use std::alloc::{AllocError, Global};
 
 /// A function that does nothing so many times, then returns.
@@ -21,26 +21,38 @@ fn functions(alloc: Global, count: u32) -> Result<String, AllocError> {
 
 #[test]
 fn the_largest_function(rt: HostRuntime) -> Result<(), AllocError> {
-    for (count, wanted) in [
+    for (count, wanted) in &[
         (262_142, Answer::Accepted(1)),
         (262_143, Answer::Refused("TooLarge", 1, 10)),
     ] {
-        let text = idle(rt.alloc(), count)?;
-        let found = check(&rt, rt.alloc(), text.as_bytes(), 4);
-        assert_eq!(rt; found, wanted, "at {count}");
+        let text = idle(rt.alloc(), *count)?;
+        assert_answer(
+            &rt,
+            rt.alloc(),
+            text.as_bytes(),
+            4,
+            *wanted,
+            "a count of lines",
+        );
     }
     Ok(())
 }
 
 #[test]
 fn the_largest_module(rt: HostRuntime) -> Result<(), AllocError> {
-    for (count, wanted) in [
+    for (count, wanted) in &[
         (65_536, Answer::Accepted(65_536)),
         (65_537, Answer::Refused("TooLarge", 262_145, 10)),
     ] {
-        let text = functions(rt.alloc(), count)?;
-        let found = check(&rt, rt.alloc(), text.as_bytes(), 4);
-        assert_eq!(rt; found, wanted, "at {count}");
+        let text = functions(rt.alloc(), *count)?;
+        assert_answer(
+            &rt,
+            rt.alloc(),
+            text.as_bytes(),
+            4,
+            *wanted,
+            "a count of functions",
+        );
     }
     Ok(())
 }

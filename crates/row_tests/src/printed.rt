@@ -5,8 +5,17 @@ use crate::texts::CONSTANT;
 use clif_numbers::numbering;
 use clif_print::print;
 use clk_flow::MemSink;
+use ir_core::Module;
 use std::alloc::{AllocError, Global};
 use std::thread::Threads;
+
+/// Whether a module is printed so.
+fn prints(alloc: Global, module: &Module, printed: &[u8]) -> Result<bool, AllocError> {
+    let numbers = numbering(alloc, module)?;
+    let mut out = MemSink::new(alloc, Vec::new(alloc), 1000)?;
+    let done = print(module, &numbers, &mut out);
+    Ok(done.is_ok() && out.bytes() == printed)
+}
 
 /// Whether a text, which is accepted, is printed so.
 fn is_printed<R: Threads + Sync>(
@@ -15,20 +24,15 @@ fn is_printed<R: Threads + Sync>(
     text: &[u8],
     printed: &[u8],
 ) -> Result<bool, AllocError> {
-    let Ok(checked) = accepted(rt, alloc, text, 1) else {
-        return Ok(false);
-    };
-    let numbers = numbering(alloc, checked.module())?;
-    let mut out = MemSink::new(alloc, Vec::new(alloc), 1000)?;
-    if print(checked.module(), &numbers, &mut out).is_err() {
-        return Ok(false);
+    match accepted(rt, alloc, text, 1) {
+        Ok(checked) => prints(alloc, checked.module(), printed),
+        Err(_) => Ok(false),
     }
-    Ok(out.bytes() == printed)
 }
 
 #[test]
 fn printed_texts(rt: HostRuntime) -> Result<(), AllocError> {
-    for (text, printed) in [
+    for (text, printed) in &[
         ("", ""),
         ("; a\n; b", ""),
         (

@@ -11,6 +11,7 @@ use ir_check::Checked;
 use program_run::{RunErr, run_spelled, run_text};
 use script_text::{ScriptErr, number_list, script};
 use std::alloc::{AllocError, Global};
+use std::process::Abort;
 use std::thread::Threads;
 
 /// What a run asks for beside its text.
@@ -32,8 +33,18 @@ const PLAIN: Asked = Asked {
     steps: 1_000_000,
 };
 
+/// What is asked for with these arguments, this script and so many steps.
+fn ask(args: &'static str, script: &'static str, steps: u64) -> Asked {
+    Asked {
+        args,
+        script,
+        steps,
+        ..PLAIN
+    }
+}
+
 /// Why a run is refused.
-#[derive(Clone, Copy, Debug, PartialEq)]
+#[derive(Clone, Copy, PartialEq)]
 enum Refusal {
     /// At this byte of the script, the first of which is byte 1.
     BadScript(usize),
@@ -108,20 +119,23 @@ fn written<R: Threads + Sync>(
     }
 }
 
-/// Whether the run of a text writes this.
-fn writes<R: Threads + Sync>(
+/// Asserts that the run of a text writes this.
+fn assert_writes<R: Abort + Threads + Sync>(
     rt: &R,
     alloc: Global,
     text: &str,
     asked: Asked,
     wanted: &str,
-) -> bool {
-    written(rt, alloc, text, asked).is_ok_and(|found| found.as_slice() == wanted.as_bytes())
+) {
+    let found = written(rt, alloc, text, asked);
+    let is_so = found.is_ok_and(|found| found.as_slice() == wanted.as_bytes());
+    let Asked { args, script, .. } = asked;
+    assert!(rt; is_so, "{wanted} at {args} and {script} of {text}");
 }
 
 #[test]
 fn runs_without_a_host(rt: HostRuntime) {
-    for (text, args, steps, wanted) in [
+    for (text, args, steps, wanted) in &[
         (CALLS, "5", 1_000_000, "returned [11]\n"),
         (LOOPS, "0", 1_000_000, "returned [7]\n"),
         (LOOPS, "3", 1_000_000, "returned [0]\n"),
@@ -133,19 +147,13 @@ fn runs_without_a_host(rt: HostRuntime) {
         (ADDRESSES, "0", 1_000_000, "returned [17]\n"),
         (NO_ADDRESS, "0", 1_000_000, "trapped heap_oob\n"),
     ] {
-        let asked = Asked {
-            args,
-            steps,
-            ..PLAIN
-        };
-        let is_so = writes(&rt, rt.alloc(), text, asked, wanted);
-        assert!(rt; is_so, "{wanted} at {args} of {text}");
+        assert_writes(&rt, rt.alloc(), text, ask(args, "", *steps), wanted);
     }
 }
 
 #[test]
 fn runs_of_one_operation(rt: HostRuntime) {
-    for (text, args, wanted) in [
+    for (text, args, wanted) in &[
         (
             "function %f() -> i8 {\nblock0:\n    v0 = iconst.i8 128\n    v1 = iconst.i8 -1\n    \
              v2 = sdiv v0, v1\n    return v2\n}\n",
@@ -188,15 +196,13 @@ fn runs_of_one_operation(rt: HostRuntime) {
             "returned [4, 4]\n",
         ),
     ] {
-        let asked = Asked { args, ..PLAIN };
-        let is_so = writes(&rt, rt.alloc(), text, asked, wanted);
-        assert!(rt; is_so, "{wanted} of {text}");
+        assert_writes(&rt, rt.alloc(), text, ask(args, "", 1_000_000), wanted);
     }
 }
 
 #[test]
 fn runs_with_a_host(rt: HostRuntime) {
-    for (text, args, script, steps, wanted) in [
+    for (text, args, script, steps, wanted) in &[
         (
             CATCHES,
             "5",
@@ -251,31 +257,27 @@ fn runs_with_a_host(rt: HostRuntime) {
         ),
         (TAGS_UNWRITTEN, "", "return", 1_000_000, "unwritten\n"),
     ] {
-        let asked = Asked {
-            args,
-            script,
-            steps,
-            ..PLAIN
-        };
-        let is_so = writes(&rt, rt.alloc(), text, asked, wanted);
-        assert!(rt; is_so, "{wanted} at {script} of {text}");
+        assert_writes(&rt, rt.alloc(), text, ask(args, script, *steps), wanted);
     }
 }
 
 #[test]
 fn runs_in_a_memory(rt: HostRuntime) {
-    for (memory, wanted) in [
+    for (memory, wanted) in &[
         (20, "returned []\nmemory 00000010: 00 00 02 01\n"),
         (19, "trapped heap_oob\n"),
     ] {
-        let asked = Asked { memory, ..PLAIN };
-        assert!(rt; writes(&rt, rt.alloc(), STORE, asked, wanted), "{wanted}");
+        let asked = Asked {
+            memory: *memory,
+            ..PLAIN
+        };
+        assert_writes(&rt, rt.alloc(), STORE, asked, wanted);
     }
 }
 
 #[test]
 fn refused_runs(rt: HostRuntime) {
-    for (text, entry, args, script, refusal) in [
+    for (text, entry, args, script, refusal) in &[
         (STORE, "%x", "", "", Refusal::NoEntry),
         ("", "%f", "-5", "", Refusal::NoEntry),
         (STORE, "%f", "1", "", Refusal::BadArgs),
@@ -288,6 +290,6 @@ fn refused_runs(rt: HostRuntime) {
             ..PLAIN
         };
         let found = written(&rt, rt.alloc(), text, asked);
-        assert!(rt; found.is_err_and(|err| err == refusal), "at {entry}");
+        assert!(rt; found.is_err_and(|err| err == *refusal), "at {entry}");
     }
 }

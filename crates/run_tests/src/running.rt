@@ -49,29 +49,42 @@ fn identity(alloc: Global, name: FuncName) -> Result<Func, AllocError>
     Ok(func)
 }
 
-/// The text of two steps of the run of the function whose name is spelled so, with one number.
-fn told(alloc: Global, checked: &Checked, entry: &[u8], number: i128) -> Result<Vec<u8>, RunErr> {
+/// The text of two steps of the run of the function whose name is spelled so, with -42.
+fn told(alloc: Global, checked: &Checked, entry: &[u8]) -> Result<Vec<u8>, RunErr> {
     let script = Script {
         replies: List::from_vec(Vec::new(alloc)),
     };
     let memory = Memory::new(Vec::new(alloc));
-    let outcome = run_spelled(alloc, checked, entry, &[number], &script, memory, 2)?;
+    let outcome = run_spelled(alloc, checked, entry, &[-42], &script, memory, 2)?;
     Ok(run_text(alloc, &outcome)?)
+}
+
+/// Whether the run of the function whose name is spelled so is told by this text.
+fn is_told(alloc: Global, checked: &Checked, entry: &[u8], wanted: &[u8]) -> bool {
+    told(alloc, checked, entry).is_ok_and(|text| text.as_slice() == wanted)
+}
+
+/// Whether no function has the name that is spelled so.
+fn has_no_entry(alloc: Global, checked: &Checked, entry: &[u8]) -> bool {
+    told(alloc, checked, entry).is_err_and(|err| err == RunErr::NoEntry)
+}
+
+/// The accepted module that has `identity` alone. `None` where it is refused.
+fn identity_alone(alloc: Global) -> Result<Option<Checked>, AllocError> {
+    let mut module = Module::new(alloc);
+    module.push(identity(alloc, FuncName::User(0, 1))?)?;
+    Ok(check(alloc, module).ok())
 }
 
 #[test]
 fn runs_to_its_end(rt: HostRuntime) -> Result<(), AllocError> {
     let alloc = rt.alloc();
-    let mut module = Module::new(alloc);
-    module.push(identity(alloc, FuncName::User(0, 1))?)?;
-    let Ok(checked) = check(alloc, module) else {
+    let Some(checked) = identity_alone(alloc)? else {
         assert!(rt; false);
         return Ok(());
     };
-    let text = told(alloc, &checked, b"u0:1", -42);
-    assert!(rt; text.is_ok_and(|text| text.as_slice() == b"returned [-42]\n".as_slice()));
-    let text = told(alloc, &checked, b"u0:12", -42);
-    assert!(rt; text.is_err_and(|err| err == RunErr::NoEntry));
+    assert!(rt; is_told(alloc, &checked, b"u0:1", b"returned [-42]\n"));
+    assert!(rt; has_no_entry(alloc, &checked, b"u0:12"));
     Ok(())
 }
 
@@ -88,20 +101,35 @@ fn host_event(alloc: Global) -> Result<Event, AllocError> {
 }
 
 #[test]
-fn lines_read_so(rt: HostRuntime) -> Result<(), AllocError> {
+fn an_event_reads_so(rt: HostRuntime) -> Result<(), AllocError> {
     let alloc = rt.alloc();
     let line = event_line(alloc, &host_event(alloc)?)?;
     assert!(rt; line.as_slice() == b"host u0:1(5, -1) <7, [01 ab]>".as_slice());
-    let end = End::Trapped(TrapCode::IntDivz);
-    let line = end_line(alloc, &end)?;
+    Ok(())
+}
+
+#[test]
+fn an_end_reads_so(rt: HostRuntime) -> Result<(), AllocError> {
+    let line = end_line(rt.alloc(), &End::Trapped(TrapCode::IntDivz))?;
     assert!(rt; line.as_slice() == b"trapped int_divz".as_slice());
+    Ok(())
+}
+
+/// A run that traps and leaves 20 bytes of memory, of which one isn't 0.
+fn trapped(alloc: Global) -> Result<Outcome, AllocError> {
     let mut bytes = vec![in alloc; 0u8; 20]?;
     bytes[17] = 2;
-    let outcome = Outcome {
+    Ok(Outcome {
         events: List::from_vec(Vec::new(alloc)),
         memory: Memory::new(bytes),
-        end,
-    };
+        end: End::Trapped(TrapCode::IntDivz),
+    })
+}
+
+#[test]
+fn memory_reads_so(rt: HostRuntime) -> Result<(), AllocError> {
+    let alloc = rt.alloc();
+    let outcome = trapped(alloc)?;
     let mut sink = MemSink::new(alloc, Vec::new(alloc), 100)?;
     assert!(rt; print_run(&outcome, &mut sink).is_ok());
     assert!(rt; sink.bytes() == b"trapped int_divz\nmemory 00000010: 00 02 00 00\n".as_slice());

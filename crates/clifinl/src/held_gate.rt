@@ -1,6 +1,6 @@
 //! What no clause says: that the workers of `inline` draw from one table, and go on where one of them is held.
 use crate::Status;
-use crate::tests::run_at_gate;
+use crate::tests::{INLINE, run_at_gate};
 use clk_flow::{Gate, NoGate};
 use crossbeam_utils::Backoff;
 use std::alloc::AllocError;
@@ -59,15 +59,7 @@ const FOUR: &[u8] = b"function %a() fast {\nblock0:\n    return\n}\n\n\
 
 #[test]
 fn a_held_worker_does_not_hold_the_others(rt: HostRuntime) -> Result<(), AllocError> {
-    let alone = run_at_gate(
-        &rt,
-        rt.alloc(),
-        ["inline"].as_slice(),
-        FOUR,
-        99,
-        1000,
-        &NoGate,
-    )?;
+    let alone = run_at_gate(&rt, rt.alloc(), INLINE, FOUR, 99, 1000, &NoGate)?;
     assert!(rt; alone.status == Status::Done);
     let gate = HeldGate::new();
     let words = ["inline", "--workers=2"].as_slice();

@@ -3,6 +3,8 @@
 
 mod bodies;
 mod command;
+#[cfg(test)]
+mod command_tests;
 mod commands;
 mod generating;
 #[cfg(test)]

@@ -7,12 +7,9 @@ ghost use Rattle.ir_semantics.specs.Accepted.{Accepted, RulesHold};
 ghost use Rattle.inline_caller.specs.Replacing.{CanReplace};
 
 use inline_caller::size_with_body;
-use ir_core::{Func, Module, Point};
+use ir_core::{Func, GREATEST_SIZE, Module, Point};
 use splice_bounds::laws::{plain_call_has_numbers, tail_call_has_numbers, try_call_has_numbers};
 use std::alloc::{AllocError, Global};
-
-/// The greatest size that a function may have.
-const LIMIT: usize = 262_144;
 
 /// The function at a place of an accepted module.
 pub(crate) fn function(from: &Module, index: usize) -> &Func
@@ -42,7 +39,9 @@ fn is_small(func: &Func) -> bool
     ensures sigs { IsTrue result → length func.now.function.sigs ≤ 262144 }
     ensures callees { IsTrue result → length func.now.function.callees ≤ 262144 }
 {
-    func.size() <= LIMIT && func.sigs().len() <= LIMIT && func.callees().len() <= LIMIT
+    func.size() <= GREATEST_SIZE
+        && func.sigs().len() <= GREATEST_SIZE
+        && func.callees().len() <= GREATEST_SIZE
 }
 
 /// Whether the line at the place is a direct call that the callee's body can replace within the limit. Only
@@ -72,5 +71,5 @@ pub(crate) fn can_replace(
         return Ok(false);
     }
     let size = size_with_body(alloc, caller, Point { block, index }, callee)?;
-    Ok(size <= LIMIT)
+    Ok(size <= GREATEST_SIZE)
 }

@@ -5,7 +5,7 @@ ghost use Rattle.ir_text.specs.Writable.{by_zeros};
 ghost use Rattle.clif_meaning.specs.Instructions.{constant, immediate};
 ghost use Rattle.clif_meaning.specs.Operations as spec;
 
-use clif_words::{Opcode, width_of_type};
+use clif_words::Opcode;
 use clk_num::{Bits, Cc, Op, Width};
 use ir_core::{Access, Ty};
 
@@ -50,9 +50,9 @@ pub fn operation(opcode: Opcode, ty: Ty) -> Op
         Opcode::Bswap => Op::Bswap,
         Opcode::Isplit => Op::Isplit,
         Opcode::Select => Op::Select,
-        Opcode::Uextend => Op::Uextend(width_of_type(ty)),
-        Opcode::Sextend => Op::Sextend(width_of_type(ty)),
-        Opcode::Ireduce => Op::Ireduce(width_of_type(ty)),
+        Opcode::Uextend => Op::Uextend(ty.width()),
+        Opcode::Sextend => Op::Sextend(ty.width()),
+        Opcode::Ireduce => Op::Ireduce(ty.width()),
         _ => Op::Icmp(Cc::Eq),
     }
 }
@@ -88,7 +88,7 @@ pub fn stored_bytes(opcode: Opcode) -> Option<u8>
 pub fn constant_of(ty: Ty, number: i128) -> Bits
     ensures { data_of result ≡ constant ty number }
 {
-    Bits::new(width_of_type(ty), number.cast_unsigned())
+    Bits::new(ty.width(), number.cast_unsigned())
 }
 
 /// Whether the immediate of the operation is extended by zeros.

@@ -5,10 +5,8 @@ ghost use Rattle.clif_names.specs.LeastSpots as spec;
 use crate::sizes::function_size;
 use crate::uses::Uses;
 use clif_read::RawFunction;
+use ir_core::GREATEST_SIZE;
 use name_tables::earlier_of;
-
-/// The greatest size of a function.
-const GREATEST_SIZE: usize = 262_144;
 
 /// The least spot of a fault of each kind, where there is one.
 #[derive(Clone, Copy, Debug)]

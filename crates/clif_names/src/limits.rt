@@ -3,7 +3,6 @@ ghost use Rattle.std.specs.Prelude.{◌≡◌};
 ghost use Rattle.clif_names.specs.Limits as limits;
 ghost use Rattle.clif_names.specs.Noting as spec;
 
-use clif_words::width_of_type;
 use clk_num::Bits;
 use ir_core::Ty;
 use name_tables::earlier_spot;
@@ -42,7 +41,7 @@ impl Limit {
             Limit::Alignment => is_power(value),
             Limit::UserTrap => 0 <= value && value <= 65_535,
             Limit::Offset => -2_147_483_648 <= value && value <= 2_147_483_647,
-            Limit::Constant(ty) => Bits::fit(width_of_type(ty), value).is_some(),
+            Limit::Constant(ty) => Bits::fit(ty.width(), value).is_some(),
         }
     }
 }

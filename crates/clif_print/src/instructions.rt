@@ -19,7 +19,7 @@ use crate::operands::{
 };
 use crate::words::{condition_word, put_opcode};
 use clif_numbers::FuncNumbers;
-use clif_words::{Opcode, type_of_width};
+use clif_words::Opcode;
 use clk_num::{Bits, Op};
 use ir_core::{Access, Flags, FuncRef, Inst, Slot, Ty, Value};
 use text_output::{Output, put_numbered};
@@ -29,9 +29,9 @@ fn put_op_suffix<O: Output>(out: &mut O, op: Op, suffix: Option<Ty>)
     ensures { Puts O.holds out.old out.new (spelled (op_suffix op suffix)) }
 {
     match op {
-        Op::Uextend(width) => put_suffix(out, type_of_width(width)),
-        Op::Sextend(width) => put_suffix(out, type_of_width(width)),
-        Op::Ireduce(width) => put_suffix(out, type_of_width(width)),
+        Op::Uextend(width) => put_suffix(out, Ty::of_width(width)),
+        Op::Sextend(width) => put_suffix(out, Ty::of_width(width)),
+        Op::Ireduce(width) => put_suffix(out, Ty::of_width(width)),
         _ => put_suffix_if(out, suffix),
     }
 }
@@ -51,7 +51,7 @@ fn put_const<O: Output>(out: &mut O, numbers: &FuncNumbers, suffix: Option<Ty>, 
         (spelled (instruction numbers.now.numbering suffix (instruction_of (form.Const bits.now)))) }
 {
     put_opcode(out, Opcode::Iconst);
-    put_suffix(out, type_of_width(bits.width()));
+    put_suffix(out, Ty::of_width(bits.width()));
     out.put(b" ");
     put_constant(out, bits);
 }

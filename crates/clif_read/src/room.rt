@@ -4,6 +4,7 @@ ghost use Rattle.std.specs.Prelude.{◌≡◌, ◌+◌, ◌≤◌, vec_len, vec_
 
 use crate::raw::RawLine;
 use clif_words::Class;
+use ir_core::GREATEST_SIZE;
 use std::alloc::AllocError;
 use token_reader::Reader;
 
@@ -15,9 +16,6 @@ const SEVERAL_LINES: usize = 16;
 
 /// From so many lines on a full list gets room for as many as a function may have.
 const MANY_LINES: usize = 16_384;
-
-/// The most lines of a function within the limits.
-const MOST_LINES: usize = 262_144;
 
 /// A list of two lines and no more than these keeps the room that is left over, at most as much again: to give it back
 /// costs more.
@@ -45,12 +43,12 @@ fn make_more_room(lines: &mut Vec<RawLine>) -> Result<(), AllocError>
     ensures room { OnOk result (vec_len lines.new + 1 ≤ vec_capacity lines.new) }
 {
     let count = lines.len();
-    if count < SEVERAL_LINES || count >= MOST_LINES {
+    if count < SEVERAL_LINES || count >= GREATEST_SIZE {
         lines.reserve(1)
     } else if count < MANY_LINES {
         lines.reserve_exact(3 * count)
     } else {
-        lines.reserve_exact(MOST_LINES - count)
+        lines.reserve_exact(GREATEST_SIZE - count)
     }
 }
 

@@ -12,7 +12,7 @@ ghost use Rattle.clif_meaning.specs.Meaning.{form_types, operation_types, sig_re
 
 use clif_insts::{RawInst, RawOperands};
 use clif_lines::{WordNumbers, access, operation};
-use clif_words::{Opcode, type_of_width};
+use clif_words::Opcode;
 use clk_num::Op;
 use ir_core::{Access, Func, FuncRef, SigRef, Ty};
 
@@ -105,7 +105,7 @@ fn operation_results(op: Op, ty: Ty) -> FormTypes
 {
     match op {
         Op::Uextend(width) | Op::Sextend(width) | Op::Ireduce(width) => {
-            FormTypes::One(type_of_width(width))
+            FormTypes::One(Ty::of_width(width))
         }
         _ => plain_results(op, ty),
     }

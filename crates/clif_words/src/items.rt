@@ -2,7 +2,6 @@
 
 ghost use Rattle.std.specs.Prelude.{◌≡◌, ◌+◌, ◌==◌, ◌&&◌, ◌||◌, not, ◌<◌, ◌≤◌, ◌^◌, List, [], ◌∷◌, length, take, drop};
 ghost use Rattle.std.specs.Prelude.{slice_get, option_map, IfSome, map};
-ghost use Rattle.std.specs.Str.{bytes_eq};
 ghost use Rattle.clif_lex.specs.Bytes.{first, is_sign};
 ghost use Rattle.clif_lex.specs.declared.spans.TokenKind.TheVariants as kinds;
 ghost use Rattle.clif_words.specs.declared.class.Class.TheVariants.{Value};
@@ -16,6 +15,7 @@ use crate::meanings::{Entity, Terminal, Word};
 use crate::opcodes::{OpcodeRow, list_opcode_rows};
 use crate::words::*;
 use clif_lex::{TokenKind, digit, digit_run};
+use ir_core::are_same_bytes;
 
 /// The byte at the front, or 0 in an empty text.
 #[inline]
@@ -28,28 +28,12 @@ fn get_first_byte(text: &[u8]) -> u8
     }
 }
 
-/// Whether a word is spelled so.
-#[inline]
-fn spells(word: &[u8], spelling: &[u8]) -> bool
-    ensures { result ≡ bytes_eq word.now spelling.now }
-{
-    if word.len() != spelling.len() {
-        return false;
-    }
-    for (i, c) in word.iter().enumerate() {
-        if *c != spelling[i] {
-            return false;
-        }
-    }
-    true
-}
-
 /// What the word is, if the row has it.
 #[inline]
 fn match_row(row: &Entry, word: &[u8]) -> Option<Word>
     ensures { option_map seen_word result ≡ words.look_up (word_row row.now ∷ []) word.now }
 {
-    if spells(row.0.as_bytes(), word) {
+    if are_same_bytes(row.0.as_bytes(), word) {
         Some(row.1)
     } else {
         None
@@ -62,7 +46,7 @@ fn look_up(table: &[Entry], word: &[u8]) -> Option<Word>
     ensures { option_map seen_word result ≡ words.look_up (map word_row table.now) word.now }
 {
     for row in table {
-        if spells(row.0.as_bytes(), word) {
+        if are_same_bytes(row.0.as_bytes(), word) {
             return Some(row.1);
         }
     }
@@ -83,7 +67,7 @@ fn match_entry(entries: &[Entry], place: usize, word: &[u8]) -> Option<Word>
 fn match_opcode_row(row: &OpcodeRow, word: &[u8]) -> Option<Word>
     ensures { option_map seen_word result ≡ words.look_up (opcode_row row.now ∷ []) word.now }
 {
-    if spells(row.0.as_bytes(), word) {
+    if are_same_bytes(row.0.as_bytes(), word) {
         Some(Word::Opcode(row.1))
     } else {
         None
@@ -200,7 +184,7 @@ fn find_entity_in(table: &[Stem], stem: &[u8]) -> Option<Entity>
         ≡ words.look_up (map stem_row table.now) stem.now }
 {
     for row in table {
-        if spells(row.0.as_bytes(), stem) {
+        if are_same_bytes(row.0.as_bytes(), stem) {
             return Some(row.1);
         }
     }

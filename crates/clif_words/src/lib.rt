@@ -6,11 +6,9 @@ mod items;
 pub mod laws;
 mod meanings;
 mod opcodes;
-mod types;
 mod words;
 
 pub use class::Class;
 pub use items::{find_word_meaning, match_quick_terminal};
 pub use meanings::{Entity, Extension, Flag, NamedTrap, Terminal, Word};
-pub use opcodes::{OPCODES, Opcode, OpcodeRow, list_opcode_rows};
-pub use types::{type_of_width, width_of_type};
+pub use opcodes::{Opcode, OpcodeRow, list_opcode_rows};

@@ -10,7 +10,7 @@ ghost use Rattle.interp.specs.State.{world_of, moment, done, simply};
 
 use crate::outcome::End;
 use crate::simple::{compute, give_results};
-use crate::slots::{bytes_in, width_of};
+use crate::slots::bytes_in;
 use crate::state::{Frame, Stop, World};
 use byte_store::OutOfRange;
 use clk_num::{Bits, Op, TrapCode, Width};
@@ -52,7 +52,7 @@ fn load_full(
     let Some(base) = frame.values.get(address.number() as usize) else {
         return Ok(Some(Stop::Stuck));
     };
-    let width = width_of(ty);
+    let width = ty.width();
     let bytes = bytes_in(width);
     match world
         .memory
@@ -100,7 +100,7 @@ fn load_by_zeros(
         Err(OutOfRange) => Ok(Some(Stop::At(End::Trapped(TrapCode::HeapOob)))),
         Ok(number) => {
             let narrow = Bits::new(narrow_width(bytes), number);
-            let moved = compute(frame, line, Op::Uextend(width_of(ty)), &[narrow])?;
+            let moved = compute(frame, line, Op::Uextend(ty.width()), &[narrow])?;
             Ok(moved)
         }
     }
@@ -132,7 +132,7 @@ fn load_by_sign(
         Err(OutOfRange) => Ok(Some(Stop::At(End::Trapped(TrapCode::HeapOob)))),
         Ok(number) => {
             let narrow = Bits::new(narrow_width(bytes), number);
-            let moved = compute(frame, line, Op::Sextend(width_of(ty)), &[narrow])?;
+            let moved = compute(frame, line, Op::Sextend(ty.width()), &[narrow])?;
             Ok(moved)
         }
     }

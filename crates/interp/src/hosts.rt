@@ -10,7 +10,6 @@ ghost use Rattle.interp.specs.State.{some_if, moment, waits_of, world_of, Linked
 
 use crate::calls::resume;
 use crate::outcome::End;
-use crate::slots::width_of;
 use crate::state::{Frame, Program, Stop, Wait, World};
 use crate::throws::throw;
 use byte_store::Memory;
@@ -23,7 +22,7 @@ use std::alloc::{AllocError, Global};
 fn fit_value(ty: Ty, number: i128) -> Option<Bits>
     ensures { option_map data_of result ≡ value_for ty number }
 {
-    Bits::fit(width_of(ty), number)
+    Bits::fit(ty.width(), number)
 }
 
 /// Numbers as values of types. False where there are not as many, or one does not fit.

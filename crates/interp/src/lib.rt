@@ -34,5 +34,5 @@ pub use moves::read_all;
 pub use outcome::{End, Event, Outcome, Shown};
 pub use registers::Registers;
 pub use simple::{give_results, pure_imm, pure_op, trapnz, trapz};
-pub use slots::{stack_load, stack_store, width_of};
+pub use slots::{stack_load, stack_store};
 pub use state::{Frame, Links, Program, Stop, Target, Wait, World};

@@ -1,6 +1,5 @@
 //! Slots of frames.
 ghost use Rattle.std.specs.Prelude.{◌≡◌, ◌≤◌, IfOk, List};
-ghost use Rattle.ir_core.specs.Lookup.{width_of};
 ghost use Rattle.ir_core.specs.Module.{StackLoad, StackStore};
 ghost use Rattle.ir_semantics.specs.Values.{bytes_in, slot_place};
 ghost use Rattle.ir_semantics.specs.Machine.{World as RunWorld};
@@ -15,19 +14,6 @@ use byte_store::Unwritten;
 use clk_num::{Bits, Width};
 use ir_core::{InstData, Slot, Ty, Value};
 use std::alloc::AllocError;
-
-/// The width of a type.
-pub fn width_of(ty: Ty) -> Width
-    ensures { result ≡ width_of ty }
-{
-    match ty {
-        Ty::I8 => Width::W8,
-        Ty::I16 => Width::W16,
-        Ty::I32 => Width::W32,
-        Ty::I64 => Width::W64,
-        Ty::I128 => Width::W128,
-    }
-}
 
 /// The number of bytes of a width.
 pub fn bytes_in(width: Width) -> u32
@@ -75,7 +61,7 @@ pub fn stack_load<'m>(
         ≡ done program.now.module.now frame.old below w line.now
         (simply program.now.module.now frame.old w (StackLoad ty slot offset))) }
 {
-    let width = width_of(ty);
+    let width = ty.width();
     let bytes = bytes_in(width);
     let Some(place) = slot_place(program, frame.at, slot, offset, bytes) else {
         return Ok(Some(Stop::Stuck));

@@ -6,7 +6,7 @@ ghost use Rattle.ir_core.specs.Forms.{has_immediate, access_type, flags_form};
 ghost use Rattle.ir_semantics.specs.TypeRules.{is_narrow, access_form, access_suffix, store_form};
 ghost use Rattle.ir_check.specs.Twins.{in_range};
 
-use clif_words::{Opcode, width_of_type};
+use clif_words::Opcode;
 use clk_num::{Bits, Op, Width};
 use ir_core::{Access, Flags, Ty};
 
@@ -36,7 +36,7 @@ pub fn is_same_width(t: Width, u: Width) -> bool
 fn are_narrow(bytes: u8, ty: Ty) -> bool
     ensures { result ≡ is_narrow bytes ty }
 {
-    let bits = width_of_type(ty).bits();
+    let bits = ty.width().bits();
     (bytes == 1 || bytes == 2 || bytes == 4) && 8 * (bytes as u32) < bits && bits <= 64
 }
 

@@ -12,7 +12,6 @@ ghost use Rattle.ir_check.specs.RowTypes.{widths_of_row};
 
 use crate::row_types::RowTypes;
 use avail_flow::target_at;
-use clif_words::type_of_width;
 use ir_core::{Arg, BlockCall, Func, Inst, Param, Ty, Value};
 
 /// Whether two types that may be left out are one.
@@ -73,13 +72,8 @@ pub fn has_row_types(func: &Func, results: &[Value], row: Option<RowTypes>) -> b
 {
     match row {
         None => false,
-        Some(RowTypes::One(a)) => has_one_type(func, results, type_of_width(a)),
-        Some(RowTypes::Two(a, b)) => has_two_types(
-            func,
-            results,
-            type_of_width(a),
-            type_of_width(b),
-        ),
+        Some(RowTypes::One(a)) => has_one_type(func, results, Ty::of_width(a)),
+        Some(RowTypes::Two(a, b)) => has_two_types(func, results, Ty::of_width(a), Ty::of_width(b)),
     }
 }
 

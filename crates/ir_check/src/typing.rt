@@ -27,7 +27,6 @@ use crate::types::{
     has_one_type, has_row_types, has_target_types, have_param_types, have_target_types,
     is_same_suffix,
 };
-use clif_words::{type_of_width, width_of_type};
 use clk_num::{Bits, Op, Width};
 use ir_core::{Access, BlockCall, Flags, Func, Inst, InstData, Sig, SigRef, Ty, Value};
 use sig_numbers::FuncSigs;
@@ -40,7 +39,7 @@ fn const_has_types(func: &Func, added: &InstData, bits: &Bits) -> bool
     is_same_suffix(added.ty, None)
         && !is_same_width(bits.width(), Width::W128)
         && is_in_range(bits)
-        && has_one_type(func, added.results.as_slice(), type_of_width(bits.width()))
+        && has_one_type(func, added.results.as_slice(), Ty::of_width(bits.width()))
 }
 
 /// The types of the results of an operation on these values.
@@ -49,13 +48,13 @@ fn find_row(func: &Func, op: Op, args: &[Value]) -> Option<RowTypes>
     ensures { widths_of_row result ≡ and_then (widths_of_values func.now.function args.now) (row op) }
 {
     match args {
-        [a] => find_row_of_one(op, width_of_type(func.ty(*a))),
-        [a, b] => find_row_of_two(op, width_of_type(func.ty(*a)), width_of_type(func.ty(*b))),
+        [a] => find_row_of_one(op, func.ty(*a).width()),
+        [a, b] => find_row_of_two(op, func.ty(*a).width(), func.ty(*b).width()),
         [a, b, c] => find_row_of_three(
             op,
-            width_of_type(func.ty(*a)),
-            width_of_type(func.ty(*b)),
-            width_of_type(func.ty(*c)),
+            func.ty(*a).width(),
+            func.ty(*b).width(),
+            func.ty(*c).width(),
         ),
         _ => None,
     }
@@ -96,11 +95,11 @@ fn immediate_has_types(func: &Func, added: &InstData, op: Op, arg: Value, imm: &
     takes_immediate(op)
         && is_in_range(imm)
         && (is_same_suffix(added.ty, Some(ty))
-            && is_same_width(imm.width(), width_of_type(ty))
+            && is_same_width(imm.width(), ty.width())
             && has_row_types(
                 func,
                 added.results.as_slice(),
-                find_row_of_two(op, width_of_type(ty), imm.width()),
+                find_row_of_two(op, ty.width(), imm.width()),
             ))
 }
 

@@ -79,13 +79,14 @@ impl NameBytes {
     pub(crate) fn is(&self, other: &NameBytes) -> bool
         ensures { result ≡ same_bytes self.now other.now }
     {
-        are_same(self.as_slice(), other.as_slice())
+        are_same_bytes(self.as_slice(), other.as_slice())
     }
 }
 
-/// Whether the bytes are the same. Most names are so short that a loop takes less than a comparison of whole runs.
+/// Whether the bytes are the same. Most names and words are so short that a loop takes less than a comparison of whole
+/// runs.
 #[inline]
-fn are_same(bytes: &[u8], others: &[u8]) -> bool
+pub fn are_same_bytes(bytes: &[u8], others: &[u8]) -> bool
     ensures { result ≡ bytes_eq bytes.now others.now }
 {
     if bytes.len() != others.len() {

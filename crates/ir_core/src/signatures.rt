@@ -1,8 +1,10 @@
 //! Types and signatures.
 ghost use Rattle.std.specs.Prelude.{◌≡◌};
+ghost use Rattle.ir_core.specs.Lookup.{ty_of, width_of};
 ghost use Rattle.ir_core.specs.Signatures.{same_type};
 
 use crate::few::Few;
+use clk_num::Width;
 use std::alloc::AllocError;
 
 /// The type of a value: an integer of 8, 16, 32, 64 or 128 bits.
@@ -16,6 +18,32 @@ pub enum Ty {
 }
 
 impl Ty {
+    /// The type of the values of a width.
+    pub fn of_width(width: Width) -> Ty
+        ensures { result ≡ ty_of width }
+    {
+        match width {
+            Width::W8 => Ty::I8,
+            Width::W16 => Ty::I16,
+            Width::W32 => Ty::I32,
+            Width::W64 => Ty::I64,
+            Width::W128 => Ty::I128,
+        }
+    }
+
+    /// The width of its values.
+    pub fn width(self) -> Width
+        ensures { result ≡ width_of self }
+    {
+        match self {
+            Ty::I8 => Width::W8,
+            Ty::I16 => Width::W16,
+            Ty::I32 => Width::W32,
+            Ty::I64 => Width::W64,
+            Ty::I128 => Width::W128,
+        }
+    }
+
     /// Whether the two are the same type.
     pub fn is(self, other: Ty) -> bool
         ensures { result ≡ same_type self other }

@@ -8,6 +8,9 @@ use crate::instructions::{BlockCall, Inst, InstData};
 use crate::signatures::Sig;
 use exn_tables::Entry;
 
+/// The greatest size that a function of a text may have.
+pub const GREATEST_SIZE: usize = 262_144;
+
 impl Sig {
     /// The signature's part of a function's size: one, its parameters and its results.
     pub(crate) fn size(&self) -> usize

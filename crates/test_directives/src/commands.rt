@@ -6,11 +6,8 @@ ghost use Rattle.test_directives.specs.Commands as spec;
 ghost use Rattle.test_directives.specs.Views.{command_of, words_of};
 
 use crate::blanks::{behind, next_word};
-use ir_core::List;
+use ir_core::{GREATEST_SIZE, List};
 use std::alloc::{AllocError, Global};
-
-/// The most that a size may be.
-const MOST_SIZE: usize = 262_144;
 
 /// What a `test` line asks for.
 #[derive(Drop)]
@@ -62,7 +59,7 @@ fn size_of(digits: &[u8]) -> Option<usize>
     let mut size = 0;
     for digit in digits {
         size = 10 * size + digit.saturating_sub(b'0') as usize;
-        if size > MOST_SIZE {
+        if size > GREATEST_SIZE {
             return None;
         }
     }

@@ -16,7 +16,6 @@ use crate::names::spelled_name;
 use crate::places::PlacedComment;
 use crate::tests::{DirectiveErr, FunctionTests, RunTest};
 use clif_read::{RawFunction, RawParam};
-use clif_words::width_of_type;
 use clk_num::Bits;
 use host_script::Script;
 use indexmap::IndexMap;
@@ -37,7 +36,7 @@ pub(crate) struct Named<'r> {
 fn fits(param: &RawParam, number: i128) -> bool
     ensures { result ≡ is_some (value_for param.now.ty number) }
 {
-    Bits::fit(width_of_type(param.ty), number).is_some()
+    Bits::fit(param.ty.width(), number).is_some()
 }
 
 /// Whether there are as many numbers as parameters or results, and each fits.

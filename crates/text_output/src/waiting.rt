@@ -66,7 +66,8 @@ impl Waiting {
         self.len = start + bytes.len();
     }
 
-    /// Appends the digits of the number, written in place. Most numbers have one digit.
+    /// Appends the digits of the number, written in place. In small functions most numbers have one digit, which is put
+    /// without a count of digits.
     #[inline(always)]
     pub(crate) fn append_digits(&mut self, number: u64)
         requires { length self.old + 20 ≤ 4096 }

@@ -9,8 +9,8 @@ use Rattle.clif_lines.proofs.operations.constant_of.Goals as goal
 
 pub returns : goal.returns
 returns c =
-    let w : c.new.result.width ≡ width_of c.args.ty = c.new.ensures.width ∙ c.width_of_type.ensures in
+    let w : c.new.result.width ≡ width_of c.args.ty = c.new.ensures.width ∙ c.width.ensures in
     let v : c.new.result.value ≡ wrapped (bits_of (width_of c.args.ty)) c.args.number =
-    c.new.ensures.value ∙ ap (λ (x : Width). c.cast_unsigned.result % 2 ^ bits_of x) c.width_of_type.ensures
+    c.new.ensures.value ∙ ap (λ (x : Width). c.cast_unsigned.result % 2 ^ bits_of x) c.width.ensures
     ∙ cut_from_code (width_of c.args.ty) c.args.number c.cast_unsigned.result c.ranges.number c.cast_unsigned.ensures in
     ap₂ value_of w v

@@ -24,5 +24,5 @@ returns-in_ok-moved-in-Ok c =
     let small : c.in-Ok.number < 2 ^ (8 * c.args.bytes) = subst (λ (n : ℕ). c.in-Ok.number < 2 ^ (8 * n)) c.from.ensures c.in-Ok.ensures.small in
     let ex : c.new-narrow.result.value ≡ c.in-Ok.number % 2 ^ bits_of c.new-narrow.result.width = c.new-narrow.ensures.value ∙ ap (λ (w : Width). c.in-Ok.number % 2 ^ bits_of w) (sym c.new-narrow.ensures.width) in
     λ m below. c.in_ok-moved-in-Ok.ensures m below (world_of c.args.world.now)
-    ∙ read_is m c.args.frame.now below (world_of c.args.world.now) c.args.line.now (Sload c.args.ty c.args.bytes) c.args.flags c.args.address c.args.offset (data_of c.in-Some.base) c.in-Ok.number (operation (Sextend c.width_of.result) (data_of c.new-narrow.result ∷ [])) eb en
-    (sign_extended c.args.bytes c.in-Ok.number c.args.ty c.width_of.result (data_of c.new-narrow.result) c.requires c.width_of.ensures ew small ex)
+    ∙ read_is m c.args.frame.now below (world_of c.args.world.now) c.args.line.now (Sload c.args.ty c.args.bytes) c.args.flags c.args.address c.args.offset (data_of c.in-Some.base) c.in-Ok.number (operation (Sextend c.width.result) (data_of c.new-narrow.result ∷ [])) eb en
+    (sign_extended c.args.bytes c.in-Ok.number c.args.ty c.width.result (data_of c.new-narrow.result) c.requires c.width.ensures ew small ex)

@@ -1,6 +1,0 @@
-use Rattle.std.proofs.Common.{◌≡◌, drop}
-use Rattle.std.specs.Str.{bytes_eq}
-use Rattle.clif_words.proofs.items.spells.Given as goal
-
-abbrev pub invariant-loop-i : goal.invariant-loop-i
-invariant-loop-i l = bytes_eq (drop l.i l.word) (drop l.i l.spelling) ≡ bytes_eq l.word l.spelling

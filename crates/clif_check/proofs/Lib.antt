@@ -3,3 +3,4 @@ pub mod Stages
 pub mod MeantLaws
 pub mod HeadLaws
 pub mod PartLaws
+pub mod FirstFaults

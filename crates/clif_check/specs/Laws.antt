@@ -15,6 +15,10 @@ abbrev pub AcceptedHasNoFault : Type 0
 AcceptedHasNoFault =
     (text : List ℕ) (m : Module) (k : TextKind) (spot : ℕ) → IsAccepted text m → FirstFault text k spot → ⊥
 
+abbrev pub OneFirstFault : Type 0
+OneFirstFault =
+    (text : List ℕ) (k l : TextKind) (s t : ℕ) → FirstFault text k s → FirstFault text l t → (k ≡ l) × (s ≡ t)
+
 abbrev pub OneModule : Type 0
 OneModule = (text : List ℕ) (m n : Module) → IsAccepted text m → IsAccepted text n → m ≡ n
 

@@ -1,9 +1,14 @@
 //! Laws of the definitions: functions without a body, each of which has its law as its contract.
-ghost use Rattle.clif_check.specs.Laws.{AcceptedByHeads, AcceptedHasNoFault, OneModule};
+ghost use Rattle.clif_check.specs.Laws.{AcceptedByHeads, AcceptedHasNoFault, OneFirstFault, OneModule};
 
 /// A text that is accepted has no fault.
 pub fn accepted_has_no_fault()
     ensures { AcceptedHasNoFault }
+{}
+
+/// A text has at most one first fault, of whatever stage.
+pub fn one_first_fault()
+    ensures { OneFirstFault }
 {}
 
 /// A text is accepted as one module at most.

@@ -22,27 +22,28 @@ use Rattle.script_text.specs.Symbols.{lexeme, plain}
 use Rattle.script_text.specs.declared.terminal.Terminal.TheVariants.{Other}
 use Rattle.script_text.specs.Scripts.{Reads, GoesNoFurther, StopsIn}
 use Rattle.test_directives.proofs.Ascii.{is_of_script, divided_small, small_is_ascii}
-use Rattle.grammar.proofs.Prefixes.{is_plain, prefix_begins}
+use Rattle.grammar.proofs.Past.{derives_begins}
+use Rattle.grammar.proofs.Prefixes.{prefix_begins}
 
 -- ---- what is read, and what is refused
 
 split_at_next : (us more : List Lexeme) (x : Lexeme) → us ++ x ∷ more ≡ (us ++ x ∷ []) ++ more
 split_at_next us more x = simp append_assoc
 
-goes_on : (r : Rule) → is_plain r ≡ true → (ts us rest : List Lexeme) → ts ≡ us ++ rest → GoesNoFurther r us rest → (v : Tree r) → Derives r ts v → ⊥
-goes_on r p ts us [] cut stop v d = stop v (subst (λ l. Derives r l v) (cut ∙ append-nil us) d)
-goes_on r p ts us (x ∷ more) cut stop v d = stop (prefix_begins r p (us ++ x ∷ []) more v (subst (λ l. Derives r l v) (cut ∙ split_at_next us more x) d))
+goes_on : (r : Rule) (ts us rest : List Lexeme) → ts ≡ us ++ rest → GoesNoFurther r us rest → (v : Tree r) → Derives r ts v → ⊥
+goes_on r ts us [] cut stop v d = stop v (subst (λ l. Derives r l v) (cut ∙ append-nil us) d)
+goes_on r ts us (x ∷ more) cut stop v d = stop (prefix_begins r (us ++ x ∷ []) more (derives_begins r ((us ++ x ∷ []) ++ more) v (subst (λ l. Derives r l v) (cut ∙ split_at_next us more x) d)))
 
 no_further : (r : Rule) (us : List Lexeme) (k : Kind) (rest : List Lexeme) → StopsAt r us k rest → GoesNoFurther r us rest
 no_further r us k [] stop = stop.1
 no_further r us k (x ∷ more) stop = stop.0
 
-derived : (r : Rule) → good r ≡ true → is_plain r ≡ true → (ts : List Lexeme) (v : Tree r) → Derives r ts v → read_all r ts ≡ Ok v
-derived r g p ts v d = go (read_all r ts) (exact r g ts)
+derived : (r : Rule) → good r ≡ true → (ts : List Lexeme) (v : Tree r) → Derives r ts v → read_all r ts ≡ Ok v
+derived r g ts v d = go (read_all r ts) (exact r g ts)
   where
     go : (o : Result (Tree r) (Kind × List Lexeme)) → Answers r ts o → o ≡ Ok v
     go (Ok w) a = ap (λ z. Ok z) (sym (a.1 v d))
-    go (Err e) (us, rest, cut, (same, begins, stop)) = absurd (goes_on r p ts us rest cut (no_further r us e.0 rest stop) v d)
+    go (Err e) (us, rest, cut, (same, begins, stop)) = absurd (goes_on r ts us rest cut (no_further r us e.0 rest stop) v d)
 
 -- what a text is, or nothing
 abbrev pub value_if : {A : Type 0} → Result A ℕ → Option A
@@ -60,8 +61,8 @@ seen {A} r f text = go (read_all r (lexed text))
     go (Ok v) = refl
     go (Err e) = refl
 
-pub read_is : {A : Type 0} (r : Rule) (f : Tree r → A) → good r ≡ true → is_plain r ≡ true → (text : List ℕ) (x : A) → Reads r f text x → value_if (answer r f text) ≡ Some x
-read_is r f g p text x (v, d, e, only) = seen r f text ∙ (ap (answered r f) (derived r g p (lexed text) v d) ∙ ap (λ z. Some z) (sym e))
+pub read_is : {A : Type 0} (r : Rule) (f : Tree r → A) → good r ≡ true → (text : List ℕ) (x : A) → Reads r f text x → value_if (answer r f text) ≡ Some x
+read_is r f g text x (v, d, e, only) = seen r f text ∙ (ap (answered r f) (derived r g (lexed text) v d) ∙ ap (λ z. Some z) (sym e))
 
 -- where the text is none of the rule, there is no value
 none_if : {A : Type 0} (r : Rule) (f : Tree r → A) → good r ≡ true → (text : List ℕ) → ((v : Tree r) → Derives r (lexed text) v → ⊥) → value_if (answer r f text) ≡ None
@@ -71,8 +72,8 @@ none_if r f g text none = seen r f text ∙ go (read_all r (lexed text)) (exact 
     go (Ok w) a = absurd (none w a.0)
     go (Err e) a = refl
 
-pub refused_is : {A : Type 0} (r : Rule) (f : Tree r → A) → good r ≡ true → is_plain r ≡ true → (text : List ℕ) (spot : ℕ) → StopsIn r text spot → value_if (answer r f text) ≡ None
-refused_is r f g p text spot (us, rest, cut, (begins, stop, at)) = none_if r f g text (goes_on r p (lexed text) us rest cut stop)
+pub refused_is : {A : Type 0} (r : Rule) (f : Tree r → A) → good r ≡ true → (text : List ℕ) (spot : ℕ) → StopsIn r text spot → value_if (answer r f text) ≡ None
+refused_is r f g text spot (us, rest, cut, (begins, stop, at)) = none_if r f g text (goes_on r (lexed text) us rest cut stop)
 
 -- ---- bytes
 

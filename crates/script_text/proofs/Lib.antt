@@ -5,3 +5,4 @@ pub mod Before
 pub mod Tokens
 pub mod Numbers
 pub mod Examples
+pub mod Places

@@ -6,3 +6,4 @@ pub mod Values
 pub mod Reading
 pub mod Scripts
 pub mod Examples
+pub mod Laws

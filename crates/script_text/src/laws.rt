@@ -6,6 +6,7 @@ ghost use Rattle.clif_lex.specs.declared.faults.LexErr.{LexErr};
 ghost use Rattle.clif_lex.specs.Lexing.{tokens_of};
 ghost use Rattle.script_text.specs.Examples.{RefusedScripts, WorkedLists, WorkedScripts};
 ghost use Rattle.script_text.specs.Grammar as grammar;
+ghost use Rattle.script_text.specs.Laws.{NoneWhereRead, OnePlace};
 ghost use Rattle.script_text.specs.Lexed.{TokensBefore};
 
 /// Every list of tokens is one script in one way, or has one first place where no script goes on; and so it is with
@@ -20,6 +21,12 @@ pub fn one_reading()
 /// the longest, with only blanks between them.
 pub fn tokens_before_a_fault()
     ensures { (text : List ℕ) (fault : LexErr) → tokens_of text ≡ Err fault → TokensBefore text fault }
+{}
+
+/// A text has at most one place where no text of a rule goes on, and none where it is one of the rule.
+pub fn one_place()
+    ensures one { OnePlace }
+    ensures none { NoneWhereRead }
 {}
 
 /// Worked examples, by computation.

@@ -1,8 +1,7 @@
 -- What a text is by the grammar of scripts, by the answer of reading it.
-use Rattle.std.proofs.Common.{◌≡◌, ℕ, ◌+◌, ◌-◌, ◌==◌, Bool, true, false, not, ◌&&◌, List, [], ◌∷◌, ◌++◌, length, take, drop, Option, Some, None, Result, Ok, Err, refl, sym, ap, subst, ◌∙◌, inl, inr, append_assoc}
+use Rattle.std.proofs.Common.{◌≡◌, ℕ, ◌+◌, ◌-◌, ◌==◌, Bool, true, false, not, ◌&&◌, List, [], ◌∷◌, ◌++◌, length, take, drop, Option, Some, None, Result, Ok, Err, refl, sym, ap, subst, ◌∙◌, inl, inr}
 use Rattle.std.specs.List.{list_all}
 use Rattle.std.specs.Str.{IsUtf8}
-use Rattle.std.proofs.lemmas.List.{append-nil}
 use Rattle.std.proofs.lemmas.List.Folds.{list_all-append}
 use Rattle.std.proofs.lemmas.Str.{IsUtf8-from_ascii}
 use Rattle.grammar.specs.Rules.{Lexeme, Kind, Rule, Empty, Tok, Seq, Alt, Opt, Many, Refuse, Chain, Tree, Derives, Each, StopsAt, Answers, good, read_all}
@@ -21,18 +20,10 @@ use Rattle.script_text.specs.Lexed.{lexed, lexed_by, symbols_before, symbols, or
 use Rattle.script_text.specs.Symbols.{lexeme, plain}
 use Rattle.script_text.specs.declared.terminal.Terminal.TheVariants.{Other}
 use Rattle.script_text.specs.Scripts.{Reads, GoesNoFurther, StopsIn}
+use Rattle.script_text.proofs.Places.{not_derived}
 use Rattle.test_directives.proofs.Ascii.{is_of_script, divided_small, small_is_ascii}
-use Rattle.grammar.proofs.Past.{derives_begins}
-use Rattle.grammar.proofs.Prefixes.{prefix_begins}
 
 -- ---- what is read, and what is refused
-
-split_at_next : (us more : List Lexeme) (x : Lexeme) → us ++ x ∷ more ≡ (us ++ x ∷ []) ++ more
-split_at_next us more x = simp append_assoc
-
-goes_on : (r : Rule) (ts us rest : List Lexeme) → ts ≡ us ++ rest → GoesNoFurther r us rest → (v : Tree r) → Derives r ts v → ⊥
-goes_on r ts us [] cut stop v d = stop v (subst (λ l. Derives r l v) (cut ∙ append-nil us) d)
-goes_on r ts us (x ∷ more) cut stop v d = stop (prefix_begins r (us ++ x ∷ []) more (derives_begins r ((us ++ x ∷ []) ++ more) v (subst (λ l. Derives r l v) (cut ∙ split_at_next us more x) d)))
 
 no_further : (r : Rule) (us : List Lexeme) (k : Kind) (rest : List Lexeme) → StopsAt r us k rest → GoesNoFurther r us rest
 no_further r us k [] stop = stop.1
@@ -43,7 +34,7 @@ derived r g ts v d = go (read_all r ts) (exact r g ts)
   where
     go : (o : Result (Tree r) (Kind × List Lexeme)) → Answers r ts o → o ≡ Ok v
     go (Ok w) a = ap (λ z. Ok z) (sym (a.1 v d))
-    go (Err e) (us, rest, cut, (same, begins, stop)) = absurd (goes_on r ts us rest cut (no_further r us e.0 rest stop) v d)
+    go (Err e) (us, rest, cut, (same, begins, stop)) = absurd (not_derived r ts us rest cut (no_further r us e.0 rest stop) v d)
 
 -- what a text is, or nothing
 abbrev pub value_if : {A : Type 0} → Result A ℕ → Option A
@@ -73,7 +64,7 @@ none_if r f g text none = seen r f text ∙ go (read_all r (lexed text)) (exact 
     go (Err e) a = refl
 
 pub refused_is : {A : Type 0} (r : Rule) (f : Tree r → A) → good r ≡ true → (text : List ℕ) (spot : ℕ) → StopsIn r text spot → value_if (answer r f text) ≡ None
-refused_is r f g text spot (us, rest, cut, (begins, stop, at)) = none_if r f g text (goes_on r (lexed text) us rest cut stop)
+refused_is r f g text spot (us, rest, cut, (begins, stop, at)) = none_if r f g text (not_derived r (lexed text) us rest cut stop)
 
 -- ---- bytes
 

@@ -1,11 +1,16 @@
--- The settings that the code's types show.
+-- The options and the settings that the code's types show.
 use Rattle.std.specs.Prelude.{string_bytes}
+use Rattle.settings.specs.Options.{Number}
 use Rattle.settings.specs.Settings as spec
+use Rattle.settings.specs.declared.options.NumberOption.{NumberOption}
 use Rattle.settings.specs.declared.requests.Settings.{Settings}
 use Rattle.settings.specs.declared.requests.Settings.TheVariants.{Check, Print, Inline, Run, Gen, Test}
 use Rattle.settings.specs.declared.requests.InlineSettings.{InlineSettings}
 use Rattle.settings.specs.declared.requests.RunSettings.{RunSettings}
 use Rattle.settings.specs.declared.requests.GenSettings.{GenSettings}
+
+abbrev pub number_shown : NumberOption → Number
+number_shown o = record { name = o.name.now; least = o.least; most = o.most }
 
 abbrev pub inline_shown : InlineSettings → spec.InlineSettings
 inline_shown s = record { callee_size = s.callee_size; caller_size = s.caller_size; workers = s.workers }

@@ -3,8 +3,13 @@ ghost use Rattle.std.specs.Prelude.{◌≡◌, IfOk, [], false, codes};
 ghost use Rattle.clap.specs.Words.{app_of, new_app, rule_of, shape_of};
 ghost use Rattle.clap.specs.declared.builder.command.Command.TheViews.{out-Command};
 ghost use Rattle.settings.specs.Options.{flag, number_or, required_number, required_text, text_or_empty};
+ghost use Rattle.settings.specs.Shown.{number_shown};
 ghost use Rattle.settings.specs.Table as spec;
 
+use crate::options::{
+    ARGS, CALLEE_SIZE, CALLER_SIZE, ENTRY, FUNCTIONS, MEMORY, NUMBER, NumberOption, SCRIPT, STEPS,
+    TEXT, WORKERS,
+};
 use clap::builder::ValueParser;
 use clap::{Arg, ArgAction, Command};
 use std::alloc::{AllocError, Global};
@@ -76,30 +81,26 @@ fn run_command<'a>(alloc: Global) -> Result<Command<'a>, AllocError>
         "run",
         "Runs a function in the reference interpreter, and writes what happened",
     )
-    .arg(required_option(alloc, "entry", "The function's name, as %f or u0:1"))?
+    .arg(required_option(alloc, ENTRY, "The function's name, as %f or u0:1"))?
     .arg(text_option(
         alloc,
-        "args",
+        ARGS,
         "Numbers for its parameters, separated by commas",
     ))?
     .arg(text_option(
         alloc,
-        "script",
+        SCRIPT,
         "The replies of host functions in order of the calls, as return(7), trap int_divz",
     ))?
     .arg(number_option(
         alloc,
-        "memory",
-        0,
-        16_777_216,
+        MEMORY,
         "65536",
         "How many bytes the memory has, at most 16777216",
     ))?
     .arg(number_option(
         alloc,
-        "steps",
-        0,
-        1_000_000_000,
+        STEPS,
         "1000000",
         "The most instructions that are run, at most 1000000000",
     ))
@@ -116,22 +117,18 @@ fn gen_command<'a>(alloc: Global) -> Result<Command<'a>, AllocError>
     )
     .arg(number_option(
         alloc,
-        "number",
-        0,
-        u64::MAX,
+        NUMBER,
         "0",
         "The number that the module is made from",
     ))?
     .arg(required_number_option(
         alloc,
-        "functions",
-        1,
-        20_000,
+        FUNCTIONS,
         "How many functions the module has, 1 to 20000",
     ))?
     .arg(flag_option(
         alloc,
-        "text",
+        TEXT,
         "Writes the text of the module, and inlines nothing",
     ))?
     .arg(callee_size_option(alloc))?
@@ -145,9 +142,7 @@ fn callee_size_option<'a>(alloc: Global) -> Arg<'a>
 {
     number_option(
         alloc,
-        "callee-size",
-        0,
-        262_144,
+        CALLEE_SIZE,
         "64",
         "The largest size of a body that is inlined, at most 262144",
     )
@@ -159,9 +154,7 @@ fn caller_size_option<'a>(alloc: Global) -> Arg<'a>
 {
     number_option(
         alloc,
-        "caller-size",
-        0,
-        262_144,
+        CALLER_SIZE,
         "4096",
         "The largest size that a function may have then, at most 262144",
     )
@@ -173,30 +166,19 @@ fn workers_option<'a>(alloc: Global) -> Arg<'a>
 {
     number_option(
         alloc,
-        "workers",
-        1,
-        64,
+        WORKERS,
         "4",
         "How many workers share the job, 1 to 64",
     )
 }
 
-/// An option whose value is a number from `least` to `most`, or else `usual`.
-fn number_option<'a>(
-    alloc: Global,
-    name: &'a str,
-    least: u64,
-    most: u64,
-    usual: &'a str,
-    help: &'a str,
-) -> Arg<'a>
-    ensures { (rule_of result
-        ≡ number_or (record { name = name.entry.now; least = least; most = most }) usual.entry.now)
-        × (result.global ≡ false) }
+/// An option whose value is a number, or else `usual`.
+fn number_option<'a>(alloc: Global, option: NumberOption, usual: &'a str, help: &'a str) -> Arg<'a>
+    ensures { (rule_of result ≡ number_or (number_shown option) usual.entry.now) × (result.global ≡ false) }
 {
-    Arg::new(alloc, name)
-        .long(name)
-        .value_parser(ValueParser::unsigned(least, most))
+    Arg::new(alloc, option.name)
+        .long(option.name)
+        .value_parser(ValueParser::unsigned(option.least, option.most))
         .default_value(usual)
         .help(help)
 }
@@ -218,20 +200,13 @@ fn required_option<'a>(alloc: Global, name: &'a str, help: &'a str) -> Arg<'a>
     Arg::new(alloc, name).long(name).required(true).help(help)
 }
 
-/// An option whose value is a number from `least` to `most` that has to be given.
-fn required_number_option<'a>(
-    alloc: Global,
-    name: &'a str,
-    least: u64,
-    most: u64,
-    help: &'a str,
-) -> Arg<'a>
-    ensures { (rule_of result ≡ required_number (record { name = name.entry.now; least = least; most = most }))
-        × (result.global ≡ false) }
+/// An option whose value is a number that has to be given.
+fn required_number_option<'a>(alloc: Global, option: NumberOption, help: &'a str) -> Arg<'a>
+    ensures { (rule_of result ≡ required_number (number_shown option)) × (result.global ≡ false) }
 {
-    Arg::new(alloc, name)
-        .long(name)
-        .value_parser(ValueParser::unsigned(least, most))
+    Arg::new(alloc, option.name)
+        .long(option.name)
+        .value_parser(ValueParser::unsigned(option.least, option.most))
         .required(true)
         .help(help)
 }

@@ -3,6 +3,7 @@
 
 mod command_table;
 pub mod laws;
+mod options;
 mod reading;
 mod requests;
 

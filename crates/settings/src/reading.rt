@@ -4,9 +4,13 @@ ghost use Rattle.clap.specs.Words.{found_of, first_of, kind_of, rows_of, subcomm
 ghost use Rattle.clap.specs.declared.error.kind.ErrorKind.TheVariants as kind;
 ghost use Rattle.settings.specs.Options.{is_set, number_in, number_of};
 ghost use Rattle.settings.specs.Meaning as meaning;
-ghost use Rattle.settings.specs.Shown.{gen_shown, inline_shown, run_shown, shown};
+ghost use Rattle.settings.specs.Shown.{gen_shown, inline_shown, number_shown, run_shown, shown};
 
 use crate::command_table::command_table;
+use crate::options::{
+    ARGS, CALLEE_SIZE, CALLER_SIZE, ENTRY, FUNCTIONS, MEMORY, NUMBER, NumberOption, SCRIPT, STEPS,
+    TEXT, WORKERS,
+};
 use crate::requests::{GenSettings, InlineSettings, RunSettings, Settings};
 use clap::ArgMatches;
 use clap::error::ErrorKind;
@@ -105,9 +109,9 @@ fn find_settings(alloc: Global, matches: &ArgMatches) -> Result<Option<Settings>
 fn inline_settings(matches: &ArgMatches) -> Option<InlineSettings>
     ensures { option_map inline_shown result ≡ meaning.inline_settings (rows_of (found_of matches.now)) }
 {
-    let callee_size = number(matches, "callee-size", 0, 262_144)?;
-    let caller_size = number(matches, "caller-size", 0, 262_144)?;
-    let workers = number(matches, "workers", 1, 64)?;
+    let callee_size = number(matches, CALLEE_SIZE)?;
+    let caller_size = number(matches, CALLER_SIZE)?;
+    let workers = number(matches, WORKERS)?;
     Some(InlineSettings {
         callee_size: callee_size as usize,
         caller_size: caller_size as usize,
@@ -118,19 +122,19 @@ fn inline_settings(matches: &ArgMatches) -> Option<InlineSettings>
 fn run_settings(alloc: Global, matches: &ArgMatches) -> Result<Option<RunSettings>, AllocError>
     ensures { IfOk result (λ s. option_map run_shown s ≡ meaning.run_settings (rows_of (found_of matches.now))) }
 {
-    let Some(entry) = text(matches, "entry") else {
+    let Some(entry) = text(matches, ENTRY) else {
         return Ok(None);
     };
-    let Some(args) = text(matches, "args") else {
+    let Some(args) = text(matches, ARGS) else {
         return Ok(None);
     };
-    let Some(script) = text(matches, "script") else {
+    let Some(script) = text(matches, SCRIPT) else {
         return Ok(None);
     };
-    let Some(memory) = number(matches, "memory", 0, 16_777_216) else {
+    let Some(memory) = number(matches, MEMORY) else {
         return Ok(None);
     };
-    let Some(steps) = number(matches, "steps", 0, 1_000_000_000) else {
+    let Some(steps) = number(matches, STEPS) else {
         return Ok(None);
     };
     Ok(Some(RunSettings {
@@ -145,13 +149,13 @@ fn run_settings(alloc: Global, matches: &ArgMatches) -> Result<Option<RunSetting
 fn gen_settings(matches: &ArgMatches) -> Option<GenSettings>
     ensures { option_map gen_shown result ≡ meaning.gen_settings (rows_of (found_of matches.now)) }
 {
-    let number_given = number(matches, "number", 0, u64::MAX)?;
-    let functions = number(matches, "functions", 1, 20_000)?;
+    let number_given = number(matches, NUMBER)?;
+    let functions = number(matches, FUNCTIONS)?;
     let pass = inline_settings(matches)?;
     Some(GenSettings {
         number: number_given,
         functions: functions as u32,
-        text: is_set(matches, "text"),
+        text: is_set(matches, TEXT),
         pass,
     })
 }
@@ -166,14 +170,13 @@ fn is_set(matches: &ArgMatches, name: &str) -> bool
     }
 }
 
-/// The number from `least` to `most` that the option's value means.
-fn number(matches: &ArgMatches, name: &str, least: u64, most: u64) -> Option<u64>
-    ensures value { result ≡ number_in (record { name = name.now; least = least; most = most })
-        (rows_of (found_of matches.now)) }
-    ensures range { IfSome result (λ n. (least ≤ n) × (n ≤ most)) }
+/// The number that the option's value means.
+fn number(matches: &ArgMatches, option: NumberOption) -> Option<u64>
+    ensures value { result ≡ number_in (number_shown option) (rows_of (found_of matches.now)) }
+    ensures range { IfSome result (λ n. (option.least ≤ n) × (n ≤ option.most)) }
 {
-    let value = text(matches, name)?;
-    parse_number(value, least, most)
+    let value = text(matches, option.name)?;
+    parse_number(value, option.least, option.most)
 }
 
 /// The number from `least` to `most` that a text means.

@@ -4,3 +4,4 @@ pub mod MeantLaws
 pub mod HeadLaws
 pub mod PartLaws
 pub mod FirstFaults
+pub mod Faultless

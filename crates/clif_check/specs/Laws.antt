@@ -15,6 +15,11 @@ abbrev pub AcceptedHasNoFault : Type 0
 AcceptedHasNoFault =
     (text : List ℕ) (m : Module) (k : TextKind) (spot : ℕ) → IsAccepted text m → FirstFault text k spot → ⊥
 
+-- with the law before: a text is accepted exactly where it has no first fault
+abbrev pub FaultlessIsAccepted : Type 0
+FaultlessIsAccepted =
+    (text : List ℕ) → ((k : TextKind) (spot : ℕ) → FirstFault text k spot → ⊥) → (m : Module) × IsAccepted text m
+
 abbrev pub OneFirstFault : Type 0
 OneFirstFault =
     (text : List ℕ) (k l : TextKind) (s t : ℕ) → FirstFault text k s → FirstFault text l t → (k ≡ l) × (s ≡ t)

@@ -26,7 +26,7 @@ use Rattle.clif_check.proofs.Stages.{one_raw, read_is_faultless}
 
 -- ---- tokens and syntax
 
-pub as_text : Kind → TextKind
+abbrev pub as_text : Kind → TextKind
 as_text grammar.Syntax = kind.Syntax
 as_text grammar.UnknownOpcode = kind.UnknownOpcode
 as_text grammar.Unsupported = kind.Unsupported

@@ -7,7 +7,7 @@ use Rattle.test_directives.proofs.Texts.{read_is, refused_is, no_text}
 use Rattle.test_directives.proofs.values.numbers_of.Goals as goal
 
 pub returns-in_default : goal.returns-in_default
-returns-in_default c = sym (no_text grammar.number_list number_list_value refl c.args.text.now c.in_default.ensures.cases.0)
+returns-in_default c = sym (no_text grammar.number_list number_list_value refl refl c.args.text.now c.in_default.ensures.cases.0)
 
 pub returns-in-Ok-number_list : goal.returns-in-Ok-number_list
 returns-in-Ok-number_list c =

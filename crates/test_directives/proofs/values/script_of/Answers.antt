@@ -9,7 +9,7 @@ use Rattle.test_directives.proofs.Texts.{read_is, refused_is, no_text}
 use Rattle.test_directives.proofs.values.script_of.Goals as goal
 
 pub returns-in_default : goal.returns-in_default
-returns-in_default c = sym (no_text grammar.script script_value refl c.args.text.now c.in_default.ensures.cases.0)
+returns-in_default c = sym (no_text grammar.script script_value refl refl c.args.text.now c.in_default.ensures.cases.0)
 
 pub returns-in-Ok-script : goal.returns-in-Ok-script
 returns-in-Ok-script c =

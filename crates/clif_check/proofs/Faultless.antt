@@ -1,22 +1,19 @@
 -- A text without a first fault is accepted.
-use Rattle.std.proofs.Common.{◌≡◌, ℕ, Bool, true, false, List, [], ◌∷◌, ◌++◌, drop, length, Result, Ok, Err, inl, inr, refl, sym, subst, ◌+◌, ◌-◌, ◌&&◌, append_assoc}
+use Rattle.std.proofs.Common.{◌≡◌, ℕ, Bool, true, false, List, [], ◌∷◌, length, Result, Ok, Err, inl, inr, refl, sym, subst}
 use Rattle.std.specs.Prelude.{◌⊎◌, Decides}
 use Rattle.std.proofs.lemmas.Bool.Decides.{eqb_tells}
-use Rattle.std.proofs.lemmas.List.{append-nil}
 use Rattle.grammar.specs.Rules as grammar
-use Rattle.grammar.specs.Rules.{Lexeme, Kind, Rule, Tree, Derives, StopsAt, Answers, read_all}
+use Rattle.grammar.specs.Rules.{Lexeme, Kind, Tree, Derives, Answers, read_all}
 use Rattle.grammar.proofs.Exact.{exact}
-use Rattle.grammar.proofs.Past.{derives_begins}
-use Rattle.grammar.proofs.Prefixes.{prefix_begins}
+use Rattle.grammar.proofs.OneStop.{not_derived, no_further}
 use Rattle.clif_lex.specs.declared.spans.Token.{Token}
 use Rattle.clif_lex.specs.declared.faults.LexErr.{LexErr}
 use Rattle.clif_lex.specs.declared.faults.LexErr.TheVariants as lex
 use Rattle.clif_lex.specs.declared.faults.TextErr.TheVariants as errors
 use Rattle.clif_lex.specs.declared.faults.TextKind.{TextKind}
 use Rattle.clif_lex.specs.declared.faults.TextKind.TheVariants as kind
-use Rattle.clif_lex.specs.Lexing.{tokens_of, is_preamble}
-use Rattle.clif_lex.specs.Spelling.{IsReading, IsDivided, IsAtFault}
-use Rattle.clif_lex.proofs.Readings.{reading}
+use Rattle.clif_lex.specs.Lexing.{tokens_of}
+use Rattle.clif_lex.proofs.Readings.{never_want}
 use Rattle.clif_words.specs.Lexemes.{lexemes}
 use Rattle.token_reader.specs.Next.{spot_or}
 use Rattle.clif_read.specs.declared.raw.RawModule.{RawModule}
@@ -105,30 +102,17 @@ rules_kept m none =
 
 -- ---- tokens and syntax
 
-none_stands : (preamble : Bool) (at : ℕ) (text : List ℕ) (ts : List Token) → IsDivided (IsAtFault lex.NoMemory) preamble at text ts → ⊥
-none_stands preamble at text [] (n, within, blank, (some, no_blank, here)) = here
-none_stands preamble at text (t ∷ ts) (n, within, blank, (here, behind)) =
-    none_stands (preamble && is_preamble t.kind) t.end (drop (t.end - (at + n)) (drop n text)) ts behind
-
 abbrev Faultless : List ℕ → Type 0
 Faultless text = (k : TextKind) (spot : ℕ) → FirstFault text k spot → ⊥
 
 lexed : (text : List ℕ) → Faultless text → (tokens : List Token) × (tokens_of text ≡ Ok tokens)
-lexed text none = go (tokens_of text) refl (reading text)
+lexed text none = go (tokens_of text) refl
   where
-    go : (r : Result (List Token) LexErr) → tokens_of text ≡ r → IsReading text (tokens_of text) → (tokens : List Token) × (tokens_of text ≡ Ok tokens)
-    go (Ok tokens) e is = (tokens, e)
-    go (Err (lex.BadChar at)) e is = absurd (none kind.BadChar at (inl (subst (λ (r : Result (List Token) LexErr). IsFirstFault text r (errors.Fault kind.BadChar at)) (sym e) refl)))
-    go (Err (lex.BadNumber at)) e is = absurd (none kind.BadNumber at (inl (subst (λ (r : Result (List Token) LexErr). IsFirstFault text r (errors.Fault kind.BadNumber at)) (sym e) refl)))
-    go (Err lex.NoMemory) e is =
-        let read : IsReading text (Err lex.NoMemory) = subst (IsReading text) e is in
-        absurd (none_stands true 0 text read.0 read.1)
-
-not_derived : (r : Rule) (us rest : List Lexeme) (k : Kind) → StopsAt r us k rest → (v : Tree r) → Derives r (us ++ rest) v → ⊥
-not_derived r us [] k stops v d = stops.1 v (subst (λ l. Derives r l v) (append-nil us) d)
-not_derived r us (x ∷ more) k stops v d =
-    let next : us ++ x ∷ more ≡ (us ++ x ∷ []) ++ more = sym (append_assoc us (x ∷ []) more) in
-    stops.0 (prefix_begins r (us ++ x ∷ []) more (derives_begins r ((us ++ x ∷ []) ++ more) v (subst (λ l. Derives r l v) next d)))
+    go : (r : Result (List Token) LexErr) → tokens_of text ≡ r → (tokens : List Token) × (tokens_of text ≡ Ok tokens)
+    go (Ok tokens) e = (tokens, e)
+    go (Err (lex.BadChar at)) e = absurd (none kind.BadChar at (inl (subst (λ (r : Result (List Token) LexErr). IsFirstFault text r (errors.Fault kind.BadChar at)) (sym e) refl)))
+    go (Err (lex.BadNumber at)) e = absurd (none kind.BadNumber at (inl (subst (λ (r : Result (List Token) LexErr). IsFirstFault text r (errors.Fault kind.BadNumber at)) (sym e) refl)))
+    go (Err lex.NoMemory) e = absurd (never_want text e)
 
 as_stopped : (ts : List Lexeme) (end : ℕ) (k : Kind) (spot : ℕ) → Broken ts end k spot → Stopped ts end (errors.Fault (as_text k) spot)
 as_stopped ts end grammar.Syntax spot broken = broken
@@ -142,7 +126,8 @@ raw_of text none = let l = lexed text none in go l.0 l.1 (read_all module_rule (
         → (raw : RawModule) × IsModuleText text raw
     go tokens e (Ok v) a = (module_value v, record { tokens = tokens; lexed = e; read = (v, a.0, refl, a.1) })
     go tokens e (Err stop) (us, rest, cut, (same, begins, stops)) =
-        let no_module : NoModule (lexemes text tokens) = λ v d. not_derived module_rule us rest stop.0 stops v (subst (λ l. Derives module_rule l v) cut d) in
+        let no_module : NoModule (lexemes text tokens) =
+            λ v d. not_derived module_rule us rest (no_further module_rule us rest stop.0 stops) v (subst (λ l. Derives module_rule l v) cut d) in
         let broken : Broken (lexemes text tokens) (length text) stop.0 (spot_or (length text) rest) = (no_module, (us, rest, cut, (begins, stops, refl))) in
         let stopped = as_stopped (lexemes text tokens) (length text) stop.0 (spot_or (length text) rest) broken in
         absurd (none (as_text stop.0) (spot_or (length text) rest)

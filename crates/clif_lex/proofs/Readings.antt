@@ -165,6 +165,15 @@ fault_inside_text text fault e =
     let d : IsReading text (Err fault) = subst (IsReading text) e (reading text) in
     faults_inside fault text true 0 text d.0 (omega arith) d.1
 
+-- want of memory stands nowhere in a text
+no_want : (preamble : Bool) (at : ℕ) (text : List ℕ) (ts : List Token) → IsDivided (IsAtFault NoMemory) preamble at text ts → ⊥
+no_want preamble at text [] (n, within, blank, (some, no_blank, here)) = here
+no_want preamble at text (t ∷ ts) (n, within, blank, (stand, behind)) =
+    no_want (preamble && is_preamble t.kind) t.end (drop (t.end - (at + n)) (drop n text)) ts behind
+
+pub never_want : (text : List ℕ) → tokens_of text ≡ Err NoMemory → ⊥
+never_want text e = let read : IsReading text (Err NoMemory) = subst (IsReading text) e (reading text) in no_want true 0 text read.0 read.1
+
 pub if_token_in_text : (text : List ℕ) (ts : List Token) → tokens_of text ≡ Ok ts → (i : ℕ) → IfSome (slice_get ts i) (IsTokenIn text)
 if_token_in_text text ts whole i = go (slice_get ts i) refl
   where

@@ -17,14 +17,14 @@ use Rattle.program_run.specs.EntryName.{HasNoEntry, IsRefusalOfSpelled, spelling
 use Rattle.program_run.specs.RunText.{run_text}
 use Rattle.script_text.specs.Grammar as grammar
 use Rattle.script_text.specs.Scripts.{Reads, StopsIn}
-use Rattle.script_text.specs.Values.{number_list_value, script_value}
+use Rattle.script_text.specs.Values.{number_list_value}
+use Rattle.script_text.proofs.Places.{none_where_read}
 use Rattle.settings.specs.Settings.{RunSettings}
 use Rattle.clifinl.specs.declared.status.Status.{Status}
 use Rattle.clifinl.specs.declared.status.Status.TheVariants.{Done, Refused, Usage, ReadFault, WriteFault, NoMemory, ChecksFailed}
 use Rattle.clifinl.specs.declared.status.Refusal.TheVariants.{Text, TooLong, BadScript, NoEntry, BadArgs, BadDirective}
 use Rattle.clifinl.specs.RunCommand.{CanRun, EntryRunEnds, HasCause, HasEntry, HasOutcome, HasUnfitNumbers, IsEntryRefusal, IsFunctionRun, IsListRefusal, IsNoList, IsScriptRefusal, IsScriptText, IsUnread, ReadsScript}
 use Rattle.clifinl.specs.Runs.{IsFirstFault, Outside, Stopped, Took, Wrote, count_line}
-use Rattle.clifinl.proofs.Beginnings.{read_stops_nowhere}
 use Rattle.clifinl.proofs.Runs as runs
 
 -- ---- readings
@@ -35,7 +35,7 @@ one_value r value text x y a b = a.2 ∙ ap value (sym (a.3 b.0 b.1)) ∙ sym b.
 
 -- numbers that are read are not refused as a list
 pub no_list : (text : List ℕ) (spot : ℕ) → StopsIn grammar.number_list text spot → IsNoList text
-no_list text spot stops = λ numbers reads. read_stops_nowhere grammar.number_list refl number_list_value text numbers spot reads stops
+no_list text spot stops = λ numbers reads. none_where_read grammar.number_list text spot reads.0 reads.1 stops
 
 -- ---- entries
 
@@ -97,7 +97,7 @@ module _ (s : RunSettings) (before after : Outside) where
   pub script_refused : (status : Status) → IsScriptRefusal s.script status → IsUnread before after → Ends status
   script_refused (Refused (BadScript count)) why unread = record {
     cause = (why, unread);
-    complete = λ bytes is short can none. absurd (read_stops_nowhere grammar.script refl script_value s.script _ why.0 can.script.1 why.1);
+    complete = λ bytes is short can none. absurd (none_where_read grammar.script s.script why.0 can.script.1.0 can.script.1.1 why.1);
   }
   script_refused NoMemory why unread = out_of_memory
   script_refused (Refused (Text k place)) why unread = absurd why

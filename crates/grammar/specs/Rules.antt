@@ -242,6 +242,11 @@ heads_any (x ∷ xs) = true
 abbrev pub read_all : (r : Rule) → List Lexeme → Result (Tree r) (Kind × List Lexeme)
 read_all r ts = read r ts >>= λ x. if heads_any x.1 then Err (Syntax, x.1) else Ok x.0
 
+-- no text of the rule goes on behind these tokens with those that are left, or none ends there
+abbrev pub GoesNoFurther : Rule → List Lexeme → List Lexeme → Type 0
+GoesNoFurther r us [] = (v : Tree r) → Derives r us v → ⊥
+GoesNoFurther r us (x ∷ more) = Begins r (us ++ x ∷ []) → ⊥
+
 -- Where no text of the rule goes on: the tokens before begin one, and with the next they don't, or there is no next and
 -- they are no text of the rule.
 abbrev pub StopsAt : Rule → List Lexeme → Kind → List Lexeme → Type 0

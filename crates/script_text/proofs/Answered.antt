@@ -1,8 +1,9 @@
 -- What reading all tokens from left to right gives is the text's one reading, or the first place where no text goes on.
 use Rattle.std.proofs.Common.{◌≡◌, ℕ, true, cond, List, [], ◌∷◌, length, Result, Ok, Err, refl, sym, ap, subst, ◌∙◌}
-use Rattle.grammar.specs.Rules.{Lexeme, Kind, Syntax, UnknownOpcode, Unsupported, Rule, Tree, Out, Cut, Begins, Answers, StopsAt, good, heads_any, read, ◌>>=◌}
+use Rattle.grammar.specs.Rules.{Lexeme, Kind, Syntax, UnknownOpcode, Unsupported, Rule, Tree, Out, Cut, Begins, GoesNoFurther, Answers, good, heads_any, read, ◌>>=◌}
 use Rattle.grammar.proofs.Binds.{ok_is}
 use Rattle.grammar.proofs.Exact.{exact}
+use Rattle.grammar.proofs.OneStop.{no_further}
 use Rattle.token_reader.specs.declared.stop.Stop.{Stop}
 use Rattle.token_reader.specs.declared.stop.Stop.TheVariants as stops
 use Rattle.token_reader.specs.Next.{spot_or}
@@ -11,7 +12,7 @@ use Rattle.token_reader.specs.Values.{seen}
 use Rattle.token_reader.proofs.Seen.{Is}
 use Rattle.script_text.specs.Lexed.{lexed}
 use Rattle.script_text.specs.Reading.{finish_at, whole}
-use Rattle.script_text.specs.Scripts.{Reads, GoesNoFurther, StopsIn, Refuses, error_at}
+use Rattle.script_text.specs.Scripts.{Reads, StopsIn, Refuses, error_at}
 
 -- what stands behind what was read ends it
 abbrev all_of : {A : Type 0} → Out A → Out A
@@ -43,13 +44,9 @@ reads {A} {r} {f} is right text x now e =
     let answer = subst (Answers r (lexed text)) got.1 (exact r right (lexed text)) in
     (got.0, answer.0, got.2, answer.1)
 
-no_further : (r : Rule) (us : List Lexeme) (k : Kind) (rest : List Lexeme) → StopsAt r us k rest → GoesNoFurther r us rest
-no_further r us k [] stop = stop.1
-no_further r us k (x ∷ more) stop = stop.0
-
 stopped_at : (r : Rule) (ts : List Lexeme) (n : ℕ) (k : Kind) (now : List Lexeme) → Answers r ts (Err (k, now))
     → Cut ts (λ us rest. Begins r us × GoesNoFurther r us rest × (spot_or n now ≡ spot_or n rest))
-stopped_at r ts n k now (us, rest, cut, (same, begins, stop)) = (us, rest, cut, (begins, no_further r us k rest stop, ap (spot_or n) (sym same)))
+stopped_at r ts n k now (us, rest, cut, (same, begins, stop)) = (us, rest, cut, (begins, no_further r us rest k stop, ap (spot_or n) (sym same)))
 
 stops_in : {A : Type 0} {r : Rule} {f : Tree r → A} {p : List Lexeme → Out A} → Is r f p → good r ≡ true
     → (text : List ℕ) (k : Kind) (now : List Lexeme) → whole p (lexed text) ≡ Err (k, now) → StopsIn r text (spot_or (length text) now)

@@ -11,7 +11,7 @@ use Rattle.clif_lex.specs.Lexing.{is_preamble, tokens_of}
 use Rattle.clif_lex.specs.Spelling.{IsLongest, is_bad, Stands, IsDivided, IsAtEnd, IsAtFault, IsReading}
 use Rattle.clif_lex.proofs.Spelled.{take_of_take, first_take}
 use Rattle.clif_lex.proofs.OneReading.{only_reading}
-use Rattle.clif_lex.proofs.Readings.{reading}
+use Rattle.clif_lex.proofs.Readings.{reading, never_want}
 use Rattle.script_text.specs.Lexed.{AreBefore, TokensBefore}
 
 -- ---- a token that ends before a cut stands before it
@@ -112,14 +112,7 @@ char_stands s preamble at rest (some, blank, here) = sym here.0
 number_stands : (s : ℕ) → StandsAt (BadNumber s) s
 number_stands s preamble at rest (some, blank, here) = sym here.0
 
-none_stands : (text : List ℕ) → tokens_of text ≡ Err NoMemory → ⊥
-none_stands text e = let read : IsReading text (Err NoMemory) = subst (IsReading text) e (reading text) in go true 0 text read.0 read.1
-  where
-    go : (preamble : Bool) (at : ℕ) (xs : List ℕ) (ts : List Token) → IsDivided (IsAtFault NoMemory) preamble at xs ts → ⊥
-    go preamble at xs [] (n, within, blank, (some, no_blank, here)) = here
-    go preamble at xs (t ∷ ts) (n, within, blank, (here, behind)) = go (preamble && is_preamble t.kind) t.end (drop (t.end - (at + n)) (drop n xs)) ts behind
-
 pub tokens_before : (text : List ℕ) (fault : LexErr) → tokens_of text ≡ Err fault → TokensBefore text fault
 tokens_before text (BadChar s) e = before_fault (BadChar s) s (char_stands s) text e
 tokens_before text (BadNumber s) e = before_fault (BadNumber s) s (number_stands s) text e
-tokens_before text NoMemory e = none_stands text e
+tokens_before text NoMemory e = never_want text e

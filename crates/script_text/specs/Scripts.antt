@@ -1,6 +1,6 @@
 -- Which readings a text has, and where a text that has none goes wrong.
-use Rattle.std.specs.Prelude.{◌≡◌, ℕ, List, [], ◌∷◌, ◌++◌, length}
-use Rattle.grammar.specs.Rules.{Lexeme, Rule, Tree, Cut, Derives, Begins}
+use Rattle.std.specs.Prelude.{◌≡◌, ℕ, List, length}
+use Rattle.grammar.specs.Rules.{Rule, Tree, Cut, Derives, Begins, GoesNoFurther}
 use Rattle.token_reader.specs.Next.{spot_or}
 use Rattle.token_reader.specs.declared.stop.Stop.{Stop}
 use Rattle.token_reader.specs.declared.stop.Stop.TheVariants as stops
@@ -13,11 +13,6 @@ abbrev pub Reads : {A : Type 0} (rule : Rule) → (Tree rule → A) → List ℕ
 Reads rule value text x =
     (v : Tree rule) × Derives rule (lexed text) v × (x ≡ value v)
     × ((w : Tree rule) → Derives rule (lexed text) w → w ≡ v)
-
--- no text of the rule goes on behind these tokens with those that are left, or none ends there
-abbrev pub GoesNoFurther : Rule → List Lexeme → List Lexeme → Type 0
-GoesNoFurther rule us [] = (v : Tree rule) → Derives rule us v → ⊥
-GoesNoFurther rule us (x ∷ more) = Begins rule (us ++ x ∷ []) → ⊥
 
 -- The text is none of the rule. This is the first byte of the first token with which no text of the rule goes on, or
 -- the text's end.

@@ -1,40 +1,36 @@
 -- What a text is by the grammar of scripts, by the answer of reading it.
-use Rattle.std.proofs.Common.{◌≡◌, ℕ, ◌+◌, ◌-◌, ◌==◌, Bool, true, false, not, ◌&&◌, List, [], ◌∷◌, ◌++◌, length, take, drop, Option, Some, None, Result, Ok, Err, refl, sym, ap, ◌∙◌, inl, inr}
+use Rattle.std.proofs.Common.{◌≡◌, ℕ, ◌+◌, ◌-◌, ◌==◌, Bool, true, false, not, ◌&&◌, List, [], ◌∷◌, ◌++◌, length, take, Option, Some, None, Result, Ok, Err, refl, sym, ap, subst, ◌∙◌, inl, inr}
 use Rattle.std.specs.List.{list_all}
 use Rattle.std.specs.Str.{IsUtf8}
 use Rattle.std.proofs.lemmas.List.Folds.{list_all-append}
 use Rattle.std.proofs.lemmas.Str.{IsUtf8-from_ascii}
-use Rattle.grammar.specs.Rules.{Lexeme, Kind, Rule, Empty, Tok, Seq, Alt, Opt, Many, Refuse, Chain, Tree, Derives, Each, StopsAt, Answers, good, read_all}
+use Rattle.grammar.specs.Rules.{Lexeme, Kind, Rule, Empty, Tok, Seq, Alt, Opt, Many, Refuse, Chain, Tree, Derives, Each, Answers, good, read_all}
 use Rattle.grammar.proofs.Exact.{exact}
+use Rattle.grammar.proofs.OneStop.{not_derived, no_further}
 use Rattle.grammar.proofs.Sets.{both}
 use Rattle.clif_lex.specs.declared.spans.Token.{Token}
 use Rattle.clif_lex.specs.declared.spans.TokenKind.{TokenKind}
 use Rattle.clif_lex.specs.declared.spans.TokenKind.TheVariants.{Header, Comment, Name, Word, Number, Srcloc, Arrow, Mark}
 use Rattle.clif_lex.specs.declared.faults.LexErr.{LexErr}
 use Rattle.clif_lex.specs.declared.faults.LexErr.TheVariants.{BadChar, BadNumber, NoMemory}
-use Rattle.clif_lex.specs.Lexing.{tokens_of, is_preamble}
-use Rattle.clif_lex.specs.Spelling.{IsReading, IsDivided, IsAtFault}
-use Rattle.clif_lex.proofs.Readings.{reading}
+use Rattle.clif_lex.specs.Lexing.{tokens_of}
+use Rattle.clif_lex.specs.Spelling.{IsReading}
+use Rattle.clif_lex.proofs.Readings.{reading, never_want}
 use Rattle.script_text.specs.Examples.{answer}
 use Rattle.script_text.specs.Lexed.{lexed, lexed_by, symbols_before, symbols, or_none}
 use Rattle.script_text.specs.Symbols.{lexeme, plain}
 use Rattle.script_text.specs.declared.terminal.Terminal.TheVariants.{Other}
-use Rattle.script_text.specs.Scripts.{Reads, GoesNoFurther, StopsIn}
-use Rattle.script_text.proofs.Places.{not_derived}
+use Rattle.script_text.specs.Scripts.{Reads, StopsIn}
 use Rattle.test_directives.proofs.Ascii.{is_of_script, divided_small, small_is_ascii}
 
 -- ---- what is read, and what is refused
-
-no_further : (r : Rule) (us : List Lexeme) (k : Kind) (rest : List Lexeme) → StopsAt r us k rest → GoesNoFurther r us rest
-no_further r us k [] stop = stop.1
-no_further r us k (x ∷ more) stop = stop.0
 
 derived : (r : Rule) → good r ≡ true → (ts : List Lexeme) (v : Tree r) → Derives r ts v → read_all r ts ≡ Ok v
 derived r g ts v d = go (read_all r ts) (exact r g ts)
   where
     go : (o : Result (Tree r) (Kind × List Lexeme)) → Answers r ts o → o ≡ Ok v
     go (Ok w) a = ap (λ z. Ok z) (sym (a.1 v d))
-    go (Err e) (us, rest, cut, (same, begins, stop)) = absurd (not_derived r ts us rest cut (no_further r us e.0 rest stop) v d)
+    go (Err e) (us, rest, cut, (same, begins, stop)) = absurd (not_derived r us rest (no_further r us rest e.0 stop) v (subst (λ l. Derives r l v) cut d))
 
 -- what a text is, or nothing
 abbrev pub value_if : {A : Type 0} → Result A ℕ → Option A
@@ -64,7 +60,7 @@ none_if r f g text none = seen r f text ∙ go (read_all r (lexed text)) (exact 
     go (Err e) a = refl
 
 pub refused_is : {A : Type 0} (r : Rule) (f : Tree r → A) → good r ≡ true → (text : List ℕ) (spot : ℕ) → StopsIn r text spot → value_if (answer r f text) ≡ None
-refused_is r f g text spot (us, rest, cut, (begins, stop, at)) = none_if r f g text (not_derived r (lexed text) us rest cut stop)
+refused_is r f g text spot (us, rest, cut, (begins, stop, at)) = none_if r f g text (λ v d. not_derived r us rest stop v (subst (λ l. Derives r l v) cut d))
 
 -- ---- bytes
 
@@ -132,15 +128,11 @@ cut_short text spot h =
     let last : false ≡ true = (both (free 15 front) false parts).1 in
     absurd cc
 
-no_want : (preamble : Bool) (at : ℕ) (text : List ℕ) (ts : List Token) → IsDivided (IsAtFault NoMemory) preamble at text ts → ⊥
-no_want preamble at text [] (n, within, blank, here) = here.2
-no_want preamble at text (t ∷ ts) (n, within, blank, (stands, rest)) = no_want (preamble && is_preamble t.kind) t.end (drop (t.end - (at + n)) (drop n text)) ts rest
-
 lexed_small : (text : List ℕ) (o : Result (List Token) LexErr) → tokens_of text ≡ o → IsReading text o → free 15 (lexed_by text o) ≡ true → IsUtf8 text
 lexed_small text (Ok ts) e is h = IsUtf8-from_ascii text (small_is_ascii text (divided_small true 0 text ts is (kinds_are text ts h)))
 lexed_small text (Err (BadChar spot)) e is h = absurd (cut_short text spot h)
 lexed_small text (Err (BadNumber spot)) e is h = absurd (cut_short text spot h)
-lexed_small text (Err NoMemory) e is h = absurd (no_want true 0 text is.0 is.1)
+lexed_small text (Err NoMemory) e is h = absurd (never_want text e)
 
 is_text : (text : List ℕ) → free 15 (lexed text) ≡ true → IsUtf8 text
 unfolding lexed

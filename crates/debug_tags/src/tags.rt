@@ -60,14 +60,6 @@ impl Tags {
         self.list.as_slice()
     }
 
-    /// The list of the tags. Takes no memory.
-    pub fn into_list(self) -> Vec<Tag>
-        ensures { result.items ≡ self }
-    {
-        let Tags { list } = self;
-        list
-    }
-
     /// Whether a stack slot is among the tags.
     pub fn has_slot(&self) -> bool
         ensures { result ≡ list_any is_slot self.now }

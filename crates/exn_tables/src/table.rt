@@ -54,14 +54,6 @@ impl<T> Table<T> {
         self.entries.as_slice()
     }
 
-    /// The entries, taken out of the table. Takes no memory.
-    pub fn into_entries(self) -> Vec<Entry<T>>
-        ensures { result.items ≡ self }
-    {
-        let Table { entries } = self;
-        entries
-    }
-
     /// The place of the first entry, in written order, that has this tag or is `default`. `None` exactly where there is
     /// no such entry.
     pub fn find(&self, tag: u32) -> Option<usize>

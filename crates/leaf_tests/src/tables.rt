@@ -51,7 +51,7 @@ fn found_joined(alloc: Global) -> Result<[(usize, Option<usize>); 2], AllocError
 /// Whether joined tables have other entries in the other order.
 fn order_is_kept(alloc: Global) -> Result<bool, AllocError> {
     let (both, back) = (inner_first(alloc)?, outer_first(alloc)?);
-    Ok(both.into_entries() != back.into_entries())
+    Ok(both.entries() != back.entries())
 }
 
 /// `default` hides what stands behind it.

@@ -38,16 +38,10 @@ fn is_both(tags: &Tags) -> bool {
     tags.list() == [Tag::User(7), Tag::Slot(3), Tag::User(1)].as_slice()
 }
 
-/// How many tags the list has that is taken out.
-fn count(tags: Tags) -> usize {
-    tags.into_list().len()
-}
-
 #[test]
 fn outer_tags_stand_first(rt: HostRuntime) -> Result<(), AllocError> {
     let tags = both(rt.alloc())?;
     assert!(rt; is_both(&tags));
     assert!(rt; is_copied(&tags)?);
-    assert_eq!(rt; count(tags), 3);
     Ok(())
 }

@@ -1,1 +1,1 @@
-pub mod Replaceable
+pub mod Limits

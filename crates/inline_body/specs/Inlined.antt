@@ -8,7 +8,6 @@ use Rattle.ir_core.specs.Module.{ReturnCall, TryCall, Line, Block}
 use Rattle.ir_core.specs.Lists.{Each}
 use Rattle.ir_semantics.specs.Renaming.{called_under, instruction_under, tag_under}
 use Rattle.ir_semantics.specs.Splice.{from}
-use Rattle.ir_core.specs.Edits.{params_of, lines_of}
 use Rattle.ir_core.specs.Viewed.{line_of}
 use Rattle.inline_body.specs.declared.names.Names.{Names}
 use Rattle.inline_body.specs.declared.blocks.BlockLines.{BlockLines}
@@ -90,10 +89,6 @@ pub record BlockReached (n : Names) (starts : List ℕ) (count : ℕ) (b : Block
   pub fits : get_or starts b.number 0 + count ≤ 2 ^ 32
   pub params : Each (Moves n.values) b.params
   pub lines : Each (Reached n) b.lines
-
--- the block of a number
-abbrev pub block_at : List Block → ℕ → Block
-block_at bs k = record { number = k; params = params_of k bs; lines = lines_of k bs }
 
 -- blocks whose parameters and whose lines are two lists
 abbrev pub blocks_from : List (List ℕ) → List BlockLines → List Block

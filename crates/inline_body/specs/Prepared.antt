@@ -16,7 +16,10 @@ use Rattle.ir_semantics.specs.Renaming.{typed_under}
 use Rattle.ir_semantics.specs.Splice.{Splicing, Within, kind_of, callee_names, body, jump_in, new_types}
 use Rattle.ir_core.specs.Viewed.{line_of}
 use Rattle.inline_body.specs.Inlined.{blocks_from}
+use Rattle.inline_body.specs.declared.blocks.InlinedBlocks.{InlinedBlocks}
+use Rattle.inline_body.specs.declared.parts.SiteParts.{SiteParts}
 use Rattle.inline_body.specs.declared.prepared.PreparedBody.{PreparedBody}
+use Rattle.ir_core.specs.declared.signatures.Sig.{Sig}
 
 -- the function with a prepared body's declarations
 abbrev pub appended : Function → PreparedBody → Function
@@ -76,6 +79,18 @@ pub record IsReady (f : Function) (site : Point) (q : PreparedBody) : Type 0 whe
   pub lines_different : Different (line_definitions (lines_in q.block_lines))
   pub lines_undefined : (v : ℕ) → In v (line_definitions (lines_in q.block_lines)) → In v (definitions f.blocks) → ⊥
   pub apart : (v : ℕ) → In v (line_definitions (lines_in q.block_lines)) → In v (all_of (q.first ∷ q.block_params)) → ⊥
+
+-- the body has these parts, declarations and blocks
+pub record IsMadeOf (q : PreparedBody) (parts : SiteParts) (new_sigs : List Sig) (new_callees : List Callee)
+    (blocks : InlinedBlocks) : Type 0 where
+  pub slots : q.slots ≡ parts.slots
+  pub sigs : q.sigs ≡ new_sigs
+  pub callees : q.callees ≡ new_callees
+  pub types : q.types ≡ parts.types
+  pub jump : q.jump ≡ parts.jump
+  pub results : q.results ≡ parts.results
+  pub params : q.first ∷ q.block_params ≡ blocks.block_params
+  pub lines : q.block_lines ≡ blocks.block_lines
 
 -- the room that a body takes
 abbrev pub room_of : PreparedBody → Room

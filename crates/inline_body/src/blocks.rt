@@ -2,10 +2,10 @@
 ghost use Rattle.std.specs.Prelude.{◌≡◌, map, length, IfOk};
 ghost use Rattle.ir_core.specs.Lists.{In, Each};
 ghost use Rattle.ir_core.specs.Lookup.{block_numbers};
-ghost use Rattle.ir_core.specs.Edits.{lines_of};
+ghost use Rattle.ir_core.specs.Edits.{lines_of, block_at};
 ghost use Rattle.ir_core.specs.Viewed.{line_of};
 ghost use Rattle.inline_body.specs.Named.{names_of};
-ghost use Rattle.inline_body.specs.Inlined.{inlined_block, block_at, blocks_from, inlined_lines, results_from};
+ghost use Rattle.inline_body.specs.Inlined.{inlined_block, blocks_from, inlined_lines, results_from};
 ghost use Rattle.inline_body.specs.Inlined.{BlockReached};
 
 use crate::lines::inline_lines;

@@ -5,14 +5,14 @@ ghost use Rattle.inline_body.specs.WithBody.{lines_in};
 ghost use Rattle.inline_body.specs.Prepared.{room_of};
 ghost use Rattle.inline_body.specs.PlainCall.{CanSplice, IsPrepared};
 
-use crate::blocks::{BlockLines, InlinedBlocks, inline_blocks};
-use crate::names::Names;
+use crate::blocks::{BlockLines, inline_blocks};
+use crate::incoming::Incoming;
 use crate::parts::site_parts;
 use crate::prepared::PreparedBody;
 use crate::results::number_results;
 use crate::tables::number_blocks;
 use body_import::Import;
-use ir_core::{Block, Func, List, Point, Room};
+use ir_core::{Block, Func, Point, Room};
 use std::alloc::{AllocError, Global};
 
 /// How many lines the blocks have.
@@ -67,16 +67,11 @@ pub fn prepare_body(
     let first_result = (caller.values() + callee.values()) as u32;
     let new_results = number_results(alloc, callee, first_result, count)?;
     let blocks = number_blocks(alloc, callee, block_count)?;
-    let Import { sigs, callees } = import;
-    let names = Names {
-        values: caller.values() as u32,
-        slots: caller.slots().len() as u32,
-        blocks,
-        sig_count: caller.sigs().len() + sigs.added.as_slice().len(),
-        callee_count: caller.callees().len() + callees.added.as_slice().len(),
-        sigs: sigs.table,
-        callees: callees.table,
-    };
+    let Incoming {
+        names,
+        sigs,
+        callees,
+    } = Incoming::of_import(caller, blocks, import);
     let body = inline_blocks(
         alloc,
         &names,
@@ -98,17 +93,5 @@ pub fn prepare_body(
         callee,
         tail_calls,
     )?;
-    let mut block_params = body.block_params.into_vec();
-    let first = block_params.remove(0);
-    Ok(PreparedBody {
-        slots: parts.slots,
-        sigs: sigs.added,
-        callees: callees.added,
-        types: parts.types,
-        jump: parts.jump,
-        results: parts.results,
-        first,
-        block_params: List::from_vec(block_params),
-        block_lines: body.block_lines,
-    })
+    Ok(PreparedBody::of_parts(parts, sigs, callees, body))
 }

@@ -2,10 +2,10 @@
 ghost use Rattle.std.specs.Prelude.{◌≡◌, map, length, IfOk};
 ghost use Rattle.ir_core.specs.Lists.{In, Each};
 ghost use Rattle.ir_core.specs.Lookup.{block_numbers};
-ghost use Rattle.ir_core.specs.Edits.{lines_of};
+ghost use Rattle.ir_core.specs.Edits.{lines_of, block_at};
 ghost use Rattle.ir_core.specs.Viewed.{line_of};
 ghost use Rattle.inline_body.specs.Named.{names_of};
-ghost use Rattle.inline_body.specs.Inlined.{copied_line, block_at, blocks_from};
+ghost use Rattle.inline_body.specs.Inlined.{copied_line, blocks_from};
 ghost use Rattle.inline_ends.specs.Copied.{copied_block, CanCopy};
 
 use debug_tags::Tags;

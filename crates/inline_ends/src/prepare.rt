@@ -7,8 +7,8 @@ ghost use Rattle.inline_ends.specs.LastBody.{IsLastPrepared};
 use crate::copying::copy_blocks;
 use crate::numbers::number_blocks;
 use body_import::Import;
-use inline_body::{Names, PreparedBody, site_parts};
-use ir_core::{Func, List, Point};
+use inline_body::{Incoming, PreparedBody, site_parts};
+use ir_core::{Func, Point};
 use std::alloc::{AllocError, Global};
 
 /// A callee's body for a tail call of a caller that has so many blocks, and takes over the import. The caller stays as
@@ -30,30 +30,13 @@ pub fn prepare_tail(
     let _ = callee.values();
     let call = caller.inst(site);
     let blocks = number_blocks(alloc, callee, block_count)?;
-    let Import { sigs, callees } = import;
-    let names = Names {
-        values: caller.values() as u32,
-        slots: caller.slots().len() as u32,
-        blocks,
-        sig_count: caller.sigs().len() + sigs.added.as_slice().len(),
-        callee_count: caller.callees().len() + callees.added.as_slice().len(),
-        sigs: sigs.table,
-        callees: callees.table,
-    };
+    let Incoming {
+        names,
+        sigs,
+        callees,
+    } = Incoming::of_import(caller, blocks, import);
     let body = copy_blocks(alloc, &names, &call.tags, callee)?;
     drop(names);
     let parts = site_parts(alloc, caller, block_count, call, &[], callee, 0)?;
-    let mut block_params = body.block_params.into_vec();
-    let first = block_params.remove(0);
-    Ok(PreparedBody {
-        slots: parts.slots,
-        sigs: sigs.added,
-        callees: callees.added,
-        types: parts.types,
-        jump: parts.jump,
-        results: parts.results,
-        first,
-        block_params: List::from_vec(block_params),
-        block_lines: body.block_lines,
-    })
+    Ok(PreparedBody::of_parts(parts, sigs, callees, body))
 }

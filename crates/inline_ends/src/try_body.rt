@@ -3,9 +3,10 @@ ghost use Rattle.std.specs.Prelude.{◌≡◌, ℕ, ◌+◌, ◌<◌, ◌^◌, �
 ghost use Rattle.ir_core.specs.Lists.{In, Each};
 ghost use Rattle.ir_core.specs.Lookup.{block_numbers};
 ghost use Rattle.ir_core.specs.Viewed.{instruction_of, line_of};
+ghost use Rattle.ir_core.specs.Edits.{block_at};
 ghost use Rattle.ir_semantics.specs.Splice.{Fragment};
 ghost use Rattle.inline_body.specs.Named.{names_of, Moves, Reached};
-ghost use Rattle.inline_body.specs.Inlined.{block_at, blocks_from};
+ghost use Rattle.inline_body.specs.Inlined.{blocks_from};
 ghost use Rattle.inline_ends.specs.Tried.{is_plain_call as spec_is_plain_call, tried_line as spec_tried_line};
 ghost use Rattle.inline_ends.specs.Tried.{with_line};
 ghost use Rattle.inline_ends.specs.Tried.{tried_block, tried_blocks};

@@ -10,8 +10,8 @@ use crate::try_body::try_blocks;
 use crate::try_numbers::number_try_blocks;
 use crate::trying::TrySite;
 use body_import::Import;
-use inline_body::{Names, PreparedBody, site_parts};
-use ir_core::{Callee, Func, Inst, InstData, List, Point};
+use inline_body::{Incoming, PreparedBody, site_parts};
+use ir_core::{Callee, Func, Inst, InstData, Point};
 use std::alloc::{AllocError, Global};
 
 /// A `try_call` as a site, where its function has these callee declarations and takes over others.
@@ -60,31 +60,14 @@ pub fn prepare_try(
     let _ = callee.values();
     let call = caller.inst(site);
     let blocks = number_try_blocks(alloc, callee, block_count)?;
-    let Import { sigs, callees } = import;
-    let names = Names {
-        values: caller.values() as u32,
-        slots: caller.slots().len() as u32,
-        blocks,
-        sig_count: caller.sigs().len() + sigs.added.as_slice().len(),
-        callee_count: caller.callees().len() + callees.added.as_slice().len(),
-        sigs: sigs.table,
-        callees: callees.table,
-    };
-    let outer = site_of(call, caller.callees(), callees.added.as_slice());
+    let Incoming {
+        names,
+        sigs,
+        callees,
+    } = Incoming::of_import(caller, blocks, import);
+    let outer = site_of(call, caller.callees(), callees.as_slice());
     let body = try_blocks(alloc, &names, &outer, callee)?;
     drop(names);
     let parts = site_parts(alloc, caller, block_count, call, &[], callee, 0)?;
-    let mut block_params = body.block_params.into_vec();
-    let first = block_params.remove(0);
-    Ok(PreparedBody {
-        slots: parts.slots,
-        sigs: sigs.added,
-        callees: callees.added,
-        types: parts.types,
-        jump: parts.jump,
-        results: parts.results,
-        first,
-        block_params: List::from_vec(block_params),
-        block_lines: body.block_lines,
-    })
+    Ok(PreparedBody::of_parts(parts, sigs, callees, body))
 }

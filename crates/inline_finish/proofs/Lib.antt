@@ -4,4 +4,5 @@ pub mod Naming
 pub mod Places
 pub mod Sizes
 pub mod Steps
+pub mod Replaceable
 pub mod Taking

@@ -1,11 +1,11 @@
 -- At an own line that is a site: what it calls, whether the body is taken, and the step behind it.
 use Rattle.std.proofs.Common.{◌≡◌, inl, inr, ℕ, suc, ◌+◌, ◌<◌, List, [], ◌∷◌, length, drop, Option, Some, None, true, false, refl, sym, ap, ◌∙◌, subst, add-one, arith}
 use Rattle.std.specs.Prelude.{slice_get, nat_le}
-use Rattle.std.proofs.lemmas.Bool.{leb-true}
+use Rattle.std.proofs.lemmas.Bool.{leb-true, and_parts}
 use Rattle.std.proofs.lemmas.List.{length-drop}
 use Rattle.ir_core.specs.declared.declarations.Callee.{Callee}
 use Rattle.ir_core.specs.declared.places.Point.{Point}
-use Rattle.ir_core.specs.Module.{Instruction, Plain, Branches, SequencePoint, Return, Call, ReturnCall, TryCall, Line, Function, Module}
+use Rattle.ir_core.specs.Module.{Line, Function, Module}
 use Rattle.ir_core.specs.Edits.{lines_of}
 use Rattle.ir_core.specs.Lists.{In}
 use Rattle.ir_core.specs.Lookup.{and_then, block_numbers}
@@ -13,19 +13,16 @@ use Rattle.ir_core.specs.Size.{size_of}
 use Rattle.ir_core.specs.Sound.{IsSound}
 use Rattle.ir_core.specs.Uses.{callee_of}
 use Rattle.ir_core.specs.WellFormed.{WellFormed}
-use Rattle.ir_core.proofs.Equal.{both_true}
+use Rattle.ir_core.proofs.Gets.{some_same, in_get}
+use Rattle.ir_core.proofs.Members.{each_in}
 use Rattle.ir_semantics.specs.Canon.{SameFunction}
 use Rattle.ir_semantics.specs.Renaming.{Renaming}
 use Rattle.ir_semantics.specs.Splice.{Naming, sides, spliced, kind_of, Within}
+use Rattle.ir_semantics.proofs.SafetyPlaces.{some_and}
 use Rattle.avail_flow.proofs.Blocks.{line_found}
 use Rattle.call_graph.specs.Reach.{called_names}
-use Rattle.inline_outcomes.proofs.Local.{some_same}
-use Rattle.inline_acceptance.proofs.KeptFunctions.{in_get}
-use Rattle.inline_acceptance.proofs.KeptLists.{some_and, each_in}
 use Rattle.inline_body.proofs.Ready.{is_within}
-use Rattle.inline_body.specs.PlainCall.{IsPlainCall, IsSplice, splicing_at}
-use Rattle.inline_ends.specs.TailCall.{IsTailCall}
-use Rattle.inline_ends.specs.TryCallSite.{IsTryCall}
+use Rattle.inline_body.specs.PlainCall.{IsSplice, splicing_at}
 use Rattle.inline_caller.specs.Replacing.{CanReplace, plain, tail, tries}
 use Rattle.inline_pass.specs.Policy.{Policy, takes}
 use Rattle.inline_pass.specs.Sites.{is_site}
@@ -44,6 +41,7 @@ use Rattle.inline_finish.specs.Midway.{IsReady, point_of, Twin, twins_of, Left, 
 use Rattle.call_graph.specs.Marks.{target_by}
 use Rattle.inline_finish.specs.Targets.{targets_in}
 use Rattle.inline_finish.proofs.Places as places
+use Rattle.inline_finish.proofs.Replaceable.{replaceable}
 use Rattle.inline_finish.proofs.Naming.{named, not_named, target_apart, body_found, no_body}
 
 -- ---- what an own line calls
@@ -139,7 +137,7 @@ module _ (p : Policy) (m : Module) (f : Function) (ready : IsReady p m f) (block
 
         pub small : (n : Naming) → WithinLimit n code h at l
         small n =
-            let both = both_true (nat_le (size_of h) p.callee_size) (nat_le (size_of (spliced (splicing_at n code h at l))) p.caller_size) (decided.0 n) in
+            let both = and_parts (nat_le (size_of h) p.callee_size) (nat_le (size_of (spliced (splicing_at n code h at l))) p.caller_size) (decided.0 n) in
             let one = leb-true (size_of h) p.callee_size both.0 in
             let other = leb-true (size_of (spliced (splicing_at n code h at l))) p.caller_size both.1 in
             let limit = ready.callee_size in
@@ -148,16 +146,7 @@ module _ (p : Policy) (m : Module) (f : Function) (ready : IsReady p m f) (block
 
         -- so it can be replaced
         pub can_replace : PlainCallHasNumbers → TailCallHasNumbers → TryCallHasNumbers → CanReplace code h at
-        can_replace plain_law tail_law try_law = go l.inst refl there.is
-          where
-            go : (i : Instruction) → l.inst ≡ i → callee_of l.inst ≡ Some there.index → CanReplace code h at
-            go (Call t' args) e is = plain (plain_law sides code h at l (small sides) (subst IsPlainCall (sym e) tt))
-            go (ReturnCall t' args) e is = tail (tail_law sides code h at l (small sides) (subst IsTailCall (sym e) tt))
-            go (TryCall t' sg args a u) e is = tries (try_law sides code h at l (small sides) (subst IsTryCall (sym e) tt))
-            go (Plain a) e is = let z : None ≡ Some there.index = sym (ap callee_of e) ∙ is in absurd cc
-            go (Branches a) e is = let z : None ≡ Some there.index = sym (ap callee_of e) ∙ is in absurd cc
-            go SequencePoint e is = let z : None ≡ Some there.index = sym (ap callee_of e) ∙ is in absurd cc
-            go (Return a) e is = let z : None ≡ Some there.index = sym (ap callee_of e) ∙ is in absurd cc
+        can_replace plain_law tail_law try_law = replaceable code h at l plain_law tail_law try_law there.index there.is (small sides)
 
         pub line_at : slice_get (lines_of at.block code.blocks) at.index ≡ Some l
         line_at = places.line_in task ahead l twins at count mid.going mid.fit whole there.body h there.called there.fit there.same

@@ -4,7 +4,8 @@ use Rattle.ir_core.specs.Module.{Line, Function}
 use Rattle.ir_core.specs.Size.{size_of}
 use Rattle.ir_core.specs.Viewed.{line_of}
 use Rattle.ir_semantics.specs.Splice.{sides, splice_with}
-use Rattle.caller_tests.proofs.Replaceable.{within, replaceable}
+use Rattle.inline_finish.proofs.Replaceable.{replaceable}
+use Rattle.caller_tests.proofs.Limits.{within}
 use Rattle.caller_tests.proofs.sites.can_replace.Goals as goal
 
 pub returns : goal.returns

@@ -1,5 +1,5 @@
 use Rattle.inline_acceptance.proofs.Alone.{free_of}
-use Rattle.inline_acceptance.proofs.KeptFunctions.{get_in}
+use Rattle.ir_core.proofs.Gets.{get_in}
 use Rattle.caller_tests.proofs.sites.function.Goals as goal
 
 pub returns-clause-accepted : goal.returns-clause-accepted

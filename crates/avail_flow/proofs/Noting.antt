@@ -3,7 +3,7 @@ use Rattle.std.proofs.Common.{◌≡◌, ◌⊎◌, inl, inr, ℕ, zero, suc, �
 use Rattle.std.specs.Prelude.{slice_index}
 use Rattle.std.proofs.lemmas.Bool.{cases_eq}
 use Rattle.ir_core.specs.Module.{Line}
-use Rattle.ir_core.specs.Lists.{In, Below}
+use Rattle.ir_core.specs.Lists.{In}
 use Rattle.avail_flow.specs.Points.{Code, Defines, DefinedAt}
 use Rattle.avail_flow.specs.Flow.{Known}
 
@@ -11,9 +11,6 @@ use Rattle.avail_flow.specs.Flow.{Known}
 pub record Noted (vs : List ℕ) (b j : ℕ) (home place home' place' : List ℕ) : Type 0 where
   pub noted : (v : ℕ) → In v vs → (slice_index home' v ≡ b) × (slice_index place' v ≡ j)
   pub others : (v : ℕ) → (In v vs → ⊥) → (slice_index home' v ≡ slice_index home v) × (slice_index place' v ≡ slice_index place v)
-
-pub none_noted : (b j : ℕ) (home place : List ℕ) → Noted [] b j home place home place
-none_noted b j home place = record { noted = λ v i. elim i [ ]; others = λ v n. (refl, refl) }
 
 in_take : (vs : List ℕ) (i v : ℕ) → i < length vs → In v (take (suc i) vs) → In v (take i vs) ⊎ (v ≡ get_or vs i 0)
 in_take [] i v low h = absurd (omega arith)
@@ -56,11 +53,6 @@ pub noted_more : (vs : List ℕ) (i w b j : ℕ) (home place home' place' : List
 noted_more vs i w b j home place home' place' low is inside inside' n =
     let e : i + 1 ≡ suc i = omega arith in
     subst (λ (k : ℕ). Noted (take k vs) b j home place (set home' w b) (set place' w j)) (sym e) (noted_suc vs i w b j home place home' place' low is inside inside' n)
-
-pub below_at : (n : ℕ) (vs : List ℕ) (i : ℕ) → Below n vs → i < length vs → get_or vs i 0 < n
-below_at n [] i b h = absurd (omega arith)
-below_at n (x ∷ vs) zero b h = b.0
-below_at n (x ∷ vs) (suc i) b h = below_at n vs i b.1 (omega arith)
 
 -- one value has one definition
 abbrev pub OneEach : Code → Type 0

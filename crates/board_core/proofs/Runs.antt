@@ -4,9 +4,9 @@ use mathlib.Core.Logic.{dite}
 use native.Mathlib.Decide.{ℕ_discrete, dec_le}
 use Rattle.std.specs.List.{slice_get}
 use Rattle.std.proofs.lemmas.Option.{get_or_from_slice_get, slice_get_within}
-use Rattle.std.specs.Prelude.{◌&&◌}
 use Rattle.std.proofs.lemmas.List.{length-replicate, get_or-replicate, get_or_past}
 use Rattle.std.proofs.lemmas.Bool.Decides.{nat_tests}
+use Rattle.std.proofs.lemmas.Bool.{and_parts}
 use Rattle.board_core.specs.declared.state.Mark.TheVariants.{Body, Refused}
 use Rattle.board_core.specs.declared.state.Phase.{Phase}
 use Rattle.board_core.specs.declared.state.Phase.TheVariants.{Vacant, Filling, Full, Reading}
@@ -57,11 +57,6 @@ record Inv (n : ℕ) (b : Board) (ds : ℕ → List ℕ) (fs : ℕ → List Fill
   drawn : (t : ℕ) → t < b.next → DrawnOnce n t (ds t) (owner_at b t)
   undrawn : (t : ℕ) → b.next ≤ t → ds t ≡ []
   fills : (t : ℕ) → FilledAs (owner_at b t) (fs t) (phase_at b t)
-
-both_true : (a b : Bool) → (a && b) ≡ true → (a ≡ true) × (b ≡ true)
-both_true true true h = (refl, refl)
-both_true true false h = cc
-both_true false b h = cc
 
 -- only what the histories have at each ticket counts
 same_histories : {n : ℕ} {b : Board} {ds' : ℕ → List ℕ} {fs' : ℕ → List Fill} (ds : ℕ → List ℕ) (fs : ℕ → List Fill) → ((t : ℕ) → ds' t ≡ ds t) → ((t : ℕ) → fs' t ≡ fs t)
@@ -142,7 +137,7 @@ module _ (n : ℕ) (b : Board) (ds : ℕ → List ℕ) (fs : ℕ → List Fill) 
   allowed_step : (e : BoardEvent) → is_allowed b e ≡ true → Inv n (changed_by b e) (λ t. ds t ++ drawn_by t b e) (λ t. fs t ++ filled_by t b e)
   allowed_step (Draw w) h = subst (λ c. Inv n (changed_by b (Draw w)) (λ t. ds t ++ cond c (cond (eqb b.next t) (w ∷ []) []) []) (λ t. fs t ++ [])) (sym h) (draw_moves w)
   allowed_step (BeginFill w t) h =
-      let both = both_true (is_owned_by w (slice_get b.owners t)) (is_vacant (slice_get b.phases t)) h in
+      let both = and_parts (is_owned_by w (slice_get b.owners t)) (is_vacant (slice_get b.phases t)) h in
       let o = owner_found w (slice_get b.owners t) both.0 in
       let p = vacant_found (slice_get b.phases t) both.1 in
       let mine : owner_at b t ≡ Some w = get_or_from_slice_get b.owners t (Some w) None o in

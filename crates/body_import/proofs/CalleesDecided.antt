@@ -8,12 +8,13 @@ use Rattle.ir_core.specs.declared.declarations.Callee.{Callee}
 use Rattle.ir_core.specs.Lookup.{same_bytes, same_name}
 use Rattle.ir_core.specs.Lists.{Each}
 use Rattle.ir_core.specs.Signatures.{same_sig}
+use Rattle.ir_core.proofs.Gets.{get_mapped}
 use Rattle.ir_semantics.specs.Import.{same_bool, same_sigs, same_callee, first_place, new_place}
 use Rattle.body_import.specs.SigKeys.{sig_key}
 use Rattle.body_import.specs.CalleeKeys.{colocated_number, name_key, callee_key, first_sig, key_among, renumbered, AreFirst}
 use Rattle.body_import.proofs.SigsDecided.{sigs_decide}
 use Rattle.body_import.proofs.Decided.{place_by_key}
-use Rattle.body_import.proofs.FirstPlaces.{places_decide, get_mapped, place_below, each_at}
+use Rattle.body_import.proofs.FirstPlaces.{places_decide, place_below, each_at}
 use Rattle.body_import.proofs.Imported.{here}
 
 first_places_decide : (all : List Sig) (i j : ℕ) → same_sigs (slice_get all i) (slice_get all j) ≡ nat_eq (first_sig all i) (first_sig all j)

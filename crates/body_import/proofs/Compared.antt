@@ -5,7 +5,7 @@ use Rattle.std.specs.Prelude.{if◌then◌else◌, nat_eq, Option, Some, None}
 use Rattle.ir_core.specs.declared.signatures.Sig.{Sig}
 use Rattle.ir_core.specs.Lookup.{same_bytes}
 use Rattle.ir_core.specs.Signatures.{same_sig}
-use Rattle.ir_core.proofs.Indexing.{same_bytes_self}
+use Rattle.ir_core.proofs.Equal.{bytes_same}
 use Rattle.ir_semantics.specs.Import.{with_item, with_items, first_place, same_sigs}
 use Rattle.body_import.specs.Merged.{is_new, keep}
 use Rattle.body_import.specs.Compared.{IsPlaced}
@@ -111,7 +111,7 @@ walk_step same self own added added' places places' all rest x p w s e =
 -- ---- an item is the same as itself
 
 pub same_self : {A : Type 0} (same : A → A → Bool) (key : A → List ℕ) → ((x y : A) → same x y ≡ same_bytes (key x) (key y)) → (x : A) → same x x ≡ true
-same_self same key decide x = decide x x ∙ same_bytes_self (key x)
+same_self same key decide x = decide x x ∙ bytes_same (key x)
 
 pub sigs_self : (o : Option Sig) → same_sigs o o ≡ true
 sigs_self None = refl

@@ -2,11 +2,12 @@
 use Rattle.std.proofs.Common.{◌≡◌, ℕ, zero, suc, ◌<◌, List, [], ◌∷◌, ◌++◌, map, length, Bool, Option, Some, None, refl, sym, ap, ◌∙◌, arith, get_or}
 use Rattle.std.specs.Prelude.{slice_get}
 use Rattle.ir_core.specs.Lookup.{same_bytes}
+use Rattle.ir_core.proofs.Gets.{get_mapped}
 use Rattle.ir_semantics.specs.Import.{with_items, first_place, new_place}
 use Rattle.std.proofs.lemmas.List.{length-map}
 use Rattle.body_import.specs.Merged.{news, keep, key_places}
 use Rattle.body_import.proofs.Decided.{places_decided, news_decided, kept_news, place_by_key, items_by_key}
-use Rattle.body_import.proofs.FirstPlaces.{item_below, get_mapped, place_below, at_place, place_in_front}
+use Rattle.body_import.proofs.FirstPlaces.{item_below, place_below, at_place, place_in_front}
 
 place_in : {A : Type 0} (same : A → A → Bool) (all xs : List A) (k : ℕ) → new_place same all (slice_get xs k) ≡ get_or (map (first_place same all) xs) k (length all)
 place_in same all [] k = refl

@@ -10,9 +10,10 @@ use Rattle.std.specs.declared.alloc.Global.{Global}
 use Rattle.ir_core.specs.Lookup.{same_bytes}
 use Rattle.ir_core.specs.Named.{compare_texts}
 use Rattle.ir_semantics.specs.Import.{with_item, with_items, first_place}
-use Rattle.ir_core.proofs.Indexing.{text_test, same_bytes_self, same_bytes_is, equal_from_test, lookup_insert, place_push}
+use Rattle.ir_core.proofs.Indexing.{text_test, equal_from_test, lookup_insert, place_push}
+use Rattle.ir_core.proofs.Equal.{bytes_same, bytes_equal}
 use Rattle.body_import.specs.Keys.{key_place}
-use Rattle.body_import.specs.Merged.{is_new, keep}
+use Rattle.body_import.specs.Merged.{is_new}
 
 -- ---- the index
 
@@ -23,16 +24,16 @@ key_more start keys key n es new number k old =
     ∙ (go (same_bytes key.items k) (key_place start keys k) absent ∙ sym (place_push (λ x. same_bytes x k) start n keys key.items number)))
   where
     same : (e : Vec ℕ Global) → slice_cmp nat_cmp key.items e.items ≡ Equal → is_eq (slice_cmp nat_cmp k e.items) ≡ is_eq (slice_cmp nat_cmp k key.items)
-    same e h = let q : e.items ≡ key.items = same_bytes_is e.items key.items (sym (text_test key.items e.items) ∙ ap is_eq h) in ap (λ z. is_eq (slice_cmp nat_cmp k z)) q
+    same e h = let q : e.items ≡ key.items = bytes_equal e.items key.items (sym (text_test key.items e.items) ∙ ap is_eq h) in ap (λ z. is_eq (slice_cmp nat_cmp k z)) q
 
     only : (e : Vec ℕ Global) → is_eq (slice_cmp nat_cmp k e.items) ≡ true → is_eq (slice_cmp nat_cmp k key.items) ≡ true → slice_cmp nat_cmp key.items e.items ≡ Equal
     only e h g =
-        let a : e.items ≡ k = same_bytes_is e.items k (sym (text_test k e.items) ∙ h) in
-        let b : key.items ≡ k = same_bytes_is key.items k (sym (text_test k key.items) ∙ g) in
-        equal_from_test (slice_cmp nat_cmp key.items e.items) (text_test key.items e.items ∙ (ap₂ (λ x y. same_bytes x y) a b ∙ same_bytes_self k))
+        let a : e.items ≡ k = bytes_equal e.items k (sym (text_test k e.items) ∙ h) in
+        let b : key.items ≡ k = bytes_equal key.items k (sym (text_test k key.items) ∙ g) in
+        equal_from_test (slice_cmp nat_cmp key.items e.items) (text_test key.items e.items ∙ (ap₂ (λ x y. same_bytes x y) a b ∙ bytes_same k))
 
     absent : same_bytes key.items k ≡ true → key_place start keys k ≡ None
-    absent h = ap (key_place start keys) (sym (same_bytes_is key.items k h)) ∙ new
+    absent h = ap (key_place start keys) (sym (bytes_equal key.items k h)) ∙ new
 
     go : (b : Bool) (o : Option ℕ) → (b ≡ true → o ≡ None) → cond b (Some n) o ≡ cond (is_some o) o (cond b (Some n) None)
     go true None h = refl
@@ -131,14 +132,10 @@ pub key_again : (start : ℕ) (keys : List (List ℕ)) (key : List ℕ) (i : ℕ
 key_again start keys key i e k = place_push (λ x. same_bytes x k) start (start + length keys) keys key refl ∙ go (same_bytes key k) (key_place start keys k) present
   where
     present : same_bytes key k ≡ true → key_place start keys k ≡ Some i
-    present h = ap (key_place start keys) (sym (same_bytes_is key k h)) ∙ e
+    present h = ap (key_place start keys) (sym (bytes_equal key k h)) ∙ e
 
     go : (b : Bool) (o : Option ℕ) → (b ≡ true → o ≡ Some i) → cond (is_some o) o (cond b (Some (start + length keys)) None) ≡ o
     go true None h = let q : None ≡ Some i = h refl in cc
     go true (Some j) h = refl
     go false None h = refl
     go false (Some j) h = refl
-
-pub keep_step : {A : Type 0} (all done done' : List A) (b : Bool) (x : A) (bs : List Bool) (xs : List A) → done' ≡ done ++ keep (b ∷ []) (x ∷ []) → done ++ keep (b ∷ bs) (x ∷ xs) ≡ all → done' ++ keep bs xs ≡ all
-keep_step all done done' true x bs xs e h = ap (λ z. z ++ keep bs xs) e ∙ (append_assoc done (x ∷ []) (keep bs xs) ∙ h)
-keep_step all done done' false x bs xs e h = ap (λ z. z ++ keep bs xs) (e ∙ append-nil done) ∙ h

@@ -9,6 +9,7 @@ use Rattle.ir_core.specs.Lists.{Each, Below}
 use Rattle.ir_core.specs.Signatures.{same_sig}
 use Rattle.ir_core.specs.Lookup.{same_bytes}
 use Rattle.ir_core.proofs.Members.{each_right}
+use Rattle.ir_core.proofs.Gets.{get_mapped, get_left}
 use Rattle.ir_semantics.specs.Import.{with_item, with_items, first_place, new_place, same_callee, sigs_after, sig_after, callees_with}
 use Rattle.body_import.specs.declared.declarations.Keyed.{Keyed}
 use Rattle.body_import.specs.declared.places.Places.{Places}
@@ -22,7 +23,7 @@ use Rattle.body_import.proofs.SigsDecided.{sigs_decide}
 use Rattle.body_import.proofs.CalleesDecided.{callees_decide}
 use Rattle.body_import.proofs.Decided.{place_by_key}
 use Rattle.body_import.proofs.Lists.{found_place, no_place, place_not_new}
-use Rattle.body_import.proofs.FirstPlaces.{place_below, get_mapped, get_in_front, each_at}
+use Rattle.body_import.proofs.FirstPlaces.{place_below, each_at}
 use Rattle.body_import.proofs.Imported.{table_at, within, in_front, again}
 use Rattle.body_import.proofs.NewItems.{each_new}
 
@@ -67,7 +68,7 @@ each_items P same ys [] h p = h
 each_items P same ys (x ∷ xs) h p = each_items P same (with_item same ys x) xs (each_item P same ys x h p.0) p.1
 
 first_kept : (own more : List Sig) (k : ℕ) → k < length own → first_sig (own ++ more) k ≡ first_sig own k
-first_kept own more k h = ap (new_place same_sig (own ++ more)) (get_in_front own more k h) ∙ go (slice_get own k) refl
+first_kept own more k h = ap (new_place same_sig (own ++ more)) (get_left own more k h) ∙ go (slice_get own k) refl
   where
     go : (o : Option Sig) → slice_get own k ≡ o → new_place same_sig (own ++ more) o ≡ new_place same_sig own o
     go None e = absurd (some_at own k h e)

@@ -2,8 +2,8 @@
 use Rattle.std.proofs.Common.{◌≡◌, ℕ, ◌+◌, ◌<◌, List, [], ◌∷◌, ◌++◌, map, length, Bool, true, false, Some, None, refl, sym, ap, ap₂, ◌∙◌, arith, append_assoc, append-nil, length-append}
 use Rattle.std.specs.Prelude.{if◌then◌else◌}
 use Rattle.ir_core.specs.Lookup.{same_bytes}
+use Rattle.ir_core.proofs.Equal.{bytes_same}
 use Rattle.ir_semantics.specs.Import.{with_items, first_place}
-use Rattle.ir_core.proofs.Indexing.{same_bytes_self}
 use Rattle.body_import.specs.declared.places.Places.{Places}
 use Rattle.body_import.specs.declared.merging.Placed.{Placed}
 use Rattle.body_import.specs.Keys.{Knows, key_place}
@@ -35,7 +35,7 @@ new_case olds fresh own key next knows count none e =
     let l = new_left same_bytes key olds fresh n in
     let at = (new_left same_bytes key olds (fresh ++ (key ∷ [])) n).1 in
     let here = (new_left same_bytes key fresh (key ∷ []) m).1 in
-    let itself : first_place same_bytes (key ∷ []) key ≡ 0 = ap (λ b. if b then 0 else 1) (same_bytes_self key) in
+    let itself : first_place same_bytes (key ∷ []) key ≡ 0 = ap (λ b. if b then 0 else 1) (bytes_same key) in
     let long = length-append fresh (key ∷ []) in
     record {
       fresh_now = fresh ++ (key ∷ []);

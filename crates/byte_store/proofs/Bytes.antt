@@ -173,13 +173,6 @@ shown_next s i n b out h e =
     ∙ (ap (λ c. join (Some out) (cons_some c (bytes_from s (suc i) (n - (i + 1))))) e
     ∙ ap (λ k. join (Some out) (bytes_from s i k)) (sym z)))
 
-pub shown_end : (s : ℕ → Option ℕ) (i n : ℕ) (out : List ℕ) → i ≡ n → join (Some out) (bytes_from s i (n - i)) ≡ Some out
-shown_end s i n out e = let z : n - i ≡ 0 = omega arith in ap (λ k. join (Some out) (bytes_from s i k)) z ∙ ap Some (append-nil out)
-
-pub shown_start : (o : Option (List ℕ)) → join (Some []) o ≡ o
-shown_start None = refl
-shown_start (Some ys) = refl
-
 pub below_next : (x b i : ℕ) → x < 2 ^ (8 * i) → b < 256 → x * 256 + b < 2 ^ (8 * (i + 1))
 below_next x b i h hb =
     let e : 8 * (i + 1) ≡ 8 * i + 8 = omega arith in

@@ -81,7 +81,7 @@ name_in [] k f e = absurd cc
 name_in (a ∷ m) zero f e = let w : a ≡ f = cc in inl (ap (λ (g : Function). g.name) (sym w))
 name_in (a ∷ m) (suc k) f e = inr (name_in m k f e)
 
-in_name : (m : Module) (n : FuncName) → In n (names_of m) → (k : ℕ) × (f : Function) × (slice_get m k ≡ Some f) × (f.name ≡ n)
+pub in_name : (m : Module) (n : FuncName) → In n (names_of m) → (k : ℕ) × (f : Function) × (slice_get m k ≡ Some f) × (f.name ≡ n)
 in_name [] n i = elim i [ ]
 in_name (a ∷ m) n (inl q) = (0, a, refl, sym q)
 in_name (a ∷ m) n (inr i) = let r = in_name m n i in (suc r.0, r.1, r.2, r.3)

@@ -1,7 +1,7 @@
 -- The table before any piece is placed.
 use Rattle.std.proofs.Common.{◌≡◌, ◌⊎◌, inl, inr, ℕ, zero, suc, ◌+◌, ◌-◌, ◌<◌, ◌≤◌, List, [], ◌∷◌, ◌++◌, length, get_or, set, drop, replicate, Bool, true, false, nat_eq, eq-eqb, ne_eqb, refl, sym, ap, ◌∙◌, subst, arith}
 use Rattle.std.specs.Prelude.{if◌then◌else◌}
-use Rattle.std.proofs.lemmas.List.{length-replicate, get_or-replicate, get_or_past, length-set, drop_more, drop_all}
+use Rattle.std.proofs.lemmas.List.{length-replicate, get_or-replicate, get_or_past, length-set, drop_more}
 use Rattle.std.proofs.lemmas.Bool.{cases_eq, cases_lt, eqb-true}
 use Rattle.ir_core.specs.Lists.{In}
 use Rattle.call_graph.specs.Numbers.{called}
@@ -49,19 +49,6 @@ none_at : (n q : ℕ) → called (replicate n []) q ≡ []
 none_at n q = elim (cases_lt q n) [ inl l ↦ get_or-replicate n q [] [] l | inr l ↦ get_or_past (replicate n []) q [] (let e = length-replicate {A = List ℕ} n [] in omega (arith, e, l)) ]
 
 -- ---- before the first function, and one function more
-
-pub nothing_filled : (calls : List (List ℕ)) (piece : List ℕ) → Filled calls piece (length piece) (replicate (length piece) []) (replicate (length piece) []) []
-nothing_filled calls piece =
-    let n = length piece in
-    record {
-      members_long = length-replicate {A = List ℕ} n [];
-      callees_long = length-replicate {A = List ℕ} n [];
-      members = λ p l. none_at n p ∙ sym (ap (λ (xs : List ℕ). members_from p n xs) (drop_all n piece (omega arith)));
-      sound = λ r q i. elim (subst (In q) (none_at n r) i) [ ];
-      complete = λ r q c l. let w = c.within in absurd (omega (arith, w, l));
-      woken_all = λ r a l. let w = a.0 in absurd (omega (arith, w, l));
-      woken_from = λ r i. elim i [ ];
-    }
 
 module _ (calls : List (List ℕ)) (piece : List ℕ) (h : Pieced calls piece) (k : ℕ) (members callees : List (List ℕ)) (woken : List ℕ) (f : Filled calls piece (k + 1) members callees woken) (l : k < length piece) where
   abbrev p : ℕ

@@ -1,5 +1,5 @@
 -- Calls listed by marks are the calls by names.
-use Rattle.std.proofs.Common.{◌≡◌, ℕ, zero, suc, ◌+◌, ◌<◌, ◌≤◌, List, [], ◌∷◌, ◌++◌, length, map, get_or, take, drop, Option, Some, None, Bool, true, false, ◌||◌, nat_eq, eq-eqb, ne_eqb, inl, inr, refl, sym, ap, ap₂, ◌∙◌, arith}
+use Rattle.std.proofs.Common.{◌≡◌, ℕ, zero, suc, ◌+◌, ◌<◌, ◌≤◌, List, [], ◌∷◌, ◌++◌, length, map, get_or, take, Option, Some, None, Bool, true, false, ◌||◌, nat_eq, eq-eqb, ne_eqb, inl, inr, refl, sym, ap, ap₂, ◌∙◌, arith}
 use Rattle.std.specs.Prelude.{slice_get}
 use Rattle.std.proofs.Math.ListN.{set}
 use Rattle.std.proofs.lemmas.List.{get_or-set_same, get_or-set_other, take_more, map_push}
@@ -10,12 +10,12 @@ use Rattle.ir_core.specs.Module.{Line, Function, Module}
 use Rattle.ir_core.specs.Lookup.{and_then, block_numbers}
 use Rattle.ir_core.specs.Lists.{Different}
 use Rattle.ir_core.specs.Uses.{callee_of}
-use Rattle.ir_core.specs.Edits.{lines_of}
+use Rattle.ir_core.specs.Edits.{lines_of, blocks_at}
 use Rattle.ir_core.proofs.Indexing.{place_cases}
+use Rattle.ir_core.proofs.ByNumber.{blocks_again}
 use Rattle.call_graph.specs.Reach.{called_name, or_nothing, names_in, called_names}
 use Rattle.call_graph.specs.Calls.{number_of, with_number, numbers_of, has, put_new, each_once, calls_in}
 use Rattle.call_graph.specs.Marks.{Fresh, Marked, targets_in, TargetsBelow}
-use Rattle.call_graph.proofs.Blocks.{blocks_at, blocks_again}
 
 -- ---- marks
 
@@ -105,11 +105,6 @@ block_more m f ks now it rest b e n h =
     ∙ (sym (once_join ks (numbers_of m (names_in f (lines_of b f.blocks))) (numbers_of m (called_names f (blocks_at f.blocks rest))))
     ∙ (ap (each_once ks) (sym (numbers_join m (names_in f (lines_of b f.blocks)) (called_names f (blocks_at f.blocks rest))))
     ∙ (ap (λ z. each_once ks (numbers_of m (called_names f (blocks_at f.blocks z)))) (sym e) ∙ h)))
-
-pub next_left : {A : Type 0} (xs : List A) (i : ℕ) (x : A) → slice_get xs i ≡ Some x → drop i xs ≡ x ∷ drop (i + 1) xs
-next_left [] i x e = absurd cc
-next_left (y ∷ ys) zero x e = let same : y ≡ x = cc in ap (λ z. z ∷ ys) same
-next_left (y ∷ ys) (suc i) x e = let k : suc (i + 1) ≡ suc i + 1 = omega arith in next_left ys i x e ∙ ap (λ (m : ℕ). x ∷ drop m (y ∷ ys)) k
 
 pub begun : (m : Module) (f : Function) (ks it : List ℕ) → ks ≡ [] → it ≡ block_numbers f.blocks → Different (block_numbers f.blocks) → each_once ks (numbers_of m (called_names f (blocks_at f.blocks it))) ≡ calls_in m f
 begun m f ks it e i d = ap₂ (λ z w. each_once z (numbers_of m (called_names f w))) e (ap (blocks_at f.blocks) i ∙ blocks_again f.blocks d)

@@ -1,7 +1,7 @@
 -- Functions by their numbers and by their names.
 use Rattle.std.proofs.Common.{◌≡◌, ◌⊎◌, inl, inr, ℕ, zero, suc, ◌<◌, List, [], ◌∷◌, ◌++◌, length, map, get_or, Option, Some, None, Bool, true, false, nat_eq, refl, sym, ap, ◌∙◌, subst, arith}
 use Rattle.std.specs.Prelude.{slice_get, if◌then◌else◌}
-use Rattle.std.proofs.lemmas.Bool.{eqb-true}
+use Rattle.std.proofs.lemmas.Bool.{eqb-true, or_cases}
 use Rattle.ir_core.specs.declared.names.FuncName.{FuncName}
 use Rattle.ir_core.specs.Module.{Function, Module}
 use Rattle.ir_core.specs.Lookup.{same_name, find_function}
@@ -13,7 +13,7 @@ use Rattle.ir_core.proofs.Members.{in_left, in_right, in_cases}
 use Rattle.ir_core.proofs.Indexing.{place_cases}
 use Rattle.call_graph.specs.Reach.{called_names, calls_of, reaches, one_piece}
 use Rattle.call_graph.specs.Laws.{Leads, calls, by_way}
-use Rattle.call_graph.proofs.Walks.{reach_is_by_lists, or_cases}
+use Rattle.call_graph.proofs.Walks.{reach_is_by_lists}
 use Rattle.call_graph.proofs.Ranks.{reaches_on, call_reaches}
 use Rattle.call_graph.specs.Calls.{number_of, with_number, numbers_of, has, put_new, each_once, calls_in, graph_of, InRange}
 use Rattle.call_graph.specs.Numbers.{called, Reaches, itself, by_call, CallsByNumbers, PiecesByNumbers}

@@ -5,7 +5,7 @@ use Rattle.ir_core.specs.declared.names.FuncName.{FuncName}
 use Rattle.ir_core.specs.Module.{Module}
 use Rattle.ir_core.specs.Lookup.{same_name}
 use Rattle.ir_core.specs.Lists.{In}
-use Rattle.ir_core.proofs.Equal.{name_equal, equal_name, both_true}
+use Rattle.ir_core.proofs.Equal.{name_equal, equal_name}
 use Rattle.call_graph.specs.Reach.{reaches, one_piece}
 use Rattle.call_graph.specs.Order.{names_of, first_that, piece_number}
 use Rattle.call_graph.proofs.Placing.{of_mutual, piece_back, piece_on}

@@ -2,17 +2,18 @@
 -- placed, and placing it keeps callees before callers.
 use Rattle.std.proofs.Common.{◌≡◌, ◌⊎◌, inl, inr, ℕ, zero, suc, ◌<◌, ◌≤◌, List, [], ◌∷◌, ◌++◌, length, Option, Some, None, Bool, true, false, ◌&&◌, ◌||◌, refl, sym, ap, ap₂, ◌∙◌, subst, arith}
 use Rattle.std.specs.Prelude.{not, if◌then◌else◌}
+use Rattle.std.proofs.lemmas.Bool.{and_parts, or_cases, or_left, or_right}
 use Rattle.ir_core.specs.declared.names.FuncName.{FuncName}
 use Rattle.ir_core.specs.Module.{Module}
 use Rattle.ir_core.specs.Lookup.{same_name, find_function}
 use Rattle.ir_core.specs.Lists.{In}
 use Rattle.ir_core.specs.WellFormed.{DifferentNames}
-use Rattle.ir_core.proofs.Equal.{name_equal, equal_name, both_true}
+use Rattle.ir_core.proofs.Equal.{name_equal, equal_name}
 use Rattle.ir_core.proofs.Members.{in_left, in_right, in_cases}
 use Rattle.call_graph.specs.Reach.{calls_of, reaches, one_piece, apart}
 use Rattle.call_graph.specs.Order.{names_of, CalleesBefore, BottomUp, stands, every_name, those, piece, callees_placed, ready, next_of, placed_in}
 use Rattle.call_graph.specs.OrderLaws.{OrderIsBottomUp}
-use Rattle.call_graph.proofs.Walks.{AllDifferent, or_cases, or_left, or_right}
+use Rattle.call_graph.proofs.Walks.{AllDifferent}
 use Rattle.call_graph.proofs.Standing.{stands_of, in_of}
 use Rattle.call_graph.proofs.Ranks.{reaches_on, call_reaches, under, under_of, rank, rank_falls, count, count_less, names_length, both_of, of_both}
 
@@ -20,8 +21,8 @@ use Rattle.call_graph.proofs.Ranks.{reaches_on, call_reaches, under, under_of, r
 
 true_for_each : (test : FuncName → Bool) (ns : List FuncName) → every_name test ns ≡ true → (n : FuncName) → In n ns → test n ≡ true
 true_for_each test [] h n i = elim i [ ]
-true_for_each test (k ∷ ns) h n (inl q) = ap test q ∙ (both_true (test k) (every_name test ns) h).0
-true_for_each test (k ∷ ns) h n (inr i) = true_for_each test ns (both_true (test k) (every_name test ns) h).1 n i
+true_for_each test (k ∷ ns) h n (inl q) = ap test q ∙ (and_parts (test k) (every_name test ns) h).0
+true_for_each test (k ∷ ns) h n (inr i) = true_for_each test ns (and_parts (test k) (every_name test ns) h).1 n i
 
 false_for_one : (test : FuncName → Bool) (ns : List FuncName) → every_name test ns ≡ false → (n : FuncName) × In n ns × (test n ≡ false)
 false_for_one test [] h = cc
@@ -92,7 +93,7 @@ at_most test (n ∷ ns) = go (test n) (at_most test ns)
 
 module _ (m : Module) where
   pub mutual_of : (x y : FuncName) → one_piece m x y ≡ true → (x ≡ y) ⊎ ((reaches m x y ≡ true) × (reaches m y x ≡ true))
-  mutual_of x y h = elim (or_cases (same_name x y) (reaches m x y && reaches m y x) h) [ inl q ↦ inl (name_equal x y q) | inr q ↦ inr (both_true (reaches m x y) (reaches m y x) q) ]
+  mutual_of x y h = elim (or_cases (same_name x y) (reaches m x y && reaches m y x) h) [ inl q ↦ inl (name_equal x y q) | inr q ↦ inr (and_parts (reaches m x y) (reaches m y x) q) ]
 
   pub of_mutual : (x y : FuncName) → (x ≡ y) ⊎ ((reaches m x y ≡ true) × (reaches m y x ≡ true)) → one_piece m x y ≡ true
   of_mutual x y (inl q) = or_left (same_name x y) (reaches m x y && reaches m y x) (equal_name x y q)

@@ -4,12 +4,12 @@ use Rattle.std.specs.Prelude.{slice_get, if◌then◌else◌}
 use Rattle.std.proofs.lemmas.List.{get_or-set_same, get_or-set_other, length-set, get_or_past, get_or_read}
 use Rattle.std.proofs.lemmas.Bool.{cases_eq, cases_lt, eqb-true}
 use Rattle.ir_core.specs.Lists.{In, Each, Below}
-use Rattle.ir_core.proofs.Members.{in_left, in_right, in_cases}
+use Rattle.ir_core.proofs.Members.{in_left, in_right, in_cases, in_or_not, below_in}
 use Rattle.call_graph.specs.Calls.{InRange}
 use Rattle.call_graph.specs.Numbers.{called}
 use Rattle.call_graph.specs.Turns.{own, IsPiece, Pieced, members_from, members, Calls, Waits, Next, Turns, turn, Ordered}
 use Rattle.call_graph.specs.Waiting.{Table, first_left, Added, Decided, Settles, after_place, Keeps}
-use Rattle.call_graph.proofs.Stepping.{below_in, in_slice}
+use Rattle.call_graph.proofs.Stepping.{in_slice}
 
 -- ---- pieces
 
@@ -22,9 +22,6 @@ pub callee_is_piece : (calls : List (List ℕ)) (piece : List ℕ) → Pieced ca
 callee_is_piece calls piece h p q c =
     let l = called_below (length calls) calls c.caller c.callee h.in_range c.call in
     subst (IsPiece piece) c.of_callee (h.own_is c.callee (let e = h.long in omega (arith, l, e)))
-
-pub caller_is_piece : (calls : List (List ℕ)) (piece : List ℕ) → Pieced calls piece → (p q : ℕ) → Calls calls piece p q → IsPiece piece p
-caller_is_piece calls piece h p q c = subst (IsPiece piece) c.of_caller (h.own_is c.caller c.within)
 
 member_from : (p k : ℕ) (xs : List ℕ) (j : ℕ) → In j (members_from p k xs) → (i : ℕ) × (i < length xs) × (j ≡ k + i) × (get_or xs i 0 ≡ p)
 member_from p k [] j i = elim i [ ]
@@ -87,13 +84,6 @@ first_unplaced placed (c ∷ cs) q qs e = go (get_or placed c false) refl e (fir
     go : (b : Bool) → get_or placed c false ≡ b → (if b then first_left placed cs else c ∷ cs) ≡ q ∷ qs → (first_left placed cs ≡ q ∷ qs → get_or placed q false ≡ false) → get_or placed q false ≡ false
     go true f e ih = ih e
     go false f e ih = let w : c ≡ q = cc in ap (λ (z : ℕ). get_or placed z false) (sym w) ∙ f
-
-member_or : (x : ℕ) (xs : List ℕ) → In x xs ⊎ (In x xs → ⊥)
-member_or x [] = inr (λ i. i)
-member_or x (y ∷ ys) = elim (cases_eq x y) [
-  | inl e ↦ inl (inl e)
-  | inr e ↦ elim (member_or x ys) [ inl i ↦ inl (inr i) | inr off ↦ inr (λ i. elim i [ inl q ↦ e q | inr j ↦ off j ]) ]
-]
 
 -- ---- lists in lists
 
@@ -207,7 +197,7 @@ module _ (calls : List (List ℕ)) (piece : List ℕ) (h : Pieced calls piece) (
           placed_long = k.placed_long;
           marked = k.marked;
           marks = k.marks;
-          covers = λ r q c. elim (member_or q t.list) [ inl i ↦ inl i | inr off ↦ elim (k.covers r q c) [ inl i ↦ inl i | inr i ↦ inr (is r q i off) ] ];
+          covers = λ r q c. elim (in_or_not q t.list) [ inl i ↦ inl i | inr off ↦ elim (k.covers r q c) [ inl i ↦ inl i | inr i ↦ inr (is r q i off) ] ];
           leads = λ r q i. k.leads r q (was r q i);
           found = λ r a off. elim (k.found r a off) [
             | inl i ↦ inl (n.ready_kept r i)
@@ -227,7 +217,7 @@ module _ (calls : List (List ℕ)) (piece : List ℕ) (h : Pieced calls piece) (
             | inr e ↦ (
               subst (IsPiece piece) (sym e.0) at_first.0,
               subst (λ (z : ℕ). In z t.list → ⊥) (sym e.0) at_first.1,
-              λ q c. elim (member_or q t.list) [
+              λ q c. elim (in_or_not q t.list) [
                 | inl j ↦ j
                 | inr off ↦
                     let d = subst (λ (z : ℕ). Calls calls piece z q) e.0 c in

@@ -1,6 +1,7 @@
 -- A list of functions that leads somewhere can be cut to one without repetitions, which has no more functions than the module.
 use Rattle.std.proofs.Common.{◌≡◌, ◌⊎◌, inl, inr, ℕ, zero, suc, ◌≤◌, List, [], ◌∷◌, length, Option, Some, None, Bool, true, false, ◌||◌, refl, sym, ap, ◌∙◌, subst, arith}
 use Rattle.std.specs.Prelude.{if◌then◌else◌}
+use Rattle.std.proofs.lemmas.Bool.{or_cases, or_left, or_right}
 use Rattle.ir_core.specs.declared.names.FuncName.{FuncName}
 use Rattle.ir_core.specs.Module.{Function, Module}
 use Rattle.ir_core.specs.Lookup.{same_name, find_function}
@@ -23,17 +24,6 @@ way (calls i) = record { by = []; walk = i }
 way (by_way {y = y} i l) = let w = way l in record { by = y ∷ w.by; walk = (i, w.walk) }
 
 -- ---- tests of lists of names
-
-pub or_cases : (a b : Bool) → (a || b) ≡ true → (a ≡ true) ⊎ (b ≡ true)
-or_cases true b h = inl refl
-or_cases false b h = inr h
-
-pub or_left : (a b : Bool) → a ≡ true → (a || b) ≡ true
-or_left a b h = ap (λ x. x || b) h
-
-pub or_right : (a b : Bool) → b ≡ true → (a || b) ≡ true
-or_right true b h = refl
-or_right false b h = h
 
 pub some_of : (test : FuncName → Bool) (ns : List FuncName) → some_name test ns ≡ true → (n : FuncName) × In n ns × (test n ≡ true)
 some_of test [] h = cc

@@ -6,8 +6,9 @@ use Rattle.ir_core.specs.Lookup.{definitions as defined_values, block_numbers}
 use Rattle.ir_core.specs.Module.{Block, Function}
 use Rattle.ir_core.specs.Size.{size_of}
 use Rattle.ir_core.specs.WellFormed.{WellFormed}
+use Rattle.ir_core.proofs.Sizing.{sigs_count, blocks_count}
 use Rattle.name_tables.specs.Definitions.{Kind, Slots, Sigs, Callees, Blocks, Values, definitions}
-use Rattle.clif_meaning.proofs.WholeLaws.{sigs_count, blocks_count, values_count}
+use Rattle.clif_meaning.proofs.WholeLaws.{values_count}
 use Rattle.text_read_back.specs.Defining.{number_of}
 use Rattle.text_read_back.specs.RawOf as raws
 use Rattle.names_read_back.proofs.Numbers.{slot_words_are, sig_words_are, callee_words_are, block_words_are, value_words_are}

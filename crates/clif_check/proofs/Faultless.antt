@@ -1,7 +1,6 @@
 -- A text without a first fault is accepted.
 use Rattle.std.proofs.Common.{◌≡◌, ℕ, Bool, true, false, List, [], ◌∷◌, length, Result, Ok, Err, inl, inr, refl, sym, subst}
-use Rattle.std.specs.Prelude.{◌⊎◌, Decides}
-use Rattle.std.proofs.lemmas.Bool.Decides.{eqb_tells}
+use Rattle.std.specs.Prelude.{Decides}
 use Rattle.grammar.specs.Rules as grammar
 use Rattle.grammar.specs.Rules.{Lexeme, Kind, Tree, Derives, Answers, read_all}
 use Rattle.grammar.proofs.Exact.{exact}
@@ -24,10 +23,11 @@ use Rattle.clif_names.specs.Faults.{NoFault}
 use Rattle.clif_names.proofs.FaultLaws.{first_where_any}
 use Rattle.clif_meaning.proofs.Existence.{has_meaning}
 use Rattle.ir_core.specs.Module.{Function, Module}
-use Rattle.ir_core.specs.Lists.{In, Each}
+use Rattle.ir_core.specs.Lists.{Each}
 use Rattle.ir_core.specs.declared.places.Item.{Item}
 use Rattle.ir_core.specs.declared.places.Item.TheVariants as item
 use Rattle.ir_core.specs.Uses.{values_used}
+use Rattle.ir_core.proofs.Members.{in_or_not}
 use Rattle.ir_semantics.specs.Available.{Available}
 use Rattle.ir_semantics.specs.Accepted as rule
 use Rattle.ir_semantics.specs.Accepted.{Holds, Accepted}
@@ -46,14 +46,6 @@ use Rattle.clif_check.proofs.Standing.{fault_stands}
 -- what cannot be refuted holds
 abbrev Stable : Type 0 → Type 0
 Stable P = ((P → ⊥) → ⊥) → P
-
-in_or_not : (v : ℕ) (vs : List ℕ) → In v vs ⊎ (In v vs → ⊥)
-in_or_not v [] = inr (λ i. elim i [ ])
-in_or_not v (w ∷ vs) =
-    elim (eqb_tells v w) [
-      | inl same ↦ inl (inl same.1)
-      | inr other ↦ elim (in_or_not v vs) [ inl i ↦ inl (inr i) | inr none ↦ inr (λ i. elim i [ inl e ↦ other.1 e | inr j ↦ none j ]) ]
-    ]
 
 stable_available : (f : Function) (b i v : ℕ) → Stable (Available f b i v)
 stable_available f b i v unrefuted defs reach =
@@ -127,7 +119,7 @@ raw_of text none = let l = lexed text none in go l.0 l.1 (read_all module_rule (
     go tokens e (Ok v) a = (module_value v, record { tokens = tokens; lexed = e; read = (v, a.0, refl, a.1) })
     go tokens e (Err stop) (us, rest, cut, (same, begins, stops)) =
         let no_module : NoModule (lexemes text tokens) =
-            λ v d. not_derived module_rule us rest (no_further module_rule us rest stop.0 stops) v (subst (λ l. Derives module_rule l v) cut d) in
+        λ v d. not_derived module_rule us rest (no_further module_rule us rest stop.0 stops) v (subst (λ l. Derives module_rule l v) cut d) in
         let broken : Broken (lexemes text tokens) (length text) stop.0 (spot_or (length text) rest) = (no_module, (us, rest, cut, (begins, stops, refl))) in
         let stopped = as_stopped (lexemes text tokens) (length text) stop.0 (spot_or (length text) rest) broken in
         absurd (none (as_text stop.0) (spot_or (length text) rest)

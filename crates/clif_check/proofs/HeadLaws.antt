@@ -12,10 +12,10 @@ use Rattle.ir_core.specs.Lists.{In, Each}
 use Rattle.ir_core.specs.Lookup.{find_function, same_name}
 use Rattle.ir_core.specs.Module.{Function, Module}
 use Rattle.ir_core.specs.WellFormed.{DifferentNames}
+use Rattle.ir_core.proofs.Gets.{some_same}
 use Rattle.ir_semantics.specs.Accepted.{no_terminator, entry_target, count_mismatch, type_mismatch, convention}
 use Rattle.ir_semantics.specs.Accepted.{signature_mismatch, slot_range, tag_place, not_available, RulesHold, Accepted}
 use Rattle.ir_semantics.specs.CallRules.{Declared}
-use Rattle.ir_semantics.proofs.SafetyTypes.{some_same}
 use Rattle.clif_meaning.proofs.Lists.{each_got}
 use Rattle.range_workers.specs.Follow.{Follow}
 use Rattle.clif_check.specs.Declarations.{KeepsOwnRules, DeclareWithin, DeclaresAt}

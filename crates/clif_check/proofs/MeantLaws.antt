@@ -6,7 +6,6 @@ use Rattle.grammar.specs.Rules.{Lexeme}
 use Rattle.ir_core.specs.declared.names.FuncName.{FuncName}
 use Rattle.ir_core.specs.declared.names.FuncName.TheVariants as name
 use Rattle.ir_core.specs.Edits.{Body}
-use Rattle.ir_core.specs.Lists.{Each}
 use Rattle.ir_core.specs.Lookup.{find_function, same_name}
 use Rattle.ir_core.specs.Module.{Function, Module}
 use Rattle.ir_core.specs.Sound.{IsWhole}
@@ -16,12 +15,11 @@ use Rattle.ir_core.proofs.Members.{each_join}
 use Rattle.clif_lex.specs.declared.faults.TextKind.{TextKind}
 use Rattle.clif_lex.specs.declared.faults.TextKind.TheVariants.{Duplicate, TooLarge}
 use Rattle.clif_lex.specs.Stretches.{IsCut}
-use Rattle.clif_read.specs.declared.raw.RawFuncName.{RawFuncName}
 use Rattle.clif_read.specs.declared.raw.RawFuncName.TheVariants as func_name
 use Rattle.clif_read.specs.declared.raw.RawFunction.{RawFunction}
 use Rattle.clif_read.specs.declared.raw.RawModule.{RawModule}
 use Rattle.clif_read.specs.Modules.{function_at}
-use Rattle.clif_read.specs.Texts.{IsModuleText, Functions}
+use Rattle.clif_read.specs.Texts.{IsModuleText}
 use Rattle.clif_read.proofs.Functions.{function_read}
 use Rattle.read_workers.specs.Ranges.{IsFront, with_functions}
 use Rattle.read_workers.proofs.RangeLaws.{range_follows, front_goes_on, front_is_some, front_is_text, empty_text}
@@ -30,18 +28,15 @@ use Rattle.clif_resolve.proofs.BlockWords.{have_blocks}
 use Rattle.clif_names.specs.Faults.{NoFault, ListFault, SameName}
 use Rattle.clif_names.specs.FunctionNames.{NoFunctionFault}
 use Rattle.clif_names.specs.Sizes.{most_functions}
-use Rattle.clif_meaning.specs.Instructions.{natural}
 use Rattle.clif_meaning.specs.Meaning.{name_of, FunctionMeans, FunctionsMean, HasBlocks}
 use Rattle.clif_meaning.specs.Reads.{Reads}
 use Rattle.clif_meaning.proofs.Lists.{each_got}
+use Rattle.clif_meaning.proofs.ModuleLaws.{one_name}
 use Rattle.clif_check.specs.declared.parts.Part.{Part}
 use Rattle.clif_check.specs.Declarations.{KeepsOwnRules}
 use Rattle.clif_check.specs.Stretches.{AreMeant, AreKept, KeptFrom, KeptOfFront, KeptOfRange, KeptOfText, part_of}
 
 -- ---- each function of the grammar has a block
-
-pub functions_have_blocks : (ts : List Lexeme) (rs : List RawFunction) → Functions ts rs → Each (λ (f : RawFunction). f.blocks ≢ []) rs
-functions_have_blocks ts rs read = rw read.meant (have_blocks read.trees)
 
 pub function_has_blocks : (ts rest : List Lexeme) (f : RawFunction) → function_at ts ≡ Ok (f, rest) → f.blocks ≢ []
 function_has_blocks ts rest f e = let (v, is) = function_read ts rest f e in rw is ((have_blocks (v ∷ [])).0)
@@ -111,13 +106,6 @@ text_kept p text kept follow = go (follow 0 [] (inl (refl, refl)))
     go (inr (raw, is, were)) = (raw, front_is_text text raw is, were)
 
 -- ---- names
-
--- two names that are one in the text are one in the module
-one_name : (a b : RawFuncName) → SameName a b → name_of a ≡ name_of b
-one_name (func_name.Text a s) (func_name.Text b t) h = ap name.Text h
-one_name (func_name.User a i) (func_name.User b j) h = ap₂ name.User h.0 (ap natural h.1)
-one_name (func_name.Text a s) (func_name.User b j) h = absurd h
-one_name (func_name.User a i) (func_name.Text b t) h = absurd h
 
 -- where no function has the name, no raw one means it
 none_means : (rs : List RawFunction) (fs : List Function) (n : FuncName) (i : ℕ) (r : RawFunction) → FunctionsMean rs fs → find_function n fs ≡ None → slice_get rs i ≡ Some r → name_of r.name ≡ n → ⊥

@@ -11,8 +11,7 @@ use Rattle.ir_core.specs.Module.{Line, Block, Function, Module}
 use Rattle.ir_core.specs.Lookup.{find_block}
 use Rattle.ir_semantics.specs.Accepted.{Rule, Holds, HoldsAtCallee, HoldsAtBlock, HoldsAtLine}
 use Rattle.ir_core.specs.declared.declarations.Callee.{Callee}
-use Rattle.ir_semantics.proofs.SafetyTypes.{some_same}
-use Rattle.body_import.proofs.FirstPlaces.{get_mapped}
+use Rattle.ir_core.proofs.Gets.{some_same, get_mapped}
 use Rattle.ir_check.specs.Faults.{FirstFault}
 use Rattle.ir_check.proofs.Firsts.{fault_is_real}
 use Rattle.token_reader.specs.declared.raw.RawName.{RawName}

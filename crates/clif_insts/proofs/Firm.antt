@@ -1,11 +1,11 @@
 -- Where no word is refused behind a whole text of a rule, reading that text and what follows it ends with a value, or goes on into what follows.
 use Rattle.std.proofs.Common.{◌≡◌, ℕ, zero, suc, ◌≤◌, ◌<◌, Bool, true, false, not, ◌&&◌, ◌||◌, ◌==◌, cond, List, [], ◌∷◌, ◌++◌, length, Some, None, Ok, Err, refl, sym, ap, subst, ◌∙◌, arith, inl, inr, append_assoc, length-append}
-use Rattle.std.proofs.lemmas.Bool.{eqb-true, eq-eqb}
+use Rattle.std.proofs.lemmas.Bool.{eqb-true, eq-eqb, and_parts, not-true}
 use Rattle.std.proofs.lemmas.List.Folds.{list_any-append}
 use Rattle.grammar.specs.Rules.{Lexeme, Kind, Rule, Empty, Tok, Seq, Alt, Opt, Many, Refuse, Chain, Tree, Each, Derives, heads, member, nullable, firsts, exts, disjoint, good, Out, ◌>>=◌, repeat, read}
-use Rattle.grammar.proofs.Sets.{both, not_true, one_way, heads_split, heads_append, heads_some, disjoint_heads}
+use Rattle.grammar.proofs.Sets.{one_way, heads_split, heads_append, heads_some, disjoint_heads}
 use Rattle.grammar.proofs.Exactness.{front, front_each, complete, some_front}
-use Rattle.grammar.proofs.Past.{Left, shrinks}
+use Rattle.grammar.proofs.Past.{Left, shrinks, left_bind, left_more}
 
 -- no word is refused where the rule begins
 abbrev pub early : Rule → Bool
@@ -46,17 +46,9 @@ over_then : {A B : Type 0} (n : ℕ) (o : Out A) (f : A × List Lexeme → Out B
 over_then n (Ok x) f h g = g x h
 over_then n (Err e) f h g = h
 
-left_then : {A B : Type 0} (n : ℕ) (o : Out A) (f : A × List Lexeme → Out B) → Left n o → ((x : A × List Lexeme) → length x.1 ≤ n → Left n (f x)) → Left n (o >>= f)
-left_then n (Ok x) f h g = g x h
-left_then n (Err e) f h g = h
-
 left_less : {A : Type 0} (m n : ℕ) (o : Out A) → m < n → Left m o → Less n o
 left_less m n (Ok x) lt h = omega arith
 left_less m n (Err e) lt h = omega arith
-
-left_more : {A : Type 0} (m n : ℕ) (o : Out A) → m ≤ n → Left m o → Left n o
-left_more m n (Ok x) le h = omega arith
-left_more m n (Err e) le h = omega arith
 
 less_over : {A : Type 0} (m n : ℕ) (o : Out A) → m ≤ n → Less m o → Over n o
 less_over m n (Ok x) le h = omega arith
@@ -69,8 +61,8 @@ rest_left a (suc m) ts = go (rest_left a m) (heads (firsts a) ts)
     go : ((us : List Lexeme) → Left (length us) (repeat (read a) (firsts a) m us))
         → (b : Bool) → Left (length ts) (cond {A = Out (List (Tree a))} b (read a ts >>= λ x. repeat (read a) (firsts a) m x.1 >>= λ y. Ok (x.0 ∷ y.0, y.1)) (Ok ([], ts)))
     go ih true =
-        left_then (length ts) (read a ts) (λ x. repeat (read a) (firsts a) m x.1 >>= λ y. Ok (x.0 ∷ y.0, y.1)) (shrinks a ts)
-        (λ x h. left_then (length ts) (repeat (read a) (firsts a) m x.1) (λ y. Ok (x.0 ∷ y.0, y.1)) (left_more (length x.1) (length ts) (repeat (read a) (firsts a) m x.1) h (ih x.1)) (λ y k. k))
+        left_bind (length ts) (read a ts) (λ x. repeat (read a) (firsts a) m x.1 >>= λ y. Ok (x.0 ∷ y.0, y.1)) (shrinks a ts)
+        (λ x h. left_bind (length ts) (repeat (read a) (firsts a) m x.1) (λ y. Ok (x.0 ∷ y.0, y.1)) (left_more (length x.1) (length ts) (repeat (read a) (firsts a) m x.1) h (ih x.1)) (λ y k. k))
     go ih false = omega arith
 
 right_of : (cs ds : List ℕ) (ts : List Lexeme) → heads (cs ++ ds) ts ≡ true → heads cs ts ≡ false → heads ds ts ≡ true
@@ -90,19 +82,19 @@ skips : (r : Rule) → good r ≡ true → nullable r ≡ true → (ts : List Le
 skips Empty g n ts h = (tt, refl)
 skips (Tok c) g n ts h = absurd cc
 skips (Seq a b) g n ts h =
-    let g1 = both (good a && good b) (disjoint (exts a) (firsts b)) g in
-    let g2 = both (good a) (good b) g1.0 in
-    let n2 = both (nullable a) (nullable b) n in
+    let g1 = and_parts (good a && good b) (disjoint (exts a) (firsts b)) g in
+    let g2 = and_parts (good a) (good b) g1.0 in
+    let n2 = and_parts (nullable a) (nullable b) n in
     let h1 : heads (firsts a ++ firsts b) ts ≡ false = rw n2.0 at h in
     let h2 = heads_split (firsts a) (firsts b) ts h1 in
     let x = skips a g2.0 n2.0 ts h2.0 in
     let y = skips b g2.1 n2.1 ts h2.1 in
     ((x.0, y.0), rw (x.1, y.1) refl)
 skips (Alt a b) g n ts h =
-    let g1 = both (good a && good b) (not (nullable a) && disjoint (firsts a) (firsts b)) g in
-    let g2 = both (good a) (good b) g1.0 in
-    let g3 = both (not (nullable a)) (disjoint (firsts a) (firsts b)) g1.1 in
-    let n2 : nullable b ≡ true = rw (not_true (nullable a) g3.0) at n in
+    let g1 = and_parts (good a && good b) (not (nullable a) && disjoint (firsts a) (firsts b)) g in
+    let g2 = and_parts (good a) (good b) g1.0 in
+    let g3 = and_parts (not (nullable a)) (disjoint (firsts a) (firsts b)) g1.1 in
+    let n2 : nullable b ≡ true = rw (not-true (nullable a) g3.0) at n in
     let h2 = heads_split (firsts a) (firsts b) ts h in
     let y = skips b g2.1 n2 ts h2.1 in
     (inr y.0, rw (h2.0, y.1) refl)
@@ -122,9 +114,9 @@ moves (Tok c) g e (x ∷ xs) h =
     let same : (x.class == c) ≡ true = eq-eqb x.class c (sym (eqb-true c x.class (sym (or_false (c == x.class)) ∙ h))) in
     rw same (omega arith)
 moves (Seq a b) g e ts h =
-    let g1 = both (good a && good b) (disjoint (exts a) (firsts b)) g in
-    let g2 = both (good a) (good b) g1.0 in
-    let e1 = both (early a) (not (nullable a) || early b) e in
+    let g1 = and_parts (good a && good b) (disjoint (exts a) (firsts b)) g in
+    let g2 = and_parts (good a) (good b) g1.0 in
+    let e1 = and_parts (early a) (not (nullable a) || early b) e in
     elim (one_way (heads (firsts a) ts)) [
       | inl p ↦ less_then (length ts) (read a ts) (λ x. read b x.1 >>= λ y. Ok ((x.0, y.0), y.1)) (moves a g2.0 e1.0 ts p)
           (λ x lt. less_then (length ts) (read b x.1) (λ y. Ok ((x.0, y.0), y.1)) (left_less (length x.1) (length ts) (read b x.1) lt (shrinks b x.1)) (λ y k. k))
@@ -142,20 +134,20 @@ moves (Seq a b) g e ts h =
         none [] q = absurd cc
         none (x ∷ xs) q = absurd cc
 moves (Alt a b) g e ts h =
-    let g1 = both (good a && good b) (not (nullable a) && disjoint (firsts a) (firsts b)) g in
-    let g2 = both (good a) (good b) g1.0 in
-    let e1 = both (early a) (early b) e in
+    let g1 = and_parts (good a && good b) (not (nullable a) && disjoint (firsts a) (firsts b)) g in
+    let g2 = and_parts (good a) (good b) g1.0 in
+    let e1 = and_parts (early a) (early b) e in
     elim (one_way (heads (firsts a) ts)) [
       | inl p ↦ rw p (less_then (length ts) (read a ts) (λ x. Ok (inl x.0, x.1)) (moves a g2.0 e1.0 ts p) (λ x k. k))
       | inr p ↦ rw p (less_then (length ts) (read b ts) (λ x. Ok (inr x.0, x.1)) (moves b g2.1 e1.1 ts (right_of (firsts a) (firsts b) ts h p)) (λ x k. k))
     ]
 moves (Opt a) g e ts h =
-    let g1 = both (good a) (not (nullable a)) g in
+    let g1 = and_parts (good a) (not (nullable a)) g in
     rw h (less_then (length ts) (read a ts) (λ x. Ok (Some x.0, x.1)) (moves a g1.0 e ts h) (λ x k. k))
 moves (Many a) g e [] h = absurd cc
 moves (Many a) g e (x ∷ xs) h =
-    let g1 = both (good a && not (nullable a)) (disjoint (exts a) (firsts a)) g in
-    let g2 = both (good a) (not (nullable a)) g1.0 in
+    let g1 = and_parts (good a && not (nullable a)) (disjoint (exts a) (firsts a)) g in
+    let g2 = and_parts (good a) (not (nullable a)) g1.0 in
     rw h (less_then (length (x ∷ xs)) (read a (x ∷ xs)) (λ y. repeat (read a) (firsts a) (length xs) y.1 >>= λ z. Ok (y.0 ∷ z.0, z.1)) (moves a g2.0 e (x ∷ xs) h)
     (λ y lt. less_then (length (x ∷ xs)) (repeat (read a) (firsts a) (length xs) y.1) (λ z. Ok (y.0 ∷ z.0, z.1)) (left_less (length y.1) (length (x ∷ xs)) (repeat (read a) (firsts a) (length xs) y.1) lt (rest_left a (length xs) y.1)) (λ z k. k)))
 moves (Refuse cs k) g e ts h = absurd cc
@@ -214,9 +206,9 @@ pub over : (r : Rule) → good r ≡ true → firm r ≡ true → OverTexts r
 over Empty g f us v tail d = rw d (omega arith)
 over (Tok c) g f us x tail d = rw (d.0, d.1, eq-eqb c c refl) (omega arith)
 over (Seq a b) g f us v tail d =
-    let g1 = both (good a && good b) (disjoint (exts a) (firsts b)) g in
-    let g2 = both (good a) (good b) g1.0 in
-    let f1 = both (firm b) (not (nullable b) || (firm a && early b)) f in
+    let g1 = and_parts (good a && good b) (disjoint (exts a) (firsts b)) g in
+    let g2 = and_parts (good a) (good b) g1.0 in
+    let f1 = and_parts (firm b) (not (nullable b) || (firm a && early b)) f in
     let whole : us ++ tail ≡ d.0 ++ (d.1 ++ tail) = ap (λ (l : List Lexeme). l ++ tail) d.2 ∙ append_assoc d.0 d.1 tail in
     subst (λ (l : List Lexeme). Over (length tail) (read (Seq a b) l)) (sym whole) (
     elim (one_way (heads (exts a) (d.1 ++ tail))) [
@@ -224,26 +216,26 @@ over (Seq a b) g f us v tail d =
       | inl q ↦ elim (front b d.1 v.1 d.3.1) [
         | inr p ↦ absurd (let z = disjoint_heads (exts a) (firsts b) (d.1 ++ tail) g1.1 (heads_append (firsts b) d.1 tail p) in let y : false ≡ true = sym z ∙ q in cc)
         | inl p ↦ (
-            let f2 = both (firm a) (early b) (when_true (nullable b) (firm a && early b) f1.1 p.1) in
+            let f2 = and_parts (firm a) (early b) (when_true (nullable b) (firm a && early b) f1.1 p.1) in
             subst (λ (l : List Lexeme). Over (length tail) (read (Seq a b) (d.0 ++ (l ++ tail)))) (sym p.0)
             (over_then (length tail) (read a (d.0 ++ tail)) (λ x. read b x.1 >>= λ y. Ok ((x.0, y.0), y.1)) (over a g2.0 f2.0 d.0 v.0 tail d.3.0)
             (λ x k. over_then (length tail) (read b x.1) (λ y. Ok ((x.0, y.0), y.1)) (over_more (length x.1) (length tail) (read b x.1) k (over_second b g2.1 f2.1 p.1 x.1)) (λ y j. j))))
       ]
     ])
 over (Alt a b) g f us (inl v) tail d =
-    let g1 = both (good a && good b) (not (nullable a) && disjoint (firsts a) (firsts b)) g in
-    let g2 = both (good a) (good b) g1.0 in
-    let g3 = both (not (nullable a)) (disjoint (firsts a) (firsts b)) g1.1 in
-    let f1 = both (firm a && firm b) (not (nullable b) || early a) f in
-    let f2 = both (firm a) (firm b) f1.0 in
-    let t = heads_append (firsts a) us tail (some_front a us (not_true (nullable a) g3.0) (front a us v d)) in
+    let g1 = and_parts (good a && good b) (not (nullable a) && disjoint (firsts a) (firsts b)) g in
+    let g2 = and_parts (good a) (good b) g1.0 in
+    let g3 = and_parts (not (nullable a)) (disjoint (firsts a) (firsts b)) g1.1 in
+    let f1 = and_parts (firm a && firm b) (not (nullable b) || early a) f in
+    let f2 = and_parts (firm a) (firm b) f1.0 in
+    let t = heads_append (firsts a) us tail (some_front a us (not-true (nullable a) g3.0) (front a us v d)) in
     rw t (over_then (length tail) (read a (us ++ tail)) (λ x. Ok (inl x.0, x.1)) (over a g2.0 f2.0 us v tail d) (λ x k. k))
 over (Alt a b) g f us (inr v) tail d =
-    let g1 = both (good a && good b) (not (nullable a) && disjoint (firsts a) (firsts b)) g in
-    let g2 = both (good a) (good b) g1.0 in
-    let g3 = both (not (nullable a)) (disjoint (firsts a) (firsts b)) g1.1 in
-    let f1 = both (firm a && firm b) (not (nullable b) || early a) f in
-    let f2 = both (firm a) (firm b) f1.0 in
+    let g1 = and_parts (good a && good b) (not (nullable a) && disjoint (firsts a) (firsts b)) g in
+    let g2 = and_parts (good a) (good b) g1.0 in
+    let g3 = and_parts (not (nullable a)) (disjoint (firsts a) (firsts b)) g1.1 in
+    let f1 = and_parts (firm a && firm b) (not (nullable b) || early a) f in
+    let f2 = and_parts (firm a) (firm b) f1.0 in
     let second = over b g2.1 f2.1 us v tail d in
     elim (one_way (heads (firsts a) (us ++ tail))) [
       | inr t ↦ rw t (over_then (length tail) (read b (us ++ tail)) (λ x. Ok (inr x.0, x.1)) second (λ x k. k))
@@ -256,23 +248,23 @@ over (Alt a b) g f us (inr v) tail d =
       ]
     ]
 over (Opt a) g f us None tail d =
-    let g1 = both (good a) (not (nullable a)) g in
-    let f1 = both (firm a) (early a) f in
+    let g1 = and_parts (good a) (not (nullable a)) g in
+    let f1 = and_parts (firm a) (early a) f in
     rw d (
     elim (one_way (heads (firsts a) tail)) [
       | inl t ↦ rw t (over_then (length tail) (read a tail) (λ x. Ok (Some x.0, x.1)) (less_over (length tail) (length tail) (read a tail) (omega arith) (moves a g1.0 f1.1 tail t)) (λ x k. k))
       | inr t ↦ rw t (omega arith)
     ])
 over (Opt a) g f us (Some v) tail d =
-    let g1 = both (good a) (not (nullable a)) g in
-    let f1 = both (firm a) (early a) f in
-    let t = heads_append (firsts a) us tail (some_front a us (not_true (nullable a) g1.1) (front a us v d)) in
+    let g1 = and_parts (good a) (not (nullable a)) g in
+    let f1 = and_parts (firm a) (early a) f in
+    let t = heads_append (firsts a) us tail (some_front a us (not-true (nullable a) g1.1) (front a us v d)) in
     rw t (over_then (length tail) (read a (us ++ tail)) (λ x. Ok (Some x.0, x.1)) (over a g1.0 f1.0 us v tail d) (λ x k. k))
 over (Many a) g f us vs tail d =
-    let g1 = both (good a && not (nullable a)) (disjoint (exts a) (firsts a)) g in
-    let g2 = both (good a) (not (nullable a)) g1.0 in
-    let f1 = both (firm a) (early a) f in
-    over_each a g2.0 f1.1 (over a g2.0 f1.0) (not_true (nullable a) g2.1) g1.1 (length (us ++ tail)) us vs tail (let l = length-append us tail in omega arith) d
+    let g1 = and_parts (good a && not (nullable a)) (disjoint (exts a) (firsts a)) g in
+    let g2 = and_parts (good a) (not (nullable a)) g1.0 in
+    let f1 = and_parts (firm a) (early a) f in
+    over_each a g2.0 f1.1 (over a g2.0 f1.0) (not-true (nullable a) g2.1) g1.1 (length (us ++ tail)) us vs tail (let l = length-append us tail in omega arith) d
 over (Refuse cs k) g f us v tail d = absurd d
 over (Chain c a b) g f us vs tail d = absurd cc
 

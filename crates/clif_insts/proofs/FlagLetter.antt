@@ -1,11 +1,11 @@
 -- The flags of the grammar are those of the text form: any number of the nine, `big` and `little` not together.
 use Rattle.std.proofs.Common.{◌≡◌, ℕ, ◌==◌, ◌&&◌, ◌||◌, Bool, true, false, cond, List, [], ◌∷◌, ◌++◌, map, Option, Some, None, refl, sym, ap, subst, ◌∙◌, inl, inr}
 use Rattle.std.specs.Prelude.{◌⊎◌}
-use Rattle.std.proofs.lemmas.Bool.{eqb-true, eq-eqb}
-use Rattle.std.proofs.lemmas.List.{append-nil}
+use Rattle.std.proofs.lemmas.Bool.{eqb-true, eq-eqb, and_parts, or_cases, or_parts}
+use Rattle.std.proofs.lemmas.List.{append-nil, map-append}
 use Rattle.std.proofs.lemmas.List.Folds.{list_any-append}
 use Rattle.grammar.specs.Rules.{Lexeme, Kind, Rule, Many, Unsupported, Tree, Cut, Derives, Begins, Refuses, member}
-use Rattle.grammar.proofs.Sets.{both, one_way}
+use Rattle.grammar.proofs.Sets.{one_way}
 use Rattle.grammar.proofs.Past.{derives_begins}
 use Rattle.clif_words.specs.declared.class.Class.{Class}
 use Rattle.clif_words.specs.declared.class.Class.TheVariants as classes
@@ -64,18 +64,6 @@ any_single =
 
 -- ---- classes among tokens
 
-either_true : (a b : Bool) → (a || b) ≡ true → (a ≡ true) ⊎ (b ≡ true)
-either_true true b h = inl refl
-either_true false b h = inr h
-
-neither : (a b : Bool) → (a || b) ≡ false → (a ≡ false) × (b ≡ false)
-neither true b h = absurd cc
-neither false b h = (refl, h)
-
-no_two : (a b : Bool) → (a && b) ≡ false → a ≡ true → b ≡ false
-no_two true b h e = h
-no_two false b h e = absurd cc
-
 two_no : (a b : Bool) → (a && b) ≡ false → b ≡ true → a ≡ false
 two_no false b h e = refl
 two_no true true h e = absurd cc
@@ -94,14 +82,14 @@ spared : (class : Class) (cs ds : List ℕ) → ((n : ℕ) → (code class == n)
     → (ts : List Lexeme) → has class ts ≡ false → all_in cs ts ≡ true → all_in ds ts ≡ true
 spared class cs ds less [] none all = refl
 spared class cs ds less (x ∷ xs) none all =
-    let n = neither (code class == x.class) (has class xs) none in
-    let a = both (member x.class cs) (all_in cs xs) all in
+    let n = or_parts (code class == x.class) (has class xs) none in
+    let a = and_parts (member x.class cs) (all_in cs xs) all in
     all_cons ds x xs (less x.class n.0 a.0) (spared class cs ds less xs n.1 a.1)
 
 wider : (cs ds : List ℕ) → ((n : ℕ) → member n cs ≡ true → member n ds ≡ true) → (ts : List Lexeme) → all_in cs ts ≡ true → all_in ds ts ≡ true
 wider cs ds more [] all = refl
 wider cs ds more (x ∷ xs) all =
-    let a = both (member x.class cs) (all_in cs xs) all in
+    let a = and_parts (member x.class cs) (all_in cs xs) all in
     all_cons ds x xs (more x.class a.0) (wider cs ds more xs a.1)
 
 or_none : (a b : Bool) → a ≡ false → b ≡ false → (a || b) ≡ false
@@ -111,7 +99,7 @@ or_none false b e f = f
 none_of : (class : Class) (cs : List ℕ) → member (code class) cs ≡ false → (ts : List Lexeme) → all_in cs ts ≡ true → has class ts ≡ false
 none_of class cs out [] all = refl
 none_of class cs out (x ∷ xs) all =
-    let a = both (member x.class cs) (all_in cs xs) all in
+    let a = and_parts (member x.class cs) (all_in cs xs) all in
     or_none (code class == x.class) (has class xs) (go (one_way (code class == x.class)) a.0) (none_of class cs out xs a.1)
   where
     go : ((code class == x.class) ≡ true) ⊎ ((code class == x.class) ≡ false) → member x.class cs ≡ true → (code class == x.class) ≡ false
@@ -124,13 +112,13 @@ has_append class us ws h k = list_any-append (λ (x : Lexeme). code class == x.c
 -- the four classes
 any_of : (n : ℕ) → member n any ≡ true → (n ≡ code classes.Flag) ⊎ (n ≡ code classes.Vmctx) ⊎ (n ≡ code classes.Little) ⊎ (n ≡ code classes.Big)
 any_of n h =
-    elim (either_true (code classes.Flag == n) (member n (code classes.Vmctx ∷ code classes.Little ∷ code classes.Big ∷ [])) h) [
+    elim (or_cases (code classes.Flag == n) (member n (code classes.Vmctx ∷ code classes.Little ∷ code classes.Big ∷ [])) h) [
       | inl e ↦ inl (sym (eqb-true (code classes.Flag) n e))
-      | inr k ↦ elim (either_true (code classes.Vmctx == n) (member n (code classes.Little ∷ code classes.Big ∷ [])) k) [
+      | inr k ↦ elim (or_cases (code classes.Vmctx == n) (member n (code classes.Little ∷ code classes.Big ∷ [])) k) [
         | inl e ↦ inr (inl (sym (eqb-true (code classes.Vmctx) n e)))
-        | inr j ↦ elim (either_true (code classes.Little == n) (member n (code classes.Big ∷ [])) j) [
+        | inr j ↦ elim (or_cases (code classes.Little == n) (member n (code classes.Big ∷ [])) j) [
           | inl e ↦ inr (inr (inl (sym (eqb-true (code classes.Little) n e))))
-          | inr i ↦ elim (either_true (code classes.Big == n) false i) [ inl e ↦ inr (inr (inr (sym (eqb-true (code classes.Big) n e)))) | inr e ↦ absurd cc ]
+          | inr i ↦ elim (or_cases (code classes.Big == n) false i) [ inl e ↦ inr (inr (inr (sym (eqb-true (code classes.Big) n e)))) | inr e ↦ absurd cc ]
         ]
       ]
     ]
@@ -143,28 +131,28 @@ without_big n e h = elim (any_of n h) [ inl k ↦ rw k refl | inr k ↦ elim k [
 
 plain_any : (n : ℕ) → member n plain ≡ true → member n any ≡ true
 plain_any n h =
-    elim (either_true (code classes.Flag == n) (member n (code classes.Vmctx ∷ [])) h) [
+    elim (or_cases (code classes.Flag == n) (member n (code classes.Vmctx ∷ [])) h) [
       | inl e ↦ rw (sym (eqb-true (code classes.Flag) n e)) refl
-      | inr k ↦ elim (either_true (code classes.Vmctx == n) false k) [ inl e ↦ rw (sym (eqb-true (code classes.Vmctx) n e)) refl | inr e ↦ absurd cc ]
+      | inr k ↦ elim (or_cases (code classes.Vmctx == n) false k) [ inl e ↦ rw (sym (eqb-true (code classes.Vmctx) n e)) refl | inr e ↦ absurd cc ]
     ]
 
 big_any : (n : ℕ) → member n (with_order classes.Big) ≡ true → member n any ≡ true
 big_any n h =
-    elim (either_true (code classes.Flag == n) (member n (code classes.Vmctx ∷ code classes.Big ∷ [])) h) [
+    elim (or_cases (code classes.Flag == n) (member n (code classes.Vmctx ∷ code classes.Big ∷ [])) h) [
       | inl e ↦ rw (sym (eqb-true (code classes.Flag) n e)) refl
-      | inr k ↦ elim (either_true (code classes.Vmctx == n) (member n (code classes.Big ∷ [])) k) [
+      | inr k ↦ elim (or_cases (code classes.Vmctx == n) (member n (code classes.Big ∷ [])) k) [
         | inl e ↦ rw (sym (eqb-true (code classes.Vmctx) n e)) refl
-        | inr j ↦ elim (either_true (code classes.Big == n) false j) [ inl e ↦ rw (sym (eqb-true (code classes.Big) n e)) refl | inr e ↦ absurd cc ]
+        | inr j ↦ elim (or_cases (code classes.Big == n) false j) [ inl e ↦ rw (sym (eqb-true (code classes.Big) n e)) refl | inr e ↦ absurd cc ]
       ]
     ]
 
 little_any : (n : ℕ) → member n (with_order classes.Little) ≡ true → member n any ≡ true
 little_any n h =
-    elim (either_true (code classes.Flag == n) (member n (code classes.Vmctx ∷ code classes.Little ∷ [])) h) [
+    elim (or_cases (code classes.Flag == n) (member n (code classes.Vmctx ∷ code classes.Little ∷ [])) h) [
       | inl e ↦ rw (sym (eqb-true (code classes.Flag) n e)) refl
-      | inr k ↦ elim (either_true (code classes.Vmctx == n) (member n (code classes.Little ∷ [])) k) [
+      | inr k ↦ elim (or_cases (code classes.Vmctx == n) (member n (code classes.Little ∷ [])) k) [
         | inl e ↦ rw (sym (eqb-true (code classes.Vmctx) n e)) refl
-        | inr j ↦ elim (either_true (code classes.Little == n) false j) [ inl e ↦ rw (sym (eqb-true (code classes.Little) n e)) refl | inr e ↦ absurd cc ]
+        | inr j ↦ elim (or_cases (code classes.Little == n) false j) [ inl e ↦ rw (sym (eqb-true (code classes.Little) n e)) refl | inr e ↦ absurd cc ]
       ]
     ]
 
@@ -201,7 +189,7 @@ shape_cons x xs h (inr (us, ws, e, (k, o))) = inr (x ∷ us, ws, ap (λ (l : Lis
 any_shape : (ts : List Lexeme) → all_in any ts ≡ true → both_orders ts ≡ false → Shape ts
 any_shape [] h k = inl refl
 any_shape (x ∷ xs) h k =
-    let a = both (member x.class any) (all_in any xs) h in
+    let a = and_parts (member x.class any) (all_in any xs) h in
     elim (any_of x.class a.0) [
       | inl c ↦ shape_cons x xs (rw c refl) (any_shape xs a.1 (rw c at k))
       | inr j ↦ elim j [
@@ -215,10 +203,6 @@ any_shape (x ∷ xs) h k =
 
 -- ---- texts
 
-map_append : {A B : Type 0} (m : A → B) (us ws : List A) → map m (us ++ ws) ≡ map m us ++ map m ws
-map_append m [] ws = refl
-map_append {A} {B} m (u ∷ us) ws = ap (λ (l : List B). m u ∷ l) (map_append m us ws)
-
 abbrev big_flags : Rule
 big_flags = big then Many (plain_flag or big)
 
@@ -230,7 +214,7 @@ Sorted = Option (Tree big_flags ⊎ Tree little_flags)
 
 joined : (us ws : List Lexeme) (x : Lexeme) (xs ts : List Lexeme) (before behind : List RawFlag) (one : RawFlag) → ts ≡ us ++ ws → ws ≡ x ∷ xs
     → before ≡ map flag_value us → one ≡ flag_value x → behind ≡ map flag_value xs → before ++ (one ∷ behind) ≡ map flag_value ts
-joined us ws x xs ts before behind one e f b o a = rw (e, f, b, o, a) (sym (map_append flag_value us (x ∷ xs)))
+joined us ws x xs ts before behind one e f b o a = rw (e, f, b, o, a) (sym (map-append flag_value us (x ∷ xs)))
 
 flags_down : (ts : List Lexeme) (vs : List (Tree plain_flag)) (o : Sorted) → Derives flags ts (vs, o) → Shape ts × (flags_value (vs, o) ≡ map flag_value ts)
 flags_down ts vs None d =

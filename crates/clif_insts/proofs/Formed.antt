@@ -4,6 +4,7 @@ use Rattle.std.specs.Prelude.{◌⊎◌, IsTrue}
 use Rattle.std.specs.List.{list_any}
 use Rattle.grammar.specs.Rules.{Lexeme, Rule, Opt, Seq, Refuse, Kind, Tree, Derives, member}
 use Rattle.ir_core.specs.Lists.{Each}
+use Rattle.ir_core.proofs.Members.{each_right}
 use Rattle.clif_words.specs.declared.class.Class.{Class}
 use Rattle.clif_words.specs.declared.class.Class.TheVariants as classes
 use Rattle.clif_words.specs.Classes.{code}
@@ -149,18 +150,10 @@ flags_formed (vs, Some (inr v)) =
 pub record Formed {A : Type 0} (P : A → Type 0) (r : Rule) (f : Tree r → A) : Type 0 where
   pub formed : (len : ℕ) (ts : List Lexeme) (v : Tree r) → Each (IsTextToken len) ts → Derives r ts v → P (f v)
 
-pub each_front : {A : Type 0} (P : A → Type 0) (xs ys : List A) → Each P (xs ++ ys) → Each P xs
-each_front P [] ys h = tt
-each_front P (x ∷ xs) ys h = (h.0, each_front P xs ys h.1)
-
-pub each_behind : {A : Type 0} (P : A → Type 0) (xs ys : List A) → Each P (xs ++ ys) → Each P ys
-each_behind P [] ys h = h
-each_behind P (x ∷ xs) ys h = each_behind P xs ys h.1
-
 -- one rule, and then another whose meaning has the property
 pub then_formed : {A : Type 0} {P : A → Type 0} (a : Rule) {b : Rule} (f : Tree a → Tree b → A) → ((x : Tree a) → Formed P b (f x)) → Formed P (Seq a b) (λ v. f v.0 v.1)
 then_formed {A} {P} a {b} f h = record {
-  formed = λ len ts v tokens d. (h v.0).formed len d.1 v.1 (each_behind (IsTextToken len) d.0 d.1 (subst (Each (IsTextToken len)) d.2 tokens)) d.3.1;
+  formed = λ len ts v tokens d. (h v.0).formed len d.1 v.1 (each_right (IsTextToken len) d.0 d.1 (subst (Each (IsTextToken len)) d.2 tokens)) d.3.1;
 }
 
 -- one of two

@@ -6,7 +6,6 @@ pub mod InstLaws
 pub mod Alone
 pub mod Firm
 pub mod One
-pub mod Excepted
 pub mod Singles
 pub mod FlagLetter
 pub mod Choice

@@ -11,6 +11,7 @@ use Rattle.clif_words.specs.declared.class.Class.TheVariants as classes
 use Rattle.clif_words.specs.Classes.{code}
 use Rattle.clif_words.specs.Terminals.{one, ◌then◌, comma}
 use Rattle.clif_words.specs.TextTokens.{IsTextToken, RiseFrom, AreTextTokens}
+use Rattle.clif_words.proofs.TextTokens.{rise_weaker}
 use Rattle.token_reader.specs.declared.raw.RawName.{RawName}
 use Rattle.token_reader.specs.declared.raw.RawNumber.{RawNumber}
 use Rattle.token_reader.specs.declared.raw.RawOpcode.{RawOpcode}
@@ -72,13 +73,9 @@ spot_same x (Opcode o) h = ap (λ (o : RawOpcode). o.spot) h
 spot_same x (Number n) h = ap (λ (n : RawNumber). n.spot) h
 spot_same x (Name bytes spot) h = h.1
 
-rise_lower : (low high : ℕ) (ns : List ℕ) → low ≤ high → RiseFrom high ns → RiseFrom low ns
-rise_lower low high [] less rise = tt
-rise_lower low high (n ∷ ns) less rise = (let first = rise.0 in omega arith, rise.1)
-
 pub rises : {ms : List Mark} {xs : List Lexeme} → Among ms xs → (low : ℕ) → RiseFrom low (map (λ (x : Lexeme). x.spot) xs) → RiseFrom low (map spot_of ms)
 rises done low rise = tt
-rises (pass {x} {ms} a) low rise = rise_lower low (x.spot + 1) (map spot_of ms) (let first = rise.0 in omega arith) (rises a (x.spot + 1) rise.1)
+rises (pass {x} {ms} a) low rise = rise_weaker low (x.spot + 1) (map spot_of ms) (let first = rise.0 in omega arith) (rises a (x.spot + 1) rise.1)
 rises (take {x} {m} {ms} h a) low rise =
     let same = spot_same x m h in
     (subst (λ (s : ℕ). low ≤ s) (sym same) rise.0, subst (λ (s : ℕ). RiseFrom (s + 1) (map spot_of ms)) (sym same) (rises a (x.spot + 1) rise.1))

@@ -1,12 +1,12 @@
 -- One instruction, in the words of the grammar: what reading finds, or where it stops.
-use Rattle.std.proofs.Common.{◌≡◌, ℕ, ◌≤◌, cond, List, [], ◌∷◌, ◌++◌, length, take, drop, None, Ok, Err, refl, sym, ap, subst, ◌∙◌, inl, inr, arith, append_assoc}
+use Rattle.std.proofs.Common.{◌≡◌, ℕ, cond, List, [], ◌∷◌, ◌++◌, length, take, drop, None, Ok, Err, refl, sym, ap, subst, ◌∙◌, inl, inr}
 use Rattle.std.proofs.lemmas.List.{append-nil}
 use Rattle.grammar.specs.Rules.{Lexeme, Rule, Tree, Kind, Cut, Derives, Begins, StopsAt, Answers, Out, good, read, read_all, heads_any, ◌>>=◌}
 use Rattle.grammar.specs.Rules as rules
 use Rattle.grammar.proofs.Binds.{ok_is}
 use Rattle.grammar.proofs.Exactness.{sound, complete}
 use Rattle.grammar.proofs.Past.{Left, past}
-use Rattle.grammar.proofs.Exact.{exact}
+use Rattle.grammar.proofs.Exact.{exact, split_at_next, longer}
 use Rattle.clif_words.specs.declared.class.Class.TheVariants as classes
 use Rattle.clif_insts.specs.declared.raw.RawInst.{RawInst}
 use Rattle.clif_insts.specs.declared.raw.RawOperands.TheVariants as operands
@@ -24,12 +24,6 @@ use Rattle.clif_insts.proofs.InstLaws.{whole_is}
 use Rattle.clif_insts.proofs.Alone.{Alone, alone_or_not}
 
 -- ---- reading by the grammar's value
-
-split_at_next : (us more : List Lexeme) (x : Lexeme) → us ++ x ∷ more ≡ (us ++ x ∷ []) ++ more
-split_at_next us more x = simp append_assoc
-
-longer : (x : Lexeme) (more : List Lexeme) → length (x ∷ more) ≤ length more → ⊥
-longer x more h = omega arith
 
 -- with the next token the text begins no instruction, if reading stopped before it
 no_more : (ts us rest : List Lexeme) (v : Tree whole_inst) → ts ≡ us ++ rest → read whole_inst ts ≡ Ok (v, rest) → NoMore us rest

@@ -1,12 +1,11 @@
 -- Rules whose texts are single tokens, and { } of them.
-use Rattle.std.proofs.Common.{◌≡◌, ℕ, ◌==◌, ◌&&◌, ◌||◌, Bool, true, false, List, [], ◌∷◌, ◌++◌, map, refl, sym, ap, subst, ◌∙◌, inl, inr}
+use Rattle.std.proofs.Common.{◌≡◌, ℕ, ◌==◌, Bool, true, false, List, [], ◌∷◌, ◌++◌, map, refl, sym, ap, subst, ◌∙◌, inl, inr}
 use Rattle.std.specs.Prelude.{◌⊎◌}
 use Rattle.std.specs.List.{list_all}
-use Rattle.std.proofs.lemmas.Bool.{eqb-true, eq-eqb}
+use Rattle.std.proofs.lemmas.Bool.{eqb-true, eq-eqb, and_parts, or_cases, and_from, or_left, or_right}
 use Rattle.std.proofs.lemmas.List.{append-nil}
 use Rattle.std.proofs.lemmas.List.Folds.{list_any-append, list_all-append}
 use Rattle.grammar.specs.Rules.{Lexeme, Kind, Rule, Tok, Alt, Many, Refuse, Tree, Each, Derives, Begins, Refuses, member}
-use Rattle.grammar.proofs.Sets.{both}
 use Rattle.token_reader.specs.Values.{either}
 use Rattle.clif_insts.specs.FlagLetter.{Means}
 
@@ -25,18 +24,6 @@ pub record Single {A : Type 0} (r : Rule) (f : Tree r → A) (cs : List ℕ) (m 
   pub begins : (us : List Lexeme) → One cs us → Begins r us
   pub refused : (us : List Lexeme) (x : Lexeme) (k : Kind) → Refuses r us x k → us ≡ []
 
-or_left : (a b : Bool) → a ≡ true → (a || b) ≡ true
-or_left true b h = refl
-or_left false b h = absurd cc
-
-or_right : (a b : Bool) → b ≡ true → (a || b) ≡ true
-or_right true b h = refl
-or_right false b h = h
-
-either_true : (a b : Bool) → (a || b) ≡ true → (a ≡ true) ⊎ (b ≡ true)
-either_true true b h = inl refl
-either_true false b h = inr h
-
 in_left : (n : ℕ) (cs ds : List ℕ) → member n cs ≡ true → member n (cs ++ ds) ≡ true
 in_left n cs ds h = list_any-append (λ d. d == n) cs ds ∙ or_left (member n cs) (member n ds) h
 
@@ -44,13 +31,13 @@ in_right : (n : ℕ) (cs ds : List ℕ) → member n ds ≡ true → member n (c
 in_right n cs ds h = list_any-append (λ d. d == n) cs ds ∙ or_right (member n cs) (member n ds) h
 
 in_either : (n : ℕ) (cs ds : List ℕ) → member n (cs ++ ds) ≡ true → (member n cs ≡ true) ⊎ (member n ds ≡ true)
-in_either n cs ds h = either_true (member n cs) (member n ds) (sym (list_any-append (λ d. d == n) cs ds) ∙ h)
+in_either n cs ds h = or_cases (member n cs) (member n ds) (sym (list_any-append (λ d. d == n) cs ds) ∙ h)
 
 is_in : (c n : ℕ) → n ≡ c → member n (c ∷ []) ≡ true
 is_in c n e = or_left (c == n) false (eq-eqb c n (sym e))
 
 in_is : (c n : ℕ) → member n (c ∷ []) ≡ true → n ≡ c
-in_is c n h = elim (either_true (c == n) false h) [ inl e ↦ sym (eqb-true c n e) | inr e ↦ absurd cc ]
+in_is c n h = elim (or_cases (c == n) false h) [ inl e ↦ sym (eqb-true c n e) | inr e ↦ absurd cc ]
 
 pub single_tok : {A : Type 0} (c : ℕ) (f m : Lexeme → A) → ((x : Lexeme) → x.class ≡ c → f x ≡ m x) → Single (Tok c) f (c ∷ []) m
 single_tok c f m same = record {
@@ -91,16 +78,11 @@ single_or {A} a b f g cs ds m s t = record {
 
 -- ---- { }
 
-and_true : (a b : Bool) → a ≡ true → b ≡ true → (a && b) ≡ true
-and_true true true e f = refl
-and_true true false e f = absurd cc
-and_true false b e f = absurd cc
-
 pub all_cons : (cs : List ℕ) (x : Lexeme) (xs : List Lexeme) → member x.class cs ≡ true → all_in cs xs ≡ true → all_in cs (x ∷ xs) ≡ true
-all_cons cs x xs h k = and_true (member x.class cs) (all_in cs xs) h k
+all_cons cs x xs h k = and_from (member x.class cs) (all_in cs xs) h k
 
 pub all_append : (cs : List ℕ) (us ws : List Lexeme) → all_in cs us ≡ true → all_in cs ws ≡ true → all_in cs (us ++ ws) ≡ true
-all_append cs us ws h k = list_all-append (λ (x : Lexeme). member x.class cs) us ws ∙ and_true (all_in cs us) (all_in cs ws) h k
+all_append cs us ws h k = list_all-append (λ (x : Lexeme). member x.class cs) us ws ∙ and_from (all_in cs us) (all_in cs ws) h k
 
 -- the texts of { } are the tokens of the classes, in any number
 pub many_means : {A : Type 0} (r : Rule) (f : Tree r → A) (cs : List ℕ) (m : Lexeme → A) → Single r f cs m → (ts : List Lexeme) (vs : List (Tree r)) → Each (Derives r) ts vs
@@ -116,7 +98,7 @@ many_means {A} r f cs m s ts (v ∷ vs) d =
 pub many_made : {A : Type 0} (r : Rule) (f : Tree r → A) (cs : List ℕ) (m : Lexeme → A) → Single r f cs m → (ts : List Lexeme) → all_in cs ts ≡ true → Means (Many r) (map f) ts (map m ts)
 many_made r f cs m s [] h = ([], refl, refl)
 many_made {A} r f cs m s (x ∷ xs) h =
-    let two = both (member x.class cs) (all_in cs xs) h in
+    let two = and_parts (member x.class cs) (all_in cs xs) h in
     let k = s.made x two.0 in
     let rest = many_made r f cs m s xs two.1 in
     (k.0 ∷ rest.0, (x ∷ [], xs, refl, (k.1, rest.1)), ap (λ (a : A). a ∷ map f rest.0) k.2 ∙ ap (λ (l : List A). m x ∷ l) rest.2)

@@ -35,10 +35,10 @@ pub letter_token : (preamble : Bool) (at : ℕ) (text : List ℕ) → is_letter 
 unfolding token_at
 letter_token preamble at text h = rw h refl
 
-mark_no_digit : (c : ℕ) → is_mark c ≡ true → is_ascii_digit c ≡ false
+pub mark_no_digit : (c : ℕ) → is_mark c ≡ true → is_ascii_digit c ≡ false
 mark_no_digit c h = grind (arith, nat_tests)
 
-mark_no_sign : (c : ℕ) → is_mark c ≡ true → is_sign c ≡ false
+pub mark_no_sign : (c : ℕ) → is_mark c ≡ true → is_sign c ≡ false
 mark_no_sign c h = grind (arith, nat_tests)
 
 pub mark_token : (preamble : Bool) (at : ℕ) (text : List ℕ) → is_letter (first text) ≡ false → is_mark (first text) ≡ true → token_at preamble at text ≡ Ok (token (Mark (first text)) at 1)

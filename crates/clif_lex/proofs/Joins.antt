@@ -7,17 +7,14 @@ use Rattle.std.specs.Char.{is_ascii_hexdigit}
 use Rattle.std.specs.List.{prefix_len}
 use Rattle.clif_lex.specs.declared.spans.Token.{Token}
 use Rattle.clif_lex.specs.declared.faults.LexErr.{LexErr}
-use Rattle.clif_lex.specs.Bytes.{is_blank, is_letter, is_sign, is_word_byte, is_no_line_feed, is_decimal_byte, is_hex_byte, first}
+use Rattle.clif_lex.specs.Bytes.{is_blank, is_letter, is_word_byte, is_no_line_feed, is_decimal_byte, is_hex_byte, first}
 use Rattle.clif_lex.specs.Numbers.{sign_len, unsigned, is_hex, digits_len, number_len, lacks_digits}
 use Rattle.clif_lex.specs.Lexing.{◌>>=◌, is_preamble, number_at, word_at, token_at, tokens_from}
 use Rattle.clif_lex.specs.Spelling.{Stands}
 use Rattle.clif_lex.specs.Stretches.{preamble_after}
 use Rattle.clif_lex.proofs.Runs.{at_blank, at_token, at_fault}
 use Rattle.clif_lex.proofs.Longest.{stands}
-
--- a line, and what follows its end
-abbrev ended_by : List ℕ → List ℕ → List ℕ
-ended_by line more = line ++ (10 ∷ more)
+use Rattle.clif_lex.proofs.Plain.{sign_within}
 
 -- a run goes no further than the line
 run_in_line : (p : ℕ → Bool) (line more : List ℕ) → p 10 ≡ false → prefix_len p (line ++ (10 ∷ more)) ≡ prefix_len p line
@@ -50,10 +47,6 @@ word_in_line preamble at line more =
 sign_in_line : (line more : List ℕ) → sign_len (line ++ (10 ∷ more)) ≡ sign_len line
 sign_in_line [] more = refl
 sign_in_line (c ∷ cs) more = refl
-
-sign_within : (line : List ℕ) → sign_len line ≤ length line
-sign_within [] = omega arith
-sign_within (c ∷ cs) = elim (is_sign c) as (λ b. cond b 1 0 ≤ suc (length cs)) [ true ↦ omega arith | false ↦ omega arith ]
 
 rest_in_line : (line more : List ℕ) → drop (sign_len line) (line ++ (10 ∷ more)) ≡ unsigned line ++ (10 ∷ more)
 rest_in_line line more = drop_in_line (sign_len line) line more (sign_within line)

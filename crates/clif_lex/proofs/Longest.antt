@@ -15,6 +15,7 @@ use Rattle.clif_lex.specs.Numbers.{is_hex, unsigned, sign_len, number_len, lacks
 use Rattle.clif_lex.specs.Lexing.{begins_number, is_header_word, token, number_at, word_at, token_at}
 use Rattle.clif_lex.specs.Spelling.{are_digits, spells, IsLongest, IsNone, is_bad, Stands}
 use Rattle.clif_lex.proofs.Spelled.{Class, names, comments, arrows, locations, lone_at, nothing, begun, class_of, reach, word_run, line_run, word_reach, digits_reach, run_passes, run_of_take, take_of_take, word_in_line, words_begun, numbers_begun, marks_begun, spelled_begun}
+use Rattle.clif_lex.proofs.Starts.{letter_is_word_byte}
 
 -- what is spelled is of one kind
 
@@ -106,9 +107,6 @@ first_run p c cs h =
     let s : 1 + prefix_len p cs ≡ suc (prefix_len p cs) = omega arith in
     rw (h, s) refl
 
-letter_is_word_byte : (c : ℕ) → is_letter c ≡ true → is_word_byte c ≡ true
-letter_is_word_byte c h = grind (arith, nat_tests)
-
 word_stands : (preamble : Bool) (at : ℕ) (text : List ℕ) → is_letter (first text) ≡ true → Stands preamble at text (Ok (word_at preamble at text))
 unfolding word_at
 word_stands preamble at [] h = absurd cc
@@ -187,10 +185,10 @@ digits_are (c ∷ cs) h = go (is_hex (c ∷ cs)) refl
     go true e = let parts = and_parts (c == 48) (first cs == 120) e in hexed cs (eqb-true c 48 parts.0) parts.1
     go false e = decimal_digits c cs h e
 
-sign_no_digit : (c : ℕ) → is_sign c ≡ true → is_ascii_digit c ≡ false
+pub sign_no_digit : (c : ℕ) → is_sign c ≡ true → is_ascii_digit c ≡ false
 sign_no_digit c h = grind (arith, nat_tests)
 
-digit_no_sign : (c : ℕ) → is_ascii_digit c ≡ true → is_sign c ≡ false
+pub digit_no_sign : (c : ℕ) → is_ascii_digit c ≡ true → is_sign c ≡ false
 digit_no_sign c h = grind (arith, nat_tests)
 
 only_left : (a b : Bool) → (a || (false && b)) ≡ true → a ≡ true

@@ -125,7 +125,7 @@ plain_number at text short stop =
     let back : drop (sign_len text + n) text ≡ drop n rest = sym (drop-drop n (sign_len text) text) in
     rw (hex, run, back, letter, good) refl
 
-sign_within : (text : List ℕ) → sign_len text ≤ length text
+pub sign_within : (text : List ℕ) → sign_len text ≤ length text
 sign_within [] = omega arith
 sign_within (c ∷ cs) = go (is_sign c)
   where

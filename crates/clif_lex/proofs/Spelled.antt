@@ -231,10 +231,10 @@ digits_begun n text h s =
         let found = hex_begun n text h more.1 parts.1 in
         (hex_digit text hex, rw (hex, found.0) found.1)
 
-digit_no_letter : (c : ℕ) → is_ascii_digit c ≡ true → is_letter c ≡ false
+pub digit_no_letter : (c : ℕ) → is_ascii_digit c ≡ true → is_letter c ≡ false
 digit_no_letter c h = grind (arith, nat_tests)
 
-sign_no_letter : (c : ℕ) → is_sign c ≡ true → is_letter c ≡ false
+pub sign_no_letter : (c : ℕ) → is_sign c ≡ true → is_letter c ≡ false
 sign_no_letter c h = grind (arith, nat_tests)
 
 pub numbers_begun : (text : List ℕ) → begins_number text ≡ true → begun text ≡ numbers

@@ -4,34 +4,19 @@ use Rattle.std.proofs.lemmas.Bool.Decides.{nat_tests}
 use Rattle.std.specs.Char.{is_ascii_digit}
 use Rattle.std.specs.List.{prefix_len}
 use Rattle.clif_lex.specs.declared.spans.Token.{Token}
-use Rattle.clif_lex.specs.declared.spans.TokenKind.TheVariants.{Header, Word, Number}
+use Rattle.clif_lex.specs.declared.spans.TokenKind.TheVariants.{Number}
 use Rattle.clif_lex.specs.declared.faults.LexErr.{LexErr}
 use Rattle.clif_lex.specs.declared.faults.LexErr.TheVariants.{BadNumber}
-use Rattle.clif_lex.specs.Bytes.{first, second, is_letter, is_sign, is_word_byte, is_decimal_byte, is_hex_byte, is_no_line_feed}
+use Rattle.clif_lex.specs.Bytes.{first, second, is_letter, is_sign, is_word_byte, is_decimal_byte, is_hex_byte}
 use Rattle.clif_lex.specs.Numbers.{is_hex, digits_len, number_len, lacks_digits, is_in_range}
-use Rattle.clif_lex.specs.Lexing.{begins_number, is_header_word, token, number_at, word_at}
+use Rattle.clif_lex.specs.Lexing.{begins_number, token, number_at}
 
 -- a run whose first byte passes is not empty
 run_some : (p : ℕ → Bool) (c : ℕ) (cs : List ℕ) → p c ≡ true → 0 < prefix_len p (c ∷ cs)
 run_some p c cs h = rw h (omega arith)
 
-letter_is_word_byte : (c : ℕ) → is_letter c ≡ true → is_word_byte c ≡ true
+pub letter_is_word_byte : (c : ℕ) → is_letter c ≡ true → is_word_byte c ≡ true
 letter_is_word_byte c h = grind (arith, nat_tests)
-
-letter_is_no_line_feed : (c : ℕ) → is_letter c ≡ true → is_no_line_feed c ≡ true
-letter_is_no_line_feed c h = grind (arith, nat_tests)
-
-pub word_some : (preamble : Bool) (at : ℕ) (text : List ℕ) → is_letter (first text) ≡ true → at < (word_at preamble at text).end
-unfolding word_at
-word_some preamble at [] h = absurd cc
-word_some preamble at (c ∷ cs) h =
-    let word = run_some is_word_byte c cs (letter_is_word_byte c h) in
-    let line = run_some is_no_line_feed c cs (letter_is_no_line_feed c h) in
-    both (preamble && is_header_word (take (prefix_len is_word_byte (c ∷ cs)) (c ∷ cs))) (prefix_len is_no_line_feed (c ∷ cs)) (prefix_len is_word_byte (c ∷ cs)) line word
-  where
-    both : (b : Bool) (m n : ℕ) → 0 < m → 0 < n → at < (cond b (token Header at m) (token Word at n)).end
-    both true m n some_m some_n = omega arith
-    both false m n some_m some_n = omega arith
 
 digits_some : (text : List ℕ) → is_ascii_digit (first text) ≡ true → 0 < digits_len text
 digits_some [] h = absurd cc

@@ -11,7 +11,6 @@ use Rattle.clif_lex.specs.Spelling.{AreIn}
 use Rattle.clif_lex.specs.Stretches.{stretch_tokens, preamble_after, IsStretch, IsLineStart, IsCut}
 use Rattle.clif_lex.proofs.Spelled.{take_of_take}
 use Rattle.clif_lex.proofs.Readings.{token_inside_text}
-use Rattle.clif_lex.proofs.Insides.{stretch_inside}
 use Rattle.clif_lex.proofs.Joins.{then_tokens, none_before, lines_join}
 
 -- nothing stands between a place and itself
@@ -66,19 +65,6 @@ stretch_by_stretch text preamble a b c ordered further within (inside, inr start
         let alone : stretch_tokens text preamble a b ≡ r = one ∙ rw (nothing_between text b) (sym (nothing_more preamble b r)) in
         both ∙ ap (λ (x : Result (List Token) LexErr). x >>= then_tokens preamble b (drop b (take c text))) (sym alone)
 
--- a fault before the cut is the first one
-pub fault_before : (text : List ℕ) (preamble : Bool) (a b c : ℕ) (e : LexErr) → a ≤ b → b ≤ c → c ≤ length text → IsCut text b → stretch_tokens text preamble a b ≡ Err e → stretch_tokens text preamble a c ≡ Err e
-fault_before text preamble a b c e ordered further within cut fault =
-    stretch_by_stretch text preamble a b c ordered further within cut ∙ ap (λ (x : Result (List Token) LexErr). x >>= then_tokens preamble b (drop b (take c text))) fault
-
--- a fault behind it is the first one where there is none before
-pub fault_behind : (text : List ℕ) (preamble : Bool) (a b c : ℕ) (ts : List Token) (e : LexErr) → IsStretch text preamble a b ts → b ≤ c → c ≤ length text → IsCut text b
-    → stretch_tokens text (preamble_after preamble ts) b c ≡ Err e → stretch_tokens text preamble a c ≡ Err e
-fault_behind text preamble a b c ts e front further within cut fault =
-    stretch_by_stretch text preamble a b c front.ordered further within cut
-    ∙ ap (λ (x : Result (List Token) LexErr). x >>= then_tokens preamble b (drop b (take c text))) front.lexed
-    ∙ ap (λ (x : Result (List Token) LexErr). x >>= λ vs. Ok (ts ++ vs)) fault
-
 -- the tokens of two stretches are those of the stretch that they make
 pub stretches_join : (text : List ℕ) (preamble : Bool) (a b c : ℕ) (ts us : List Token) → IsStretch text preamble a b ts → IsCut text b → IsStretch text (preamble_after preamble ts) b c us → IsStretch text preamble a c (ts ++ us)
 stretches_join text preamble a b c ts us front cut rest = record {
@@ -109,9 +95,6 @@ stretch_of_whole text ts lexed = record { ordered = omega arith; within = omega 
 pub tokens_are_in : (text : List ℕ) (ts : List Token) → tokens_of text ≡ Ok ts → AreIn text ts
 tokens_are_in text ts lexed = record { each = token_inside_text text ts lexed }
 
-pub stretches_are_in : (text : List ℕ) (preamble : Bool) (from until : ℕ) (ts : List Token) → IsStretch text preamble from until ts → AreIn text ts
-stretches_are_in text preamble from until ts stretch = stretch_inside text preamble from until ts stretch.ordered stretch.within stretch.lexed
-
 -- whether a Header may stand behind two stretches: behind the second one, which stands behind the first
 pub preamble_further : (preamble : Bool) (ts us : List Token) → preamble_after preamble (ts ++ us) ≡ preamble_after (preamble_after preamble ts) us
 preamble_further false ts us = refl
@@ -125,8 +108,3 @@ some_other (x ∷ xs) (suc i) t found other = go (is_preamble x.kind) (some_othe
     go : (b : Bool) → list_all (λ t. is_preamble t.kind) xs ≡ false → (b && list_all (λ t. is_preamble t.kind) xs) ≡ false
     go true e = e
     go false e = refl
-
--- behind a token that is no Header and no Comment no Header may stand
-pub preamble_ends : (preamble : Bool) (ts : List Token) (i : ℕ) (t : Token) → slice_get ts i ≡ Some t → is_preamble t.kind ≡ false → preamble_after preamble ts ≡ false
-preamble_ends false ts i t found other = refl
-preamble_ends true ts i t found other = some_other ts i t found other

@@ -1,14 +1,13 @@
 -- The numbers of defined words are below the numbers of entities.
-use Rattle.std.proofs.Common.{◌≡◌, ℕ, zero, suc, ◌+◌, ◌<◌, ◌≤◌, inl, inr, false, List, [], ◌∷◌, ◌++◌, length, slice_get, Option, None, Some, map, refl, sym, ap, subst, ◌∙◌, arith, append_assoc}
-use Rattle.std.specs.Prelude.{flat_map, nat_eq}
+use Rattle.std.proofs.Common.{◌≡◌, ℕ, zero, suc, ◌+◌, ◌<◌, ◌≤◌, inl, inr, List, [], ◌∷◌, ◌++◌, length, slice_get, Option, None, Some, map, refl, sym, ap, subst, ◌∙◌, arith, append_assoc}
+use Rattle.std.specs.Prelude.{flat_map}
 use Rattle.std.specs.List.{enumerate_from}
 use Rattle.std.proofs.lemmas.Bool.Decides.{eqb_tells}
-use Rattle.std.proofs.lemmas.List.{append-nil}
+use Rattle.std.proofs.lemmas.List.{append-nil, map-append}
 use Rattle.ir_core.specs.declared.signatures.Ty.{Ty}
 use Rattle.ir_core.specs.declared.declarations.Callee.{Callee}
 use Rattle.ir_core.specs.Lists.{In, Each}
 use Rattle.ir_core.specs.Lookup.{definitions, line_definitions}
-use Rattle.ir_core.proofs.Ranges.{map_append}
 use Rattle.std.proofs.lemmas.Grind.{flat_map-append}
 use Rattle.token_reader.specs.declared.raw.RawName.{RawName}
 use Rattle.clif_read.specs.declared.raw.RawBlockParam.{RawBlockParam}
@@ -65,9 +64,6 @@ callees_long sig k (decl.Sig n signature ∷ ds) = callees_long sig (suc k) ds
 callees_long sig k (decl.Callee colocated n (callee_sig.Declared s) name ∷ ds) = ap suc (callees_long sig k ds)
 callees_long sig k (decl.Callee colocated n (callee_sig.Inline signature) name ∷ ds) = ap suc (callees_long sig (suc k) ds)
 
-flipped : (a b : ℕ) → (a ≡ b → ⊥) → nat_eq a b ≡ false
-flipped a b ne = elim (eqb_tells a b) [ inl t ↦ absurd (ne t.1) | inr f ↦ f.0 ]
-
 pub sig_below : (ds : List RawDecl) (n : ℕ) → IsDefined (flat_map sig_names ds) n → sig_place (flat_map decl_sigs ds) n < length (flat_map decl_sigs ds)
 sig_below [] n (i, d, at, same) = absurd cc
 sig_below (decl.Slot m size align ∷ ds) n h = sig_below ds n h
@@ -99,7 +95,7 @@ module _ (raw : RawFunction) (value : ℕ → ℕ) (types : List (ℕ × Ty)) wh
   own_more ss ts =
       ap (λ ds. map (λ r. value r.number) (numbered ds)) (flat_map-append step_defs ss ts)
       ∙ ap (map (λ r. value r.number)) (flat_map-append own_name (defs_of ss) (defs_of ts))
-      ∙ map_append (λ r. value r.number) (numbered (defs_of ss)) (numbered (defs_of ts))
+      ∙ map-append (λ r. value r.number) (numbered (defs_of ss)) (numbered (defs_of ts))
 
   params_define : (ps : List RawBlockParam) → map (λ p. value p.value.number) ps ≡ own_numbers (map Param ps)
   params_define [] = refl
@@ -111,7 +107,7 @@ module _ (raw : RawFunction) (value : ℕ → ℕ) (types : List (ℕ × Ty)) wh
   lines_define (line.Inst location tags results inst ∷ ls) =
       ap (λ xs. map (λ (r : RawName). value r.number) results ++ xs) (lines_define ls)
       ∙ ap (λ ns. map (λ (r : RawName). value r.number) ns ++ map (λ r. value r.number) (numbered (defs_of (map Line ls)))) (sym (map_names results))
-      ∙ sym (map_append (λ r. value r.number) (numbered (map value_def results)) (numbered (defs_of (map Line ls))))
+      ∙ sym (map-append (λ r. value r.number) (numbered (map value_def results)) (numbered (defs_of (map Line ls))))
       ∙ ap (map (λ r. value r.number)) (sym (flat_map-append own_name (map value_def results) (defs_of (map Line ls))))
 
   pub blocks_define : (n : ℕ) (bs : List RawBlock) → definitions (map (block_with raw value types) (enumerate_from n bs)) ≡ own_numbers (flat_map block_steps bs)

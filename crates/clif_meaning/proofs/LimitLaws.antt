@@ -2,7 +2,8 @@
 use Rattle.std.proofs.Common.{◌≡◌, ℕ, Bool, true, false, List, ◌++◌, slice_get, Some, map, refl}
 use Rattle.std.specs.Prelude.{flat_map}
 use Rattle.ir_core.specs.Lists.{Each}
-use Rattle.ir_core.proofs.Members.{each_left, each_right}
+use Rattle.ir_core.proofs.Members.{each_left, each_right, each_by}
+use Rattle.ir_core.proofs.Gets.{in_get}
 use Rattle.clif_lex.specs.declared.faults.TextKind.TheVariants.{NumberRange}
 use Rattle.clif_read.specs.declared.raw.RawFunction.{RawFunction}
 use Rattle.clif_names.specs.declared.limits.Limit.TheVariants.{Entity}
@@ -10,8 +11,6 @@ use Rattle.clif_names.specs.declared.limits.Limited.{Limited}
 use Rattle.name_tables.specs.Definitions.{lines}
 use Rattle.clif_names.specs.FunctionNames.{NoFunctionFault}
 use Rattle.clif_names.specs.Limits.{keeps, of_word, all_words, name_limits, decl_limits, line_limits, limits}
-use Rattle.name_tables.proofs.DefinedWords.{in_place}
-use Rattle.clif_meaning.proofs.Lists.{each_in}
 
 -- it keeps its limit
 abbrev pub Kept : Limited → Type 0
@@ -22,7 +21,7 @@ AllKept zs = Each Kept zs
 
 module _ (raw : RawFunction) (free : NoFunctionFault raw) where
   pub all_kept : AllKept (limits raw)
-  all_kept = each_in Kept (limits raw) (λ z i. by z (keeps z.limit z.value) refl (in_place (limits raw) z i))
+  all_kept = each_by Kept (limits raw) (λ z i. by z (keeps z.limit z.value) refl (in_get (limits raw) z i))
     where
       by : (z : Limited) (b : Bool) → keeps z.limit z.value ≡ b → (i : ℕ) × (slice_get (limits raw) i ≡ Some z) → Kept z
       by z true t p = t

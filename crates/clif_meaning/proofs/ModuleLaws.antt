@@ -1,11 +1,13 @@
 -- What a text means is a module.
-use Rattle.std.proofs.Common.{◌≡◌, ◌≢◌, ℕ, suc, ◌<◌, ◌≤◌, inl, inr, Bool, true, false, List, [], ◌∷◌, slice_get, None, Some, ℤ, pos, negsuc, refl, sym, ap, ◌∙◌, arith}
+use Rattle.std.proofs.Common.{◌≡◌, ◌≢◌, ℕ, suc, ◌<◌, ◌≤◌, inl, inr, Bool, true, false, List, [], ◌∷◌, slice_get, None, Some, ℤ, pos, negsuc, refl, sym, ap, ◌∙◌, arith, ap₂}
 use Rattle.std.proofs.lemmas.Bool.Decides.{leb_tells}
+use Rattle.ir_core.specs.declared.names.FuncName.TheVariants as name
 use Rattle.ir_core.specs.Lists.{In, Each}
 use Rattle.ir_core.specs.Module.{Function}
 use Rattle.ir_core.specs.Lookup.{same_name, find_function}
 use Rattle.ir_core.specs.WellFormed.{WellFormed, DifferentNames}
 use Rattle.ir_core.proofs.Equal.{name_equal}
+use Rattle.ir_core.proofs.Gets.{in_get}
 use Rattle.clif_lex.specs.declared.faults.TextKind.TheVariants.{Duplicate, Undefined, Untyped, TooLarge}
 use Rattle.token_reader.specs.declared.raw.RawName.{RawName}
 use Rattle.clif_read.specs.declared.raw.RawFuncName.{RawFuncName}
@@ -24,15 +26,23 @@ use Rattle.clif_names.specs.Listed as listed
 use Rattle.clif_names.proofs.ListedLaws.{defined, undefined}
 use Rattle.clif_meaning.proofs.LimitLaws.{AllKept, name_kept}
 use Rattle.clif_meaning.proofs.WholeLaws.{meant_whole}
-use Rattle.name_tables.proofs.DefinedWords.{in_place}
 use Rattle.clif_names.specs.FunctionNames.{NoFunctionFault}
 use Rattle.clif_read.specs.Marks.{name_spot}
+
+-- ---- names
+
+-- two names that are one in the text are one in the module
+pub one_name : (a b : RawFuncName) → SameName a b → name_of a ≡ name_of b
+one_name (func_name.Text a s) (func_name.Text b t) h = ap name.Text h
+one_name (func_name.User a i) (func_name.User b j) h = ap₂ name.User h.0 (ap natural h.1)
+one_name (func_name.Text a s) (func_name.User b j) h = absurd h
+one_name (func_name.User a i) (func_name.Text b t) h = absurd h
 
 -- ---- one function
 
 module _ (r : RawFunction) (free : NoFunctionFault r) where
   pub used : (k : Kind) (u : RawName) → In u (uses r k) → IsDefined (definitions r k) u.number
-  used k u i = by (listed.is_defined (definitions r k) u.number) refl (in_place (uses r k) u i)
+  used k u i = by (listed.is_defined (definitions r k) u.number) refl (in_get (uses r k) u i)
     where
       by : (b : Bool) → listed.is_defined (definitions r k) u.number ≡ b → (j : ℕ) × (slice_get (uses r k) j ≡ Some u) → IsDefined (definitions r k) u.number
       by true t p = defined (definitions r k) u.number t
@@ -46,7 +56,7 @@ whole r f free begins mf = meant_whole r f mf (used r free) (λ spot h. free Dup
 
 -- ---- names
 
-not_negative : (z : ℤ) → keeps Entity z ≡ true → z ≡ pos (natural z)
+pub not_negative : (z : ℤ) → keeps Entity z ≡ true → z ≡ pos (natural z)
 not_negative (pos n) h = refl
 not_negative (negsuc n) h = absurd cc
 

@@ -12,6 +12,7 @@ use Rattle.ir_core.specs.Module.{Function}
 use Rattle.ir_core.specs.Lookup.{type_in}
 use Rattle.ir_semantics.specs.Renaming.{Renaming}
 use Rattle.ir_core.proofs.Walking.{type_found}
+use Rattle.ir_core.proofs.Gets.{get_left}
 use Rattle.token_reader.specs.declared.raw.RawName.{RawName}
 use Rattle.clif_insts.specs.declared.raw.RawInst.{RawInst}
 use Rattle.clif_read.specs.declared.raw.RawLine.TheVariants as line
@@ -25,7 +26,7 @@ use Rattle.clif_names.specs.Typing.{asks, gives_type, step_inst, IsUntyped}
 use Rattle.clif_meaning.specs.Instructions.{operand_type, known, line_of, value_at}
 use Rattle.clif_meaning.specs.Meaning.{numbers, function_with, inst_type, step_types, value_types, types_for, form_types, FunctionMeans, FunctionsMean}
 use Rattle.clif_meaning.specs.Meaning.{OneMeaning}
-use Rattle.clif_meaning.proofs.Lists.{get_left, get_seam}
+use Rattle.clif_meaning.proofs.Lists.{get_seam}
 use Rattle.clif_names.specs.Listed as listed
 use Rattle.clif_names.proofs.ListedLaws.{undefined}
 use Rattle.name_tables.proofs.ChainLaws.{one_end, end_first}

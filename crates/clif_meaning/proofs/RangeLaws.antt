@@ -1,6 +1,7 @@
 -- Where each word that is used is defined, each number of the function that is meant names something that it has.
 use Rattle.std.proofs.Common.{◌≡◌, ℕ, ◌<◌, List, [], ◌∷◌, ◌++◌, Option, map, refl, sym, ap, ◌∙◌}
 use Rattle.std.specs.Prelude.{flat_map}
+use Rattle.std.proofs.lemmas.List.{map-append}
 use Rattle.clk_num.specs.declared.op.TrapCode.{TrapCode}
 use Rattle.ir_core.specs.declared.signatures.Ty.{Ty}
 use Rattle.ir_core.specs.declared.instructions.BlockCall.{BlockCall}
@@ -9,7 +10,6 @@ use Rattle.ir_core.specs.Lists.{Below, Each}
 use Rattle.ir_core.specs.Uses.{operands, targets, table_targets, called_used, called_callees, called_sigs, arg_values_used, targets_used, values_used, blocks_used, slots_used, slots_shown, callees_used, sigs_used}
 use Rattle.ir_core.specs.Sound.{Counts, LineInRange}
 use Rattle.ir_semantics.specs.Renaming.{Renaming}
-use Rattle.ir_core.proofs.Ranges.{map_append}
 use Rattle.ir_core.proofs.Members.{each_left, each_right}
 use Rattle.clif_words.specs.declared.opcodes.Opcode.{Opcode}
 use Rattle.clif_words.specs.declared.opcodes.Opcode.TheVariants as opcode
@@ -83,14 +83,14 @@ module _ (at : Renaming) where
   target_args_are [] = refl
   target_args_are (t ∷ ts) =
       ap (λ xs. xs ++ targets_used (map (target_of at) ts)) (args_are t.args) ∙ ap (λ xs. values_at at (flat_map arg_values t.args) ++ xs) (target_args_are ts)
-      ∙ sym (map_append (value_at at) (flat_map arg_values t.args) (flat_map target_values ts))
+      ∙ sym (map-append (value_at at) (flat_map arg_values t.args) (flat_map target_values ts))
 
   pub values_are : (o : Opcode) (t : Ty) (op : RawOperands) → values_used (instruction_of at o t op) ≡ values_at at (operand_values op ++ flat_map target_values (operand_targets op))
   values_are o t op =
       ap (λ xs. xs ++ targets_used (targets (instruction_of at o t op))) (operands_are o t op)
       ∙ ap (λ ts. values_at at (operand_values op) ++ targets_used ts) (targets_are o t op)
       ∙ ap (λ xs. values_at at (operand_values op) ++ xs) (target_args_are (operand_targets op))
-      ∙ sym (map_append (value_at at) (operand_values op) (flat_map target_values (operand_targets op)))
+      ∙ sym (map-append (value_at at) (operand_values op) (flat_map target_values (operand_targets op)))
 
   block_words : (ts : List RawTarget) → map (λ (t : BlockCall). t.block) (map (target_of at) ts) ≡ map (λ (n : RawName). at.block n.number) (map (λ (t : RawTarget). t.block) ts)
   block_words [] = refl

@@ -5,17 +5,17 @@ use Rattle.std.specs.List.{enumerate_from}
 use Rattle.std.proofs.lemmas.Bool.{cases_eq}
 use Rattle.std.proofs.lemmas.List.{length-map}
 use Rattle.ir_core.specs.declared.signatures.Ty.{Ty}
-use Rattle.ir_core.specs.declared.signatures.Sig.{Sig}
 use Rattle.ir_core.specs.Lists.{In, Different, Below, Each}
 use Rattle.ir_core.specs.Module.{Line, Block, Function}
 use Rattle.ir_core.specs.Lookup.{definitions as defined_values, line_definitions, block_numbers}
 use Rattle.name_tables.specs.Words.{place_among}
-use Rattle.ir_core.specs.Size.{total, sig_size, block_size, line_size, size_of}
+use Rattle.ir_core.specs.Size.{total, block_size, line_size, size_of}
 use Rattle.ir_core.specs.Sound.{Counts, counts_of, LineInRange, BlockInRange, instruction_count, IsSmall, IsSound, IsWhole}
 use Rattle.ir_core.specs.WellFormed.{WellFormed}
 use Rattle.ir_core.proofs.Keeping.{length_numbered, types_numbered}
-use Rattle.ir_core.proofs.Members.{in_left, in_right, different_apart}
+use Rattle.ir_core.proofs.Members.{in_left, in_right, different_apart, each_by}
 use Rattle.ir_core.proofs.Wholeness.{whole_of}
+use Rattle.ir_core.proofs.Sizing.{sigs_count, blocks_count}
 use Rattle.token_reader.specs.declared.raw.RawName.{RawName}
 use Rattle.clif_read.specs.declared.raw.RawBlockParam.{RawBlockParam}
 use Rattle.clif_read.specs.declared.raw.RawLine.{RawLine}
@@ -30,7 +30,7 @@ use Rattle.name_tables.specs.Chains.{numbered}
 use Rattle.clif_names.specs.Sizes.{raw_size}
 use Rattle.clif_names.specs.Typing.{IsUntyped}
 use Rattle.clif_meaning.specs.Meaning.{numbers, inst_type, decl_sigs, block_with, lines_with, function_with, value_types, FunctionMeans}
-use Rattle.clif_meaning.proofs.Lists.{each_in, in_flat_in, in_map, numbered_long}
+use Rattle.clif_meaning.proofs.Lists.{in_flat_in, in_map, numbered_long}
 use Rattle.clif_meaning.proofs.OneMeaning.{counts}
 use Rattle.clif_meaning.proofs.SizeLaws.{same_size}
 use Rattle.clif_meaning.proofs.RangeLaws.{WordsInRange, line_in_range}
@@ -129,14 +129,6 @@ own_differ (d ∷ ds) none = by d.target (own_differ ds (no_repeats_behind d.nam
 
 -- ---- sizes
 
-pub sigs_count : (ss : List Sig) → length ss ≤ total sig_size ss
-sigs_count [] = omega arith
-sigs_count (s ∷ ss) = let a = sigs_count ss in omega (arith, a)
-
-pub blocks_count : (bs : List Block) → length bs ≤ total block_size bs
-blocks_count [] = omega arith
-blocks_count (b ∷ bs) = let a = blocks_count bs in omega (arith, a)
-
 lines_count : (ls : List Line) → (length ls ≤ total line_size ls) × (length (line_definitions ls) ≤ total line_size ls)
 lines_count [] = (omega arith, omega arith)
 lines_count (l ∷ ls) = let a = lines_count ls in let p = a.0 in let q = a.1 in (omega (arith, p), omega (arith, q, length-append l.results (line_definitions ls)))
@@ -234,11 +226,11 @@ module _ (raw : RawFunction) (f : Function) (mf : FunctionMeans raw f)
   words_there : (l : RawLine) → In l (lines raw) → WordsInRange n (numbers raw mf.value) l
   unfolding n
   words_there l i = record {
-    values = each_in (λ (u : RawName). mf.value u.number < length f.types) (line_uses Values l) (λ u j. value_there u (line_used Values l i u j));
-    blocks = each_in (λ (u : RawName). place_in (definitions raw Blocks) u.number < length F.blocks) (line_uses Blocks l) (λ u j. block_there u (line_used Blocks l i u j));
-    slots = each_in (λ (u : RawName). place_in (definitions raw Slots) u.number < length F.slots) (line_uses Slots l) (λ u j. slot_there u (line_used Slots l i u j));
-    callees = each_in (λ (u : RawName). place_in (definitions raw Callees) u.number < length F.callees) (line_uses Callees l) (λ u j. callee_there u (line_used Callees l i u j));
-    sigs = each_in (λ (u : RawName). (numbers raw mf.value).sig u.number < length F.sigs) (line_uses Sigs l) (λ u j. sig_there u (line_used Sigs l i u j));
+    values = each_by (λ (u : RawName). mf.value u.number < length f.types) (line_uses Values l) (λ u j. value_there u (line_used Values l i u j));
+    blocks = each_by (λ (u : RawName). place_in (definitions raw Blocks) u.number < length F.blocks) (line_uses Blocks l) (λ u j. block_there u (line_used Blocks l i u j));
+    slots = each_by (λ (u : RawName). place_in (definitions raw Slots) u.number < length F.slots) (line_uses Slots l) (λ u j. slot_there u (line_used Slots l i u j));
+    callees = each_by (λ (u : RawName). place_in (definitions raw Callees) u.number < length F.callees) (line_uses Callees l) (λ u j. callee_there u (line_used Callees l i u j));
+    sigs = each_by (λ (u : RawName). (numbers raw mf.value).sig u.number < length F.sigs) (line_uses Sigs l) (λ u j. sig_there u (line_used Sigs l i u j));
   }
 
   -- a definition of a step of a block is one of the function
@@ -257,7 +249,7 @@ module _ (raw : RawFunction) (f : Function) (mf : FunctionMeans raw f)
   lines_there b i (line.Inst location tags results inst ∷ ls) sub = (
     line_in_range (counts_of F) (numbers raw mf.value) (inst_type raw mf.value f.types inst) location tags results inst
         (words_there (line.Inst location tags results inst) (in_flat_in (λ (x : RawBlock). x.lines) raw.blocks b (line.Inst location tags results inst) i (sub (line.Inst location tags results inst) (inl refl))))
-        (each_in (λ (u : RawName). mf.value u.number < length f.types) results
+        (each_by (λ (u : RawName). mf.value u.number < length f.types) results
         (λ u j. result_there b i (line.Inst location tags results inst) (sub (line.Inst location tags results inst) (inl refl)) (value_def u) (in_map value_def results u j))),
     lines_there b i ls (λ l j. sub l (inr j)),
   )

@@ -1,11 +1,13 @@
 -- Each fault is listed.
 use Rattle.std.proofs.Common.{◌≡◌, ℕ, zero, suc, ◌<◌, ◌≤◌, inl, inr, Bool, true, false, List, [], ◌∷◌, ◌++◌, length, take, drop, ℤ, pos, negsuc, slice_get, Option, None, Some, refl, sym, ap, ◌∙◌, arith, append_assoc}
-use Rattle.std.specs.Prelude.{nat_eq, nat_lt, nat_le, flat_map, ◌&&◌}
+use Rattle.std.specs.Prelude.{nat_eq, nat_lt, nat_le, flat_map}
 use Rattle.std.specs.List.{list_all}
 use Rattle.std.proofs.lemmas.Bool.Decides.{leb_tells, eqb_tells}
 use Rattle.std.proofs.lemmas.List.{append-nil}
+use Rattle.std.proofs.lemmas.Bool.{and_parts}
 use Rattle.ir_core.specs.Lists.{In}
-use Rattle.ir_core.specs.Lookup.{same_bytes}
+use Rattle.ir_core.proofs.Members.{in_left, in_right}
+use Rattle.ir_core.proofs.Equal.{bytes_same}
 use Rattle.clif_read.specs.declared.raw.RawFuncName.{RawFuncName}
 use Rattle.clif_read.specs.declared.raw.RawFuncName.TheVariants as func_name
 use Rattle.clif_lex.specs.declared.faults.TextKind.{TextKind}
@@ -28,15 +30,6 @@ use Rattle.clif_names.specs.Listed
 use Rattle.name_tables.proofs.ChainLaws.{found_at, in_found, one_end}
 
 -- ---- lists
-
-in_left : {A : Type 0} (a : A) (xs ys : List A) → In a xs → In a (xs ++ ys)
-in_left a [] ys h = absurd h
-in_left a (x ∷ xs) ys (inl e) = inl e
-in_left a (x ∷ xs) ys (inr h) = inr (in_left a xs ys h)
-
-in_right : {A : Type 0} (a : A) (xs ys : List A) → In a ys → In a (xs ++ ys)
-in_right a [] ys h = h
-in_right a (x ∷ xs) ys h = inr (in_right a xs ys h)
 
 in_flat : {X A : Type 0} (f : X → List A) (xs : List X) (i : ℕ) (x : X) (a : A) → slice_get xs i ≡ Some x → In a (f x) → In a (flat_map f xs)
 in_flat f [] i x a at h = absurd cc
@@ -164,16 +157,12 @@ in_function f NotAvailable spot h = absurd h
 
 -- ---- among functions
 
-bytes_are : (a : List ℕ) → same_bytes a a ≡ true
-bytes_are [] = refl
-bytes_are (x ∷ xs) = rw (same_number x x refl) (bytes_are xs)
-
 integer_is : (z : ℤ) → Listed.same_integer z z ≡ true
 integer_is (pos n) = same_number n n refl
 integer_is (negsuc n) = same_number n n refl
 
 name_is : (a b : RawFuncName) → SameName a b → Listed.same_name a b ≡ true
-name_is (func_name.Text a s) (func_name.Text b t) h = rw h (bytes_are b)
+name_is (func_name.Text a s) (func_name.Text b t) h = rw h (bytes_same b)
 name_is (func_name.User a i) (func_name.User b j) (h, g) = rw (same_number a.number b.number h, g) (integer_is j.value)
 name_is (func_name.Text a s) (func_name.User b j) h = absurd h
 name_is (func_name.User a i) (func_name.Text b t) h = absurd h
@@ -208,14 +197,10 @@ all_listed raw kind spot (inr (i, f, at, h)) =
 
 -- ---- the first by the list
 
-pub and_both : (a b : Bool) → a && b ≡ true → (a ≡ true) × (b ≡ true)
-and_both true b h = (refl, h)
-and_both false b h = absurd cc
-
 pub all_in : {A : Type 0} (p : A → Bool) (xs : List A) (x : A) → list_all p xs ≡ true → In x xs → p x ≡ true
 all_in p [] x h m = absurd m
-all_in p (y ∷ ys) x h (inl e) = let q = and_both (p y) (list_all p ys) h in rw e q.0
-all_in p (y ∷ ys) x h (inr m) = let q = and_both (p y) (list_all p ys) h in all_in p ys x q.1 m
+all_in p (y ∷ ys) x h (inl e) = let q = and_parts (p y) (list_all p ys) h in rw e q.0
+all_in p (y ∷ ys) x h (inr m) = let q = and_parts (p y) (list_all p ys) h in all_in p ys x q.1 m
 
 before_in : (kind other : TextKind) (spot at : ℕ) (spots : List ℕ) → Listed.none_before kind spot other spots ≡ true → In at spots → Before kind spot other at
 before_in kind other spot at spots h m = elim (leb_tells (rank kind) (rank other)) [

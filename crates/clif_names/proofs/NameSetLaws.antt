@@ -1,5 +1,5 @@
 -- Sets of names, and the first name that an earlier function has.
-use Rattle.std.proofs.Common.{◌≡◌, ℕ, zero, suc, ◌+◌, ◌<◌, ◌≤◌, ◌⊎◌, inl, inr, Bool, true, false, not, List, [], ◌∷◌, ◌++◌, length, take, get_or, slice_get, Option, None, Some, Result, Ok, Err, ℤ, Bor, refl, sym, ap, ◌∙◌, arith}
+use Rattle.std.proofs.Common.{◌≡◌, ℕ, zero, suc, ◌+◌, ◌<◌, ◌≤◌, ◌⊎◌, inl, inr, Bool, true, false, not, List, [], ◌∷◌, ◌++◌, length, take, get_or, slice_get, Option, Some, Result, Ok, Err, ℤ, Bor, refl, sym, ap, ◌∙◌, arith}
 use Rattle.std.specs.Prelude.{nat_eq, if◌then◌else◌, MatchBool, IfOk, OnOk}
 use Rattle.std.specs.Cmp.Lexicographic.{pointwise}
 use Rattle.std.specs.Ordering.{int_eq}
@@ -18,7 +18,7 @@ use Rattle.clif_names.specs.Faults.{SameName, RepeatsName, IsOneTooMany}
 use Rattle.name_tables.specs.Least.{IsLeast, earlier_spot}
 use Rattle.indexmap.specs.IndexSet.{keys}
 use Rattle.clif_names.specs.declared.repeated.NameSet.{NameSet}
-use Rattle.clif_names.specs.NameSets.{Holds, Has, IsEmptySet, AddsName, inserted, same_pair}
+use Rattle.clif_names.specs.NameSets.{Holds, Has, AddsName, inserted, same_pair}
 use Rattle.name_tables.proofs.LeastLaws.{get_push, get_front, get_last, least_add, least_same}
 
 -- ---- keys
@@ -117,16 +117,6 @@ few_here fs f o lt h = least_same (IsOneTooMany fs) (IsOneTooMany (fs ++ f ∷ [
 abbrev pub AreNames : List RawFunction → NameSet → Type 0
 AreNames fs set = (q : RawFuncName) → (Has set q → Earlier fs q) × (Earlier fs q → Has set q)
 
-nothing_held : {K V : Type 0} (value : K → V) (ks : List K) (v : V) → ks ≡ [] → Holds value ks v → ⊥
-nothing_held value ks v e (i, k, at, is) = (let h = rw e at at in cc)
-
-pub no_names_yet : (set : NameSet) → IsEmptySet set → AreNames [] set
-no_names_yet set h q = (none q, λ (j, g, at, same). absurd cc)
-  where
-    none : (q : RawFuncName) → Has set q → Earlier [] q
-    none (func_name.Text bytes spot) has = absurd (nothing_held (λ k. k.now) (keys set.texts) bytes h.texts has)
-    none (func_name.User space number) has = absurd (nothing_held (λ k. k) (keys set.users) (space.number, number.value) h.users has)
-
 names_next : (fs : List RawFunction) (f : RawFunction) (old new : NameSet) → AreNames fs old → AddsName old new f.name → AreNames (fs ++ f ∷ []) new
 names_next fs f old new h add q = (up, down)
   where
@@ -160,12 +150,6 @@ module _ (fs : List RawFunction) (i : ℕ) (f d : RawFunction) (within : i < len
 
   pub few_next : (o : Option ℕ) → i < 65536 → IsLeast (IsOneTooMany (take i fs)) o → IsLeast (IsOneTooMany (take (i + 1) fs)) o
   few_next o lt least = rw (take_more fs i d within, ← is) (few_here (take i fs) f o (omega (arith, long)) least)
-
-pub none_repeated : IsLeast (RepeatsName []) None
-none_repeated = λ s (i, j, f, g, at, is, less, at_j, same). absurd cc
-
-pub none_many : IsLeast (IsOneTooMany []) None
-none_many = λ s (i, f, at, is, le). absurd cc
 
 -- ---- one more name
 

@@ -4,6 +4,7 @@ use Rattle.std.specs.Prelude.{flat_map}
 use Rattle.std.specs.List.{list_all}
 use Rattle.ir_core.specs.Lists.{In}
 use Rattle.ir_core.proofs.Members.{in_right}
+use Rattle.ir_core.proofs.Gets.{in_get}
 use Rattle.clif_lex.specs.declared.faults.TextKind.TheVariants.{Duplicate, Undefined}
 use Rattle.token_reader.specs.declared.raw.RawName.{RawName}
 use Rattle.clif_read.specs.declared.raw.RawFunction.{RawFunction}
@@ -15,7 +16,7 @@ use Rattle.clif_names.specs.FunctionNames.{NoFunctionFault}
 use Rattle.clif_names.specs.Listed as listed
 use Rattle.name_tables.proofs.AliasTargets.{block_targets}
 use Rattle.name_tables.proofs.ChainLaws.{lost_at}
-use Rattle.name_tables.proofs.DefinedWords.{NoRepeats, in_place, look_defined, look_own}
+use Rattle.name_tables.proofs.DefinedWords.{NoRepeats, look_defined, look_own}
 use Rattle.name_tables.proofs.Endings.{never_ends}
 use Rattle.clif_names.proofs.ListedLaws.{chains_number}
 
@@ -29,14 +30,14 @@ module _ (r : RawFunction) (free : NoFunctionFault r) where
 
   no_lost : (x : Def) (m : RawName) → In x (value_defs r) → x.target ≡ Some m → look (value_defs r) m.number ≡ None → ⊥
   no_lost x m i t none =
-      let (j, at) = in_place (uses r Values) m (in_right m (flat_map (decl_uses Values) r.decls) (flat_map (line_uses Values) (lines r)) (block_targets r.blocks x m i t)) in
+      let (j, at) = in_get (uses r Values) m (in_right m (flat_map (decl_uses Values) r.decls) (flat_map (line_uses Values) (lines r)) (block_targets r.blocks x m i t)) in
       free Undefined m.spot (inl (Values, (j, m, at, refl, λ h. (let p = look_defined (value_defs r) m.number h in (let q = sym none ∙ p.1 in cc)))))
 
   pub ends : (d : Def) → In d (value_defs r) → listed.has_end (chain (value_defs r) (length (value_defs r)) d) ≡ true
   ends d i = by (chain (value_defs r) (length (value_defs r)) d) refl
     where
       found : look (value_defs r) d.name.number ≡ Some d
-      found = let p = in_place (value_defs r) d i in look_own (value_defs r) no_repeats p.0 d p.1
+      found = let p = in_get (value_defs r) d i in look_own (value_defs r) no_repeats p.0 d p.1
 
       by : (o : Option Ending) → chain (value_defs r) (length (value_defs r)) d ≡ o → listed.has_end o ≡ true
       by None c = absurd (free Undefined d.name.spot (inr (d.name.number, d, found, refl, never_ends (value_defs r) d.name.number d found c)))

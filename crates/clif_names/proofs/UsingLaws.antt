@@ -46,10 +46,6 @@ abbrev slots_only : List RawName → Kind → List RawName
 slots_only ns Slots = ns
 slots_only ns _ = []
 
-abbrev sigs_only : List RawName → Kind → List RawName
-sigs_only ns Sigs = ns
-sigs_only ns _ = []
-
 abbrev values_only : List RawName → Kind → List RawName
 values_only ns Values = ns
 values_only ns _ = []

@@ -1,10 +1,11 @@
 -- The places of numbers in a list, found from the front on.
-use Rattle.std.proofs.Common.{◌⊎◌, ◌≡◌, ◌≢◌, ℕ, zero, suc, ◌+◌, ◌<◌, List, [], ◌∷◌, ◌++◌, length, take, drop, get_or, set, Bool, true, false, cond, nat_eq, refl, sym, ap, subst, ◌∙◌, inl, inr, arith, eq-eqb, get_or-set_same, get_or-set_other, drop-cons, add-one}
+use Rattle.std.proofs.Common.{◌⊎◌, ◌≡◌, ◌≢◌, ℕ, suc, ◌+◌, ◌<◌, List, [], ◌∷◌, ◌++◌, length, take, drop, get_or, set, Bool, true, false, cond, nat_eq, refl, sym, ap, subst, ◌∙◌, inl, inr, arith, eq-eqb, get_or-set_same, get_or-set_other, drop-cons, add-one}
 use Rattle.std.proofs.lemmas.List.{take_more, take-append-drop, length-take-le}
 use Rattle.std.specs.Prelude.{if◌then◌else◌}
 use Rattle.std.proofs.lemmas.Bool.{eqb-true}
 use Rattle.ir_core.specs.Lists.{In, Different, Below}
 use Rattle.ir_core.specs.Lookup.{number_in}
+use Rattle.ir_core.proofs.Members.{below_at}
 use Rattle.clif_numbers.specs.Placed.{IsEntry, ArePlaces}
 
 -- the place of n, counted from k, and d where n is not there
@@ -45,11 +46,6 @@ new_behind (y ∷ xs) x ys d (inl e) = d.0 (there xs e)
     there [] e = inl (sym e)
     there (z ∷ zs) e = inr (there zs e)
 new_behind (y ∷ xs) x ys d (inr h) = new_behind xs x ys d.1 h
-
-pub below_at : (n : ℕ) (xs : List ℕ) (i : ℕ) → Below n xs → i < length xs → get_or xs i 0 < n
-below_at n [] i h lt = absurd (omega arith)
-below_at n (x ∷ xs) zero h lt = h.0
-below_at n (x ∷ xs) (suc i) h lt = below_at n xs i h.1 (omega arith)
 
 -- the table after one number more
 pub turn : (order places : List ℕ) (bound d i : ℕ) → Different order → Below bound order → length places ≡ bound → i < length order

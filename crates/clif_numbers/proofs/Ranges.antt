@@ -1,22 +1,11 @@
 -- Definitions of a sound function are in range, and not too many.
-use Rattle.std.proofs.Common.{◌≡◌, ℕ, zero, suc, ◌<◌, ◌≤◌, ◌^◌, List, [], ◌∷◌, ◌++◌, Bool, true, false, nat_eq, cond, length, refl, sym, ◌∙◌, inl, inr, arith, eq-eqb}
+use Rattle.std.proofs.Common.{◌≡◌, ℕ, zero, suc, ◌<◌, ◌≤◌, ◌^◌, List, [], ◌∷◌, Bool, true, false, nat_eq, cond, length, refl, sym, ◌∙◌, inl, inr, arith, eq-eqb}
 use Rattle.std.proofs.lemmas.Bool.{eqb-true}
-use Rattle.ir_core.specs.Lists.{In, Different, Below, Each}
-use Rattle.ir_core.specs.Lookup.{definitions, line_definitions}
-use Rattle.ir_core.specs.Module.{Block, Line, Function}
-use Rattle.ir_core.specs.Sound.{Counts, counts_of, LineInRange, BlockInRange, IsSound}
-
-below-append : (n : ℕ) (xs ys : List ℕ) → Below n xs → Below n ys → Below n (xs ++ ys)
-below-append n [] ys h k = k
-below-append n (x ∷ xs) ys h k = (h.0, below-append n xs ys h.1 k)
-
-below_lines : (n : Counts) (ls : List Line) → Each (LineInRange n) ls → Below n.values (line_definitions ls)
-below_lines n [] h = tt
-below_lines n (l ∷ ls) h = below-append n.values l.results (line_definitions ls) h.0.results (below_lines n ls h.1)
-
-pub below_blocks : (n : Counts) (bs : List Block) → Each (BlockInRange n) bs → Below n.values (definitions bs)
-below_blocks n [] h = tt
-below_blocks n (b ∷ bs) h = below-append n.values b.params (line_definitions b.lines ++ definitions bs) h.0.params (below-append n.values (line_definitions b.lines) (definitions bs) (below_lines n b.lines h.0.lines) (below_blocks n bs h.1))
+use Rattle.ir_core.specs.Lists.{In, Different, Below}
+use Rattle.ir_core.specs.Lookup.{definitions}
+use Rattle.ir_core.specs.Module.{Function}
+use Rattle.ir_core.specs.Sound.{IsSound}
+use Rattle.ir_core.proofs.Counting.{defined_bound}
 
 -- without one number
 without : ℕ → List ℕ → List ℕ
@@ -70,9 +59,5 @@ few zero [] d h = omega arith
 few zero (x ∷ xs) d h = absurd (omega (arith, h.0))
 few (suc n) xs d h = omega (arith, length_without n xs, few n (without n xs) (different_without n xs d) (below_without n xs d h))
 
--- no more values are defined than declared
-pub no_more : (f : Function) → IsSound f → length (definitions f.blocks) ≤ length f.types
-no_more f s = few (length f.types) (definitions f.blocks) s.defined_once (below_blocks (counts_of f) f.blocks s.blocks)
-
 pub all_few : (f : Function) → IsSound f → length (definitions f.blocks) < 2 ^ 32
-all_few f s = omega (arith, no_more f s, s.small.values)
+all_few f s = omega (arith, defined_bound f s, s.small.values)

@@ -1,3 +1,2 @@
 pub mod Placed
 pub mod Room
-pub mod Walk

@@ -1,6 +1,6 @@
 //! Lines, blocks and functions.
 ghost use Rattle.std.specs.Prelude.{◌≡◌, ℕ, ◌+◌, ◌<◌, ◌^◌, List, length, map};
-ghost use Rattle.ir_core.specs.Edits.{params_of, lines_of};
+ghost use Rattle.ir_core.specs.Edits.{params_of, lines_of, block_at, blocks_at};
 ghost use Rattle.ir_core.specs.Lists.{In};
 ghost use Rattle.ir_core.specs.Lookup.{block_numbers, definitions, line_definitions};
 ghost use Rattle.ir_text.specs.Numbering.{Numbering, numbering_of};
@@ -11,7 +11,6 @@ ghost use Rattle.ir_text.specs.TextInstructions.{type_text, next_after};
 ghost use Rattle.ir_text.specs.TextDeclarations.{after_declarations};
 ghost use Rattle.ir_core.specs.Viewed.{line_of};
 ghost use Rattle.text_output.specs.Output.{Start, Puts};
-ghost use Rattle.clif_numbers.specs.Walk.{block_at, blocks_at};
 
 use crate::declarations::put_declarations;
 use crate::instructions::put_instruction;

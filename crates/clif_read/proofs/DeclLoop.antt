@@ -1,6 +1,7 @@
 -- The loop over the declarations of a function.
-use Rattle.std.proofs.Common.{◌≡◌, ℕ, zero, suc, ◌≤◌, ◌<◌, true, List, [], ◌∷◌, ◌++◌, length, Ok, Err, refl, sym, ap, ◌∙◌, arith, append_assoc}
+use Rattle.std.proofs.Common.{◌≡◌, ℕ, zero, suc, ◌<◌, true, List, [], ◌∷◌, ◌++◌, length, Ok, Err, refl, sym, ap, ◌∙◌, arith, append_assoc}
 use Rattle.grammar.specs.Rules.{Lexeme, Kind, Syntax, UnknownOpcode, Unsupported, Out, heads, ◌>>=◌}
+use Rattle.grammar.proofs.Sets.{heads_some}
 use Rattle.clif_words.specs.Terminals.{codes_of}
 use Rattle.token_reader.specs.declared.stop.Stop.{Stop}
 use Rattle.token_reader.specs.declared.stop.Stop.TheVariants as stops
@@ -21,10 +22,6 @@ some_decls n ts = each decl_at (codes_of begins_decl) n ts
 abbrev behind : ℕ → List RawDecl × List Lexeme → Out (List RawDecl)
 behind n x = with_front x.0 (some_decls n x.1)
 
-some_left : (cs : List ℕ) (ts : List Lexeme) → heads cs ts ≡ true → 1 ≤ length ts
-some_left cs [] h = absurd cc
-some_left cs (x ∷ xs) h = omega arith
-
 one_more : (before : List RawDecl) (d : RawDecl) (given : Out (List RawDecl)) → with_front before (given >>= λ y. Ok (d ∷ y.0, y.1)) ≡ with_front (before ++ d ∷ []) given
 one_more before d (Ok x) = ap (λ (l : List RawDecl). Ok (l, x.1)) (simp append_assoc)
 one_more before d (Err f) = refl
@@ -37,7 +34,7 @@ pub goes_on : (before now : List RawDecl) (ts after : List Lexeme) (total : Out 
     → heads (codes_of begins_decl) ts ≡ true → adding before (decl_at ts) ≡ Ok (now, after) → length after < length ts
     → KeepsDecls before ts total → KeepsDecls now after total
 unfolding each
-goes_on before now ts after total h e less (zero, le, so_far) = absurd (let k = some_left (codes_of begins_decl) ts h in omega arith)
+goes_on before now ts after total h e less (zero, le, so_far) = absurd (let k = heads_some (codes_of begins_decl) ts h in omega arith)
 goes_on before now ts after total h e less (suc n, le, so_far) =
     let one : with_front before (some_decls (suc n) ts) ≡ with_front now (some_decls n after) = rw h (one_by_one n before (decl_at ts) ∙ ap (λ o. o >>= behind n) e) in
     (n, omega arith, sym one ∙ so_far)
@@ -45,7 +42,7 @@ goes_on before now ts after total h e less (suc n, le, so_far) =
 fails_as : (before : List RawDecl) (ts now : List Lexeme) (k : Kind) (total : Out (List RawDecl))
     → heads (codes_of begins_decl) ts ≡ true → adding before (decl_at ts) ≡ Err (k, now) → KeepsDecls before ts total → total ≡ Err (k, now)
 unfolding each
-fails_as before ts now k total h e (zero, le, so_far) = absurd (let s = some_left (codes_of begins_decl) ts h in omega arith)
+fails_as before ts now k total h e (zero, le, so_far) = absurd (let s = heads_some (codes_of begins_decl) ts h in omega arith)
 fails_as before ts now k total h e (suc n, le, so_far) =
     let one : with_front before (some_decls (suc n) ts) ≡ Err (k, now) = rw h (one_by_one n before (decl_at ts) ∙ ap (λ o. o >>= behind n) e) in
     sym so_far ∙ one

@@ -1,11 +1,12 @@
 -- The attributes of a parameter are those of the letter.
-use Rattle.std.proofs.Common.{◌≡◌, ℕ, ◌+◌, Bool, true, false, not, ◌==◌, cond, List, [], ◌∷◌, ◌++◌, map, Some, None, refl, sym, ap, subst, ◌∙◌, inl, inr, arith}
+use Rattle.std.proofs.Common.{◌≡◌, ◌+◌, Bool, true, false, not, ◌==◌, cond, List, [], ◌∷◌, ◌++◌, map, Some, None, refl, sym, ap, subst, ◌∙◌, inl, inr, arith}
 use Rattle.std.specs.Prelude.{◌⊎◌, count_by}
 use Rattle.std.proofs.lemmas.List.{append-nil}
 use Rattle.std.proofs.lemmas.List.Sums.{sum_by-cons}
 use Rattle.grammar.specs.Rules.{Lexeme, Rule, Opt, Tree, Derives, Begins}
 use Rattle.grammar.proofs.Past.{derives_begins}
 use Rattle.grammar.proofs.Same.{HasTree}
+use Rattle.grammar.proofs.Prefixes.{none_left}
 use Rattle.clif_words.specs.Terminals.{◌then◌, ◌or◌, ext}
 use Rattle.token_reader.specs.Values.{◌otherwise◌, perhaps}
 use Rattle.clif_read.specs.declared.raw.RawAttribute.{RawAttribute}
@@ -14,9 +15,6 @@ use Rattle.clif_read.specs.DeclarationValues.{ext_of, ext_value, purpose_value, 
 use Rattle.clif_read.specs.LetterAttributes.{letter_attributes, letter_value, is_ext, is_purpose, AtMostOne, ByLetter, BeginsByLetter, attributes, ByRule, SameAttributes}
 
 -- ---- counting
-
-is_one : Bool → ℕ
-is_one b = cond b 1 0
 
 count_is : (p : RawAttribute → Bool) (a : RawAttribute) (b : Bool) (xs : List RawAttribute) → p a ≡ b → count_by p (a ∷ xs) ≡ cond b 1 0 + count_by p xs
 count_is p a b xs e = sum_by-cons (λ x. cond (p x) 1 0) a xs ∙ ap (λ (c : Bool). cond c 1 0 + count_by p xs) e
@@ -184,10 +182,6 @@ purpose_one : OneToken purpose
 purpose_one ts (inl x, d) = (x, d.0)
 purpose_one ts (inr x, d) = (x, d.0)
 
-none_before : (ts more : List Lexeme) → ts ++ more ≡ [] → ts ≡ []
-none_before [] more e = refl
-none_before (t ∷ ts) more e = absurd cc
-
 rest_begun : (b : Rule) → OneToken b → (rest more ws : List Lexeme) → rest ++ more ≡ ws → (ws ≡ []) ⊎ HasTree b ws → (rest ≡ []) ⊎ Begins b rest
 rest_begun b one [] more ws e h = inl refl
 rest_begun b one (r ∷ rest) more ws e (inl n) = absurd (let k : r ∷ (rest ++ more) ≡ [] = e ∙ n in cc)
@@ -196,7 +190,7 @@ rest_begun b one (r ∷ rest) more ws e (inr k) =
     let all : r ∷ (rest ++ more) ≡ y.0 ∷ [] = e ∙ y.1 in
     let front : r ≡ y.0 = cc in
     let behind : rest ++ more ≡ [] = cc in
-    let whole : ws ≡ r ∷ rest = y.1 ∙ sym (rw (front, none_before rest more behind) refl) in
+    let whole : ws ≡ r ∷ rest = y.1 ∙ sym (rw (front, none_left rest more behind) refl) in
     inr (subst (Begins b) whole (derives_begins b ws k.0 k.1))
 
 may_be : (b : Rule) (ws : List Lexeme) (w : Tree (Opt b)) → Derives (Opt b) ws w → (ws ≡ []) ⊎ HasTree b ws
@@ -214,7 +208,7 @@ prefix_begun a b one two none (t ∷ ts) more ((v, w), (us, ws, e, (d, m))) =
     inr (t ∷ [], ts, refl, ((v, subst (λ (l : List Lexeme). Derives a l v) same d), rest_begun b two ts more ws behind (may_be b ws w m)))
 
 begun_before : (ts more : List Lexeme) (v : Tree attributes) → Derives attributes (ts ++ more) v → Begins attributes ts
-begun_before ts more None d = inl (none_before ts more d)
+begun_before ts more None d = inl (none_left ts more d)
 begun_before ts more (Some (inl v)) d = inr (inl (prefix_begun ext purpose ext_one purpose_one (inl refl) ts more (v, d)))
 begun_before ts more (Some (inr v)) d = inr (inr (prefix_begun purpose ext purpose_one ext_one (inl (inl refl)) ts more (v, d)))
 

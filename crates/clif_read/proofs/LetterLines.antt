@@ -1,5 +1,5 @@
 -- The lines of a block are those of the EBNF, although the values of a `return` are read behind it, and what begins with a value is one rule.
-use Rattle.std.proofs.Common.{◌≡◌, ℕ, pos, List, [], ◌∷◌, ◌++◌, map, Option, Some, None, refl, sym, ap, ◌∙◌, inl, inr, append_assoc}
+use Rattle.std.proofs.Common.{◌≡◌, ℕ, pos, List, [], ◌∷◌, map, Option, Some, None, refl, sym, ap, ◌∙◌, inl, inr}
 use Rattle.std.specs.Prelude.{◌⊎◌}
 use Rattle.std.proofs.lemmas.List.{append-nil}
 use Rattle.grammar.specs.Rules.{Lexeme, Rule, Opt, Many, Tree, Derives}
@@ -18,12 +18,13 @@ use Rattle.clif_read.specs.declared.raw.RawTag.{RawTag}
 use Rattle.clif_read.specs.declared.raw.RawLine.{RawLine}
 use Rattle.clif_read.specs.declared.raw.RawLine.TheVariants as raw_lines
 use Rattle.clif_read.specs.ModuleGrammar.{debug_tags, made, named, named_or_values, tagged, located, line, line_or_values, lines}
-use Rattle.clif_read.specs.LineValues.{LinePart, Whole, Values, debug_tags_value, values_from, line_value, line_or_values_value, part_value, with_values, lines_from, lines_of_parts, lines_value}
+use Rattle.clif_read.specs.LineValues.{LinePart, Whole, Values, debug_tags_value, values_from, line_value, line_or_values_value, part_value, with_values, lines_value}
 use Rattle.clif_read.specs.LetterLines.{results, letter_line, letter_lines, location, results_value, tags_value, letter_line_value, letter_lines_value}
 use Rattle.clif_read.specs.Alike.{Means, Alike}
 use Rattle.clif_read.proofs.Alike.{alike_same, alike_back, alike_then, alike_map, alt_alike, alt_swap, alt_group, seq_second, seq_group, seq_alt, opt_seq, many_alike}
 use Rattle.clif_read.proofs.Given.{Given, given_same, given_alt, given_seq, given_map, Chaining, part, chained, chain_alike}
 use Rattle.clif_read.proofs.LetterInsts.{c, values, values_value, whole_of, alone_of, inst_given, inst_alike}
+use Rattle.clif_read.proofs.LineLaws.{from_none, add_parts, last_gets}
 
 -- ---- lines in which an instruction has its own values, or values that stand behind it
 
@@ -141,36 +142,6 @@ line_or =
     (or_seq ((arrow then value) or (Many (comma then value) then Opt made)) ((arrow then value) or (Many (comma then value) then made)) (Many (comma then value)) value
     (or_right (Many (comma then value) then Opt made) (Many (comma then value) then made) (Many (comma then value)) (arrow then value) (or_opt (Many (comma then value)) made)))
 
--- lines of which the last has these values
-abbrev to_last : List RawName → List RawLine → List RawLine
-to_last vs [] = []
-to_last vs (y ∷ []) = with_values vs y ∷ []
-to_last vs (y ∷ z ∷ more) = y ∷ to_last vs (z ∷ more)
-
--- lines, and what stands behind them
-abbrev add_part : List RawLine → LinePart → List RawLine
-add_part before (Whole y) = before ++ y ∷ []
-add_part before (Values vs) = to_last vs before
-
-abbrev add_parts : List RawLine → List LinePart → List RawLine
-add_parts before [] = before
-add_parts before (p ∷ ps) = add_parts (add_part before p) ps
-
-last_given : (ys : List RawLine) (y : RawLine) (vs : List RawName) → to_last vs (ys ++ y ∷ []) ≡ ys ++ with_values vs y ∷ []
-last_given [] y vs = refl
-last_given (a ∷ []) y vs = refl
-last_given (a ∷ b ∷ ys) y vs = ap (λ (l : List RawLine). a ∷ l) (last_given (b ∷ ys) y vs)
-
-added_from : (ys : List RawLine) (y : RawLine) (ps : List LinePart) → add_parts (ys ++ y ∷ []) ps ≡ ys ++ lines_from y ps
-added_from ys y [] = refl
-added_from ys y (Whole z ∷ ps) = added_from (ys ++ y ∷ []) z ps ∙ append_assoc ys (y ∷ []) (lines_from z ps)
-added_from ys y (Values vs ∷ ps) = ap (λ (l : List RawLine). add_parts l ps) (last_given ys y vs) ∙ added_from ys (with_values vs y) ps
-
-added : (ps : List LinePart) → add_parts [] ps ≡ lines_of_parts ps
-added [] = refl
-added (Whole y ∷ ps) = added_from [] y ps
-added (Values vs ∷ ps) = added ps
-
 abbrev chaining : Chaining RawLine (List RawName) LinePart
 chaining = record {
   c = c;
@@ -188,7 +159,7 @@ chaining = record {
   joined = add_parts;
   given = line_given;
   offers = record { both = line_or; from_a = line_offered; from_w = values_offered };
-  joins = record { nothing = λ ys. refl; one = λ ys y ps. refl; more = λ ys y z ps. ap (λ (l : List RawLine). add_parts l ps) (last_given ys y z) };
+  joins = record { nothing = λ ys. refl; one = λ ys y ps. refl; more = λ ys y z ps. ap (λ (l : List RawLine). add_parts l ps) (last_gets z ys y) };
   some_a = refl;
   some_w = refl;
   quiet_w = refl;
@@ -210,7 +181,7 @@ parts_seen [] = refl
 parts_seen (v ∷ vs) = rw (part_seen v, parts_seen vs) refl
 
 own_lines : Alike (Many (line_of own)) lines (map (line_by own)) lines_value
-own_lines = alike_then (chain_alike chaining) (alike_same lines (chained chaining) lines_value (λ vs. ap (add_parts []) (parts_seen vs) ∙ added (map part_value vs)))
+own_lines = alike_then (chain_alike chaining) (alike_same lines (chained chaining) lines_value (λ vs. ap (add_parts []) (parts_seen vs) ∙ from_none (map part_value vs)))
 
 -- ---- a line by the letter
 

@@ -146,7 +146,7 @@ return_ends after_return ts x e =
     go us (inr v) d = line_or_values_ends.so us v d.1 after_return
 
 -- what is read behind some lines
-abbrev add_parts : List RawLine → List LinePart → List RawLine
+abbrev pub add_parts : List RawLine → List LinePart → List RawLine
 add_parts before [] = before
 add_parts before (p ∷ ps) = add_parts (add_part before p) ps
 
@@ -197,17 +197,17 @@ turns_are (suc n) before after_return ts =
     go turns false = refl
 
 -- lines that grow at their end are lines, each with what stands behind it
-last_gets : (values : List RawName) (front : List RawLine) (l : RawLine) → to_last values (front ++ l ∷ []) ≡ front ++ with_values values l ∷ []
+pub last_gets : (values : List RawName) (front : List RawLine) (l : RawLine) → to_last values (front ++ l ∷ []) ≡ front ++ with_values values l ∷ []
 last_gets values [] l = refl
 last_gets values (a ∷ []) l = refl
 last_gets values (a ∷ b ∷ front) l = ap (λ ls. a ∷ ls) (last_gets values (b ∷ front) l)
 
-from_last : (front : List RawLine) (l : RawLine) (parts : List LinePart) → add_parts (front ++ l ∷ []) parts ≡ front ++ lines_from l parts
+pub from_last : (front : List RawLine) (l : RawLine) (parts : List LinePart) → add_parts (front ++ l ∷ []) parts ≡ front ++ lines_from l parts
 from_last front l [] = refl
 from_last front l (Whole next ∷ parts) = from_last (front ++ l ∷ []) next parts ∙ append_assoc front (l ∷ []) (lines_from next parts)
 from_last front l (Values values ∷ parts) = ap (λ ls. add_parts ls parts) (last_gets values front l) ∙ from_last front (with_values values l) parts
 
-from_none : (parts : List LinePart) → add_parts [] parts ≡ lines_of_parts parts
+pub from_none : (parts : List LinePart) → add_parts [] parts ≡ lines_of_parts parts
 from_none [] = refl
 from_none (Whole l ∷ parts) = from_last [] l parts
 from_none (Values values ∷ parts) = from_none parts

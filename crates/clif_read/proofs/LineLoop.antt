@@ -1,6 +1,7 @@
 -- The loop over the lines of a block.
 use Rattle.std.proofs.Common.{◌≡◌, ℕ, zero, suc, ◌+◌, ◌≤◌, ◌<◌, Bool, true, false, List, [], ◌∷◌, length, Ok, Err, slice_index_or, slice_set, ap, sym, ◌∙◌, arith, refl}
 use Rattle.grammar.specs.Rules.{Lexeme, Kind, Syntax, UnknownOpcode, Unsupported, Out, heads, firsts, ◌>>=◌}
+use Rattle.grammar.proofs.Sets.{heads_some}
 use Rattle.token_reader.specs.declared.stop.Stop.{Stop}
 use Rattle.token_reader.specs.declared.stop.Stop.TheVariants as stops
 use Rattle.token_reader.specs.Reading.{Stops}
@@ -14,10 +15,6 @@ use Rattle.clif_read.specs.Lines.{line_at, is_return, to_last, add_part, adding,
 abbrev pub KeepsLines : List RawLine → Bool → List Lexeme → Out (List RawLine) → Type 0
 KeepsLines before after_return ts total = (n : ℕ) × (length ts ≤ n) × (more_lines_at n before after_return ts ≡ total)
 
-some_left : (cs : List ℕ) (ts : List Lexeme) → heads cs ts ≡ true → 1 ≤ length ts
-some_left cs [] h = absurd cc
-some_left cs (x ∷ xs) h = omega arith
-
 -- the lines behind a part
 abbrev behind : ℕ → (List RawLine × Bool) × List Lexeme → Out (List RawLine)
 behind n x = more_lines_at n x.0.0 x.0.1 x.1
@@ -30,7 +27,7 @@ pub goes_on : (before now : List RawLine) (after_return next : Bool) (ts after :
     → heads (firsts line) ts ≡ true → adding before (line_at after_return ts) ≡ Ok ((now, next), after) → length after < length ts
     → KeepsLines before after_return ts total → KeepsLines now next after total
 unfolding more_lines_at
-goes_on before now after_return next ts after total h e less (zero, le, so_far) = absurd (let k = some_left (firsts line) ts h in omega arith)
+goes_on before now after_return next ts after total h e less (zero, le, so_far) = absurd (let k = heads_some (firsts line) ts h in omega arith)
 goes_on before now after_return next ts after total h e less (suc n, le, so_far) =
     let one : more_lines_at (suc n) before after_return ts ≡ more_lines_at n now next after = rw h (one_by_one n before (line_at after_return ts) ∙ ap (λ o. o >>= behind n) e) in
     (n, omega arith, sym one ∙ so_far)
@@ -38,7 +35,7 @@ goes_on before now after_return next ts after total h e less (suc n, le, so_far)
 fails_as : (before : List RawLine) (after_return : Bool) (ts now : List Lexeme) (k : Kind) (total : Out (List RawLine))
     → heads (firsts line) ts ≡ true → adding before (line_at after_return ts) ≡ Err (k, now) → KeepsLines before after_return ts total → total ≡ Err (k, now)
 unfolding more_lines_at
-fails_as before after_return ts now k total h e (zero, le, so_far) = absurd (let s = some_left (firsts line) ts h in omega arith)
+fails_as before after_return ts now k total h e (zero, le, so_far) = absurd (let s = heads_some (firsts line) ts h in omega arith)
 fails_as before after_return ts now k total h e (suc n, le, so_far) =
     let one : more_lines_at (suc n) before after_return ts ≡ Err (k, now) = rw h (one_by_one n before (line_at after_return ts) ∙ ap (λ o. o >>= behind n) e) in
     sym so_far ∙ one

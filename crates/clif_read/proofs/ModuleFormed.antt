@@ -4,6 +4,7 @@ use Rattle.std.specs.Prelude.{◌⊎◌}
 use Rattle.grammar.specs.Rules.{Lexeme, Rule, Opt, Many, Tree, Derives, Links, ByFlag, ends}
 use Rattle.grammar.specs.Rules as rules
 use Rattle.ir_core.specs.Lists.{Each}
+use Rattle.ir_core.proofs.Members.{each_left, each_right}
 use Rattle.clif_words.specs.declared.class.Class as words
 use Rattle.clif_words.specs.declared.class.Class.TheVariants as classes
 use Rattle.clif_words.specs.Terminals.{◌then◌, comma, colon, equals, value, srcloc, block, cold, header, function_word, left_brace, right_brace}
@@ -20,7 +21,7 @@ use Rattle.token_reader.specs.Reading.{name}
 use Rattle.token_reader.specs.Values.{commas_value}
 use Rattle.clif_insts.specs.InstValues.{raw, inst_value}
 use Rattle.clif_insts.specs.OfForm.{IsOfForm, InstFormed}
-use Rattle.clif_insts.proofs.Formed.{Formed, each_front, each_behind, then_formed, or_formed, also_formed, inst_formed}
+use Rattle.clif_insts.proofs.Formed.{Formed, then_formed, or_formed, also_formed, inst_formed}
 use Rattle.clif_insts.proofs.Marked.{marks_formed}
 use Rattle.clif_read.specs.declared.raw.RawTag.{RawTag}
 use Rattle.clif_read.specs.declared.raw.RawLine.{RawLine}
@@ -134,10 +135,10 @@ behind_return len vs rest (Values values) after ts l formed is part tells tokens
 
 module _ (len : ℕ) (us rest ts : List Lexeme) (cut : ts ≡ us ++ rest) (tokens : Each (IsTextToken len) ts) where
   front_tokens : Each (IsTextToken len) us
-  front_tokens = each_front (IsTextToken len) us rest (subst (Each (IsTextToken len)) cut tokens)
+  front_tokens = each_left (IsTextToken len) us rest (subst (Each (IsTextToken len)) cut tokens)
 
   rest_tokens : Each (IsTextToken len) rest
-  rest_tokens = each_behind (IsTextToken len) us rest (subst (Each (IsTextToken len)) cut tokens)
+  rest_tokens = each_right (IsTextToken len) us rest (subst (Each (IsTextToken len)) cut tokens)
 
 from_formed : (len : ℕ) (vs : List Part) → FromFormed len vs
 from_formed len [] after ts l formed is tokens d = (formed, tt)

@@ -2,6 +2,7 @@
 use Rattle.std.proofs.Common.{◌≡◌, ℕ, ◌≤◌, List, [], ◌∷◌, length, Result, Ok, Err, IfOk, IfErr, refl, sym, subst, inl, inr, arith}
 use Rattle.grammar.specs.Rules.{Lexeme, Kind}
 use Rattle.ir_core.specs.Lists.{Each}
+use Rattle.ir_core.proofs.Members.{each_right}
 use Rattle.clif_lex.specs.declared.spans.Token.{Token}
 use Rattle.clif_lex.specs.declared.faults.LexErr.{LexErr}
 use Rattle.clif_lex.specs.declared.faults.LexErr.TheVariants as lex
@@ -16,7 +17,6 @@ use Rattle.clif_words.specs.Lexemes.{lexemes}
 use Rattle.clif_words.specs.TextTokens.{IsTextToken}
 use Rattle.clif_words.proofs.TextTokens.{text_tokens}
 use Rattle.token_reader.specs.Next.{spot_or}
-use Rattle.clif_insts.proofs.Formed.{each_behind}
 use Rattle.clif_read.specs.declared.raw.RawModule.{RawModule}
 use Rattle.clif_read.specs.Formed.{IsFormed}
 use Rattle.clif_read.specs.Texts.{IsModule, Broken, Stopped}
@@ -29,7 +29,7 @@ spot_within len (x ∷ rest) tokens = let inside = tokens.0.inside in omega arit
 
 broken_within : (len : ℕ) (ts : List Lexeme) (kind : Kind) (spot : ℕ) → Each (IsTextToken len) ts → Broken ts len kind spot → spot ≤ len
 broken_within len ts kind spot tokens (none, (us, rest, cut, (begins, stops, at))) =
-    subst (λ (n : ℕ). n ≤ len) (sym at) (spot_within len rest (each_behind (IsTextToken len) us rest (subst (Each (IsTextToken len)) cut tokens)))
+    subst (λ (n : ℕ). n ≤ len) (sym at) (spot_within len rest (each_right (IsTextToken len) us rest (subst (Each (IsTextToken len)) cut tokens)))
 
 stop_within : (len : ℕ) (ts : List Lexeme) (e : TextErr) → Each (IsTextToken len) ts → Stopped ts len e → StandsWithin len e
 stop_within len ts (errors.Fault kinds.Syntax spot) tokens h = broken_within len ts _ spot tokens h

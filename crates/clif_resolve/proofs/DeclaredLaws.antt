@@ -3,6 +3,7 @@ use Rattle.std.proofs.Common.{◌≡◌, ℕ, ◌+◌, ◌-◌, ◌<◌, ◌^◌
 use Rattle.std.specs.Prelude.{flat_map}
 use Rattle.std.specs.List.{enumerate_from}
 use Rattle.std.proofs.Math.Numerals.{add-one}
+use Rattle.std.proofs.lemmas.List.{map-append}
 use Rattle.ir_core.specs.declared.declarations.Callee.{Callee}
 use Rattle.ir_core.specs.declared.declarations.SlotDecl.{SlotDecl}
 use Rattle.ir_core.specs.declared.names.FuncName.{FuncName}
@@ -10,7 +11,6 @@ use Rattle.ir_core.specs.declared.signatures.Sig.{Sig}
 use Rattle.ir_core.specs.declared.signatures.Ty.{Ty}
 use Rattle.ir_core.specs.Module.{Function}
 use Rattle.ir_core.proofs.Keeping.{length_numbered}
-use Rattle.ir_core.proofs.Ranges.{map_append}
 use Rattle.ir_semantics.specs.Renaming.{Renaming}
 use Rattle.clif_read.specs.declared.raw.RawBlock.{RawBlock}
 use Rattle.clif_read.specs.declared.raw.RawFunction.{RawFunction}
@@ -71,7 +71,7 @@ block_added start f g bs i b at n is numbered next =
         ap (λ n. map empty_block (enumerate_from 0 (take n bs))) (add-one i)
         ∙ ap (λ xs. map empty_block (enumerate_from 0 xs)) (parted_next bs i b at)
         ∙ ap (map empty_block) (enumerate_begun (take i bs) (b ∷ []))
-        ∙ map_append empty_block (enumerate_from 0 (take i bs)) (enumerate_from (length (take i bs)) (b ∷ []))
+        ∙ map-append empty_block (enumerate_from 0 (take i bs)) (enumerate_from (length (take i bs)) (b ∷ []))
         ∙ ap (λ n. map empty_block (enumerate_from 0 (take i bs)) ++ record { number = n; params = []; lines = [] } ∷ []) (parted_long bs i b at)
 
 -- ---- values and empty blocks

@@ -3,10 +3,9 @@ use Rattle.std.proofs.Common.{◌≡◌, ℕ, suc, ◌+◌, ◌<◌, ◌≤◌, 
 use Rattle.std.specs.Prelude.{flat_map}
 use Rattle.std.proofs.Math.Nat.{zero-add}
 use Rattle.std.proofs.lemmas.Grind.{flat_map-append}
-use Rattle.std.proofs.lemmas.List.{take_more, take-append-drop}
+use Rattle.std.proofs.lemmas.List.{take_more, take-append-drop, map-append}
 use Rattle.ir_core.specs.declared.signatures.Sig.{Sig}
 use Rattle.ir_core.specs.Size.{total}
-use Rattle.ir_core.proofs.Ranges.{map_append}
 use Rattle.token_reader.specs.declared.raw.RawName.{RawName}
 use Rattle.clif_read.specs.declared.raw.RawCalleeSig.TheVariants as callee_sig
 use Rattle.clif_read.specs.declared.raw.RawDecl.{RawDecl}
@@ -64,7 +63,7 @@ part_short g xs i =
 
 pub sigs_whole : (ds : List RawDecl) → flat_map own_sigs ds ≡ map (λ s. s.1) (flat_map decl_sigs ds)
 sigs_whole [] = refl
-sigs_whole (d ∷ ds) = ap (λ gs. own_sigs d ++ gs) (sigs_whole ds) ∙ sym (map_append (λ (s : Option RawName × Sig). s.1) (decl_sigs d) (flat_map decl_sigs ds))
+sigs_whole (d ∷ ds) = ap (λ gs. own_sigs d ++ gs) (sigs_whole ds) ∙ sym (map-append (λ (s : Option RawName × Sig). s.1) (decl_sigs d) (flat_map decl_sigs ds))
 
 pub slots_count : (ds : List RawDecl) → length (flat_map decl_slots ds) ≤ total decl_size ds
 slots_count [] = omega arith

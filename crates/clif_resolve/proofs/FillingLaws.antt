@@ -5,7 +5,7 @@ use Rattle.std.specs.List.{enumerate_from}
 use Rattle.std.proofs.Math.Numerals.{add-one}
 use Rattle.std.proofs.Math.Seq.{drop-length, take-length}
 use Rattle.std.proofs.lemmas.Grind.{flat_map-append}
-use Rattle.std.proofs.lemmas.List.{append-nil}
+use Rattle.std.proofs.lemmas.List.{append-nil, map-append}
 use Rattle.ir_core.specs.declared.signatures.Ty.{Ty}
 use Rattle.ir_core.specs.Edits.{at_block, put_line, put_param}
 use Rattle.ir_core.specs.Lists.{In, Different, Each, Below}
@@ -13,7 +13,6 @@ use Rattle.ir_core.specs.Lookup.{block_numbers, definitions, line_definitions, t
 use Rattle.ir_core.specs.Module.{Block, Function, Line}
 use Rattle.ir_core.specs.Sound.{BlockInRange, CanAdd, LineInRange, counts_of, instruction_count}
 use Rattle.ir_core.proofs.Members.{each_right}
-use Rattle.ir_core.proofs.Ranges.{map_append}
 use Rattle.ir_core.proofs.Splitting.{block_definitions}
 use Rattle.ir_semantics.specs.Renaming.{Renaming}
 use Rattle.clif_insts.specs.declared.raw.RawInst.{RawInst}
@@ -119,7 +118,7 @@ module _ (raw : RawFunction) (at : Renaming) where
         ap (λ n. map with_block (enumerate_from 0 (take n raw.blocks))) (add-one place)
         ∙ ap (λ bs. map with_block (enumerate_from 0 bs)) (parted_next raw.blocks place b got)
         ∙ ap (map with_block) (enumerate_begun (take place raw.blocks) (b ∷ []))
-        ∙ map_append with_block (enumerate_from 0 (take place raw.blocks)) (enumerate_from (length (take place raw.blocks)) (b ∷ []))
+        ∙ map-append with_block (enumerate_from 0 (take place raw.blocks)) (enumerate_from (length (take place raw.blocks)) (b ∷ []))
         ∙ ap (λ n. done ++ with_block (n, b) ∷ []) (parted_long raw.blocks place b got)
 
     pub opened_ends : opened raw at place (length b.params) (length b.lines) ≡ filled raw at (place + 1)
@@ -137,7 +136,7 @@ module _ (raw : RawFunction) (at : Renaming) where
     all_blocks =
         ap (λ bs. map with_block (enumerate_from 0 bs)) (parted raw.blocks place b got)
         ∙ ap (map with_block) (enumerate_begun (take place raw.blocks) (b ∷ drop (suc place) raw.blocks))
-        ∙ map_append with_block (enumerate_from 0 (take place raw.blocks)) (enumerate_from (length (take place raw.blocks)) (b ∷ drop (suc place) raw.blocks))
+        ∙ map-append with_block (enumerate_from 0 (take place raw.blocks)) (enumerate_from (length (take place raw.blocks)) (b ∷ drop (suc place) raw.blocks))
         ∙ ap (λ n. done ++ map with_block (enumerate_from n (b ∷ drop (suc place) raw.blocks))) (parted_long raw.blocks place b got)
         ∙ ap (λ n. done ++ whole ∷ map with_block (enumerate_from n (drop (suc place) raw.blocks))) (add-one place)
 
@@ -199,10 +198,10 @@ module _ (raw : RawFunction) (at : Renaming) where
         number p = at.value p.value.number
 
         params_next : map number (take (i + 1) b.params) ≡ map number (take i b.params) ++ number p ∷ []
-        params_next = ap (λ n. map number (take n b.params)) (add-one i) ∙ ap (map number) (parted_next b.params i p here) ∙ map_append number (take i b.params) (p ∷ [])
+        params_next = ap (λ n. map number (take n b.params)) (add-one i) ∙ ap (map number) (parted_next b.params i p here) ∙ map-append number (take i b.params) (p ∷ [])
 
         params_whole : whole.params ≡ map number (take i b.params) ++ number p ∷ map number (drop (suc i) b.params)
-        params_whole = ap (map number) (parted b.params i p here) ∙ map_append number (take i b.params) (p ∷ drop (suc i) b.params)
+        params_whole = ap (map number) (parted b.params i p here) ∙ map-append number (take i b.params) (p ∷ drop (suc i) b.params)
 
         pub param_step : record (meant raw at) { blocks = at_block place (put_param (number p)) (opened raw at place i 0).blocks } ≡ opened raw at place (i + 1) 0
         param_step =

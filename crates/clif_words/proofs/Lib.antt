@@ -1,9 +1,10 @@
 mod Decimals
 pub mod Tags
 pub mod Printed
-mod Places
+pub mod Places
 mod Values
 pub mod TextTokens
 pub mod Codes
 pub mod OpcodePlaces
 pub mod OpcodesOf
+pub mod Joined

@@ -3,22 +3,17 @@ use Rattle.std.proofs.Common.{◌≡◌, ℕ, zero, suc, ◌+◌, ◌*◌, ◌-�
 use Rattle.std.proofs.Math.Numerals.{add-one}
 use Rattle.std.specs.List.{list_all}
 use Rattle.std.specs.Str.{bytes_eq}
-use Rattle.std.proofs.lemmas.Bool.{lt-ltb, ltb-true}
+use Rattle.std.proofs.lemmas.Bool.{lt-ltb, ltb-true, and_parts}
 use Rattle.std.proofs.lemmas.Slice.Eq.{bytes_eq-Decides}
 use Rattle.clif_words.specs.declared.words.TheConstants.{PLACES, SHIFTS}
 use Rattle.clif_words.specs.Table.{Row, all_words}
 use Rattle.clif_words.specs.Words.{Meaning, look_up, means}
 
-pub both : (a b : Bool) → (a && b) ≡ true → (a ≡ true) × (b ≡ true)
-both true true e = (refl, refl)
-both true false e = absurd cc
-both false b e = absurd cc
-
 -- no row has a word that passes a test which the table's words fail
 pub look_up-none : (test : List ℕ → Bool) (table : List Row) (word : List ℕ) → list_all (λ (row : Row). not (test row.word)) table ≡ true → test word ≡ true → look_up table word ≡ None
 look_up-none test [] word fail pass = refl
 look_up-none test (row ∷ rest) word fail pass =
-    let two = both (not (test row.word)) (list_all (λ (row : Row). not (test row.word)) rest) fail in
+    let two = and_parts (not (test row.word)) (list_all (λ (row : Row). not (test row.word)) rest) fail in
     go (bytes_eq row.word word) refl two.0 (look_up-none test rest word two.1 pass)
   where
     go : (b : Bool) → bytes_eq row.word word ≡ b → not (test row.word) ≡ true → look_up rest word ≡ None → look_up (row ∷ rest) word ≡ None
@@ -34,7 +29,7 @@ module _ (number : List ℕ → ℕ) (word : List ℕ) where
   near : (other : List ℕ) (n : ℕ) → bytes_eq other word ≡ true → (nat_lt (number other) (n + 1) && nat_lt n (number other + 2)) ≡ true → (number word < n + 1) × (n < number word + 2)
   near other n same at =
       let e : number other ≡ number word = ap number ((bytes_eq-Decides other word).0 same) in
-      let two = both (nat_lt (number other) (n + 1)) (nat_lt n (number other + 2)) at in
+      let two = and_parts (nat_lt (number other) (n + 1)) (nat_lt n (number other + 2)) at in
       let low = ltb-true (number other) (n + 1) two.0 in
       let high = ltb-true n (number other + 2) two.1 in
       (omega arith, omega arith)
@@ -42,7 +37,7 @@ module _ (number : List ℕ → ℕ) (word : List ℕ) where
   look_up-past : (n : ℕ) (table : List Row) → placed number n table ≡ true → number word + 2 ≤ n → look_up table word ≡ None
   look_up-past n [] all past = refl
   look_up-past n (row ∷ rest) all past =
-      let two = both (nat_lt (number row.word) (n + 1) && nat_lt n (number row.word + 2)) (placed number (n + 1) rest) all in
+      let two = and_parts (nat_lt (number row.word) (n + 1) && nat_lt n (number row.word + 2)) (placed number (n + 1) rest) all in
       go (bytes_eq row.word word) refl two.0 (look_up-past (n + 1) rest two.1 (omega arith))
     where
       go : (b : Bool) → bytes_eq row.word word ≡ b → (nat_lt (number row.word) (n + 1) && nat_lt n (number row.word + 2)) ≡ true → look_up rest word ≡ None → look_up (row ∷ rest) word ≡ None
@@ -52,7 +47,7 @@ module _ (number : List ℕ → ℕ) (word : List ℕ) where
   look_up-behind : (n : ℕ) (table : List Row) → placed number n table ≡ true → n ≡ number word + 1 → look_up table word ≡ look_up (take 1 table) word
   look_up-behind n [] all at = refl
   look_up-behind n (row ∷ rest) all at =
-      let two = both (nat_lt (number row.word) (n + 1) && nat_lt n (number row.word + 2)) (placed number (n + 1) rest) all in
+      let two = and_parts (nat_lt (number row.word) (n + 1) && nat_lt n (number row.word + 2)) (placed number (n + 1) rest) all in
       go (bytes_eq row.word word) refl (look_up-past (n + 1) rest two.1 (omega arith))
     where
       go : (b : Bool) → bytes_eq row.word word ≡ b → look_up rest word ≡ None → look_up (row ∷ rest) word ≡ look_up (row ∷ []) word
@@ -63,14 +58,14 @@ module _ (number : List ℕ → ℕ) (word : List ℕ) where
   look_up-there n zero [] all at = refl
   look_up-there n (suc k) [] all at = refl
   look_up-there n zero (row ∷ rest) all at =
-      let two = both (nat_lt (number row.word) (n + 1) && nat_lt n (number row.word + 2)) (placed number (n + 1) rest) all in
+      let two = and_parts (nat_lt (number row.word) (n + 1) && nat_lt n (number row.word + 2)) (placed number (n + 1) rest) all in
       go (bytes_eq row.word word) refl (look_up-behind (n + 1) rest two.1 (omega arith))
     where
       go : (b : Bool) → bytes_eq row.word word ≡ b → look_up rest word ≡ look_up (take 1 rest) word → look_up (row ∷ rest) word ≡ look_up (row ∷ take 1 rest) word
       go true same ih = rw same refl
       go false other ih = rw other ih
   look_up-there n (suc k) (row ∷ rest) all at =
-      let two = both (nat_lt (number row.word) (n + 1) && nat_lt n (number row.word + 2)) (placed number (n + 1) rest) all in
+      let two = and_parts (nat_lt (number row.word) (n + 1) && nat_lt n (number row.word + 2)) (placed number (n + 1) rest) all in
       go (bytes_eq row.word word) refl two.0 (look_up-there (n + 1) k rest two.1 (omega arith))
     where
       go : (b : Bool) → bytes_eq row.word word ≡ b → (nat_lt (number row.word) (n + 1) && nat_lt n (number row.word + 2)) ≡ true → look_up rest word ≡ look_up (take 2 (drop k rest)) word
@@ -96,8 +91,8 @@ look_up-placed word = look_up-there (λ word. number_at (sum_of word)) word 0 (n
 -- a test that each element passes, and what stands in for one past the end
 test_at : (test : ℕ → Bool) (xs : List ℕ) (i d : ℕ) → list_all test xs ≡ true → test d ≡ true → test (get_or xs i d) ≡ true
 test_at test [] i d all past = past
-test_at test (x ∷ xs) zero d all past = (both (test x) (list_all test xs) all).0
-test_at test (x ∷ xs) (suc i) d all past = test_at test xs i d (both (test x) (list_all test xs) all).1 past
+test_at test (x ∷ xs) zero d all past = (and_parts (test x) (list_all test xs) all).0
+test_at test (x ∷ xs) (suc i) d all past = test_at test xs i d (and_parts (test x) (list_all test xs) all).1 past
 
 pub number_at-below : (sum : ℕ) → number_at sum < 202
 number_at-below sum = ltb-true (number_at sum) 202 (test_at (λ number. nat_lt number 202) PLACES ((sum / 64 + get_or SHIFTS (sum % 64) 0) % 256) 0 refl refl)

@@ -141,9 +141,6 @@ front o p text e h = (drop (length (word p)) text, h ∙ ap (λ (q : Opcode). wo
 begins : (o : Opcode) (w text rest : List ℕ) → w ≡ word o → text ≡ w ++ rest → Front text o
 begins o w text rest e h = (rest, h ∙ ap (λ (l : List ℕ). l ++ rest) e)
 
-sized : (o : Opcode) (stem number rest : List ℕ) → stem ++ number ≡ word o → Front ((stem ++ number) ++ rest) o
-sized o stem number rest e = begins o (stem ++ number) ((stem ++ number) ++ rest) rest e refl
-
 pub printed_word : (i : Instruction) → BeginsWithWord i
 printed_word (insts.Plain insts.Nop) o e n s = front o opcodes.Nop _ e refl
 printed_word (insts.Plain (insts.Const d)) o e n s = front o opcodes.Iconst _ e refl

@@ -2,7 +2,7 @@
 use Rattle.std.proofs.Common.{◌≡◌, ◌≢◌, ℕ, zero, suc, ◌+◌, ◌-◌, ◌==◌, ◌^◌, ◌<◌, ◌≤◌, Bool, true, false, not, ◌&&◌, ◌||◌, cond, nat_lt, List, [], ◌∷◌, ◌++◌, length, map, drop, Option, Some, None, Ok, refl, sym, subst, ◌∙◌, arith}
 use Rattle.std.specs.List.{list_all}
 use Rattle.std.specs.Str.{bytes_eq}
-use Rattle.std.proofs.lemmas.Bool.{ltb-true, eqb-true, eq-eqb}
+use Rattle.std.proofs.lemmas.Bool.{ltb-true, eqb-true, eq-eqb, and_parts, not-true}
 use Rattle.grammar.specs.Rules.{Lexeme}
 use Rattle.ir_core.specs.Lists.{Each}
 use Rattle.clif_lex.specs.declared.spans.TokenKind.{TokenKind}
@@ -24,7 +24,6 @@ use Rattle.clif_words.specs.Table.{Row, all_words}
 use Rattle.clif_words.specs.Words.{Meaning, look_up, means, stems, is_refused, is_lanes, is_plain, stem, digits, digits_len, decimal_after, entity_number, of_stem, or_numbered, numbered_meaning, word_meaning}
 use Rattle.clif_words.specs.Lexemes.{mark_class, number_class, meaning_of, amount_of, name_of, lexeme, is_comment, lexemes}
 use Rattle.clif_words.specs.TextTokens.{is_form, IsTextToken, RiseFrom, AreTextTokens}
-use Rattle.clif_words.proofs.Places.{both}
 
 -- ---- words
 
@@ -41,14 +40,10 @@ record IsKnown (m : Meaning) : Type 0 where
   pub named : (code m.class == 1) ≡ false
   pub opcode : is_form (code m.class) ≡ true → code (form (opcode_of m.number)) ≡ code m.class
 
-not_true : (b : Bool) → not b ≡ true → b ≡ false
-not_true false e = refl
-not_true true e = absurd cc
-
 plain_known : (class : Class) (number : ℕ) → number < 2 ^ 64 → is_plain_class class ≡ true → IsKnown (means class number)
 plain_known class number small plain =
-    let two = both (not (is_form (code class))) (not (code class == 1)) plain in
-    record { number = small; named = not_true (code class == 1) two.1; opcode = λ e. absurd (no (is_form (code class)) e two.0) }
+    let two = and_parts (not (is_form (code class))) (not (code class == 1)) plain in
+    record { number = small; named = not-true (code class == 1) two.1; opcode = λ e. absurd (no (is_form (code class)) e two.0) }
   where
     no : (b : Bool) → b ≡ true → not b ≡ true → ⊥
     no true e f = absurd cc
@@ -56,8 +51,8 @@ plain_known class number small plain =
 
 right_known : (class : Class) (number : ℕ) → number < 2 ^ 64 → is_right class number ≡ true → IsKnown (means class number)
 right_known class number small right =
-    let two = both (not (code class == 1)) (not (is_form (code class)) || (code (form (opcode_of number)) == code class)) right in
-    record { number = small; named = not_true (code class == 1) two.0; opcode = λ e. eqb-true (code (form (opcode_of number))) (code class) (yes (is_form (code class)) (code (form (opcode_of number)) == code class) e two.1) }
+    let two = and_parts (not (code class == 1)) (not (is_form (code class)) || (code (form (opcode_of number)) == code class)) right in
+    record { number = small; named = not-true (code class == 1) two.0; opcode = λ e. eqb-true (code (form (opcode_of number))) (code class) (yes (is_form (code class)) (code (form (opcode_of number)) == code class) e two.1) }
   where
     yes : (b c : Bool) → b ≡ true → (not b || c) ≡ true → c ≡ true
     yes true c e f = f
@@ -68,7 +63,7 @@ found_row : (test : Row → Bool) (table : List Row) (word : List ℕ) (m : Mean
     → (row : Row) × (test row ≡ true) × (means row.class row.number ≡ m)
 found_row test [] word m all e = absurd cc
 found_row test (row ∷ rest) word m all e =
-    let two = both (test row) (list_all test rest) all in
+    let two = and_parts (test row) (list_all test rest) all in
     go (bytes_eq row.word word) two.0 (found_row test rest word m two.1) e
   where
     go : (b : Bool) → test row ≡ true → (look_up rest word ≡ Some m → (row : Row) × (test row ≡ true) × (means row.class row.number ≡ m))
@@ -125,7 +120,7 @@ word_known word = go (look_up all_words word) refl
     go : (o : Option Meaning) → look_up all_words word ≡ o → IsKnown (or_numbered word o)
     go (Some m) e =
         let found = found_row right_row all_words word m all_right e in
-        let two = both (nat_lt found.0.number (2 ^ 64)) (is_right found.0.class found.0.number) found.1 in
+        let two = and_parts (nat_lt found.0.number (2 ^ 64)) (is_right found.0.class found.0.number) found.1 in
         subst IsKnown found.2 (right_known found.0.class found.0.number (ltb-true found.0.number (2 ^ 64) two.0) two.1)
     go None e = pick IsKnown (digits_len word == 0) (means classes.Other 0) (of_stem (look_up stems (stem word)) word) other_known (stem_known (look_up stems (stem word)) word refl)
 
@@ -177,8 +172,8 @@ token_of_kind : (preamble : Bool) (kind : TokenKind) (s : List ℕ) → spells p
 token_of_kind preamble kinds.Header s h = plain_token classes.Header refl
 token_of_kind preamble kinds.Comment s h = plain_token classes.Other refl
 token_of_kind preamble kinds.Name s h =
-    let two = both ((first s == percent) && is_word_byte (second s)) (list_all is_word_byte (drop 1 s)) h in
-    let front = both (first s == percent) (is_word_byte (second s)) two.0 in
+    let two = and_parts ((first s == percent) && is_word_byte (second s)) (list_all is_word_byte (drop 1 s)) h in
+    let front = and_parts (first s == percent) (is_word_byte (second s)) two.0 in
     record { number = omega arith; bytes = two.1; named = λ e. some_name s front.1; opcode = λ e. absurd cc }
 token_of_kind preamble kinds.Word s h = nameless (word_meaning s) (word_known s)
 token_of_kind preamble kinds.Number s h = plain_token (number_class s) (pick_class (is_sign (first s)) classes.Signed classes.Unsigned refl refl)
@@ -208,7 +203,7 @@ text_token text t inside preamble spelled =
       opcode = known.opcode;
     }
 
-rise_weaker : (low high : ℕ) (ns : List ℕ) → low ≤ high → RiseFrom high ns → RiseFrom low ns
+pub rise_weaker : (low high : ℕ) (ns : List ℕ) → low ≤ high → RiseFrom high ns → RiseFrom low ns
 rise_weaker low high [] less rise = tt
 rise_weaker low high (n ∷ ns) less (first, rise) = (omega arith, rise)
 

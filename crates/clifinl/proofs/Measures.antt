@@ -1,11 +1,11 @@
 -- Sizes and sites of modules.
-use Rattle.std.proofs.Common.{◌≡◌, ℕ, zero, suc, ◌+◌, take, length, Some, ◌≤◌, List, [], ◌∷◌, ◌++◌, map, sym, refl, ap, ap₂, subst, ◌∙◌, append_assoc, eq-eqb, ne_eqb, inl, inr, arith}
+use Rattle.std.proofs.Common.{◌≡◌, ℕ, ◌+◌, take, length, Some, ◌≤◌, List, [], ◌∷◌, ◌++◌, map, sym, refl, ap, ap₂, subst, ◌∙◌, append_assoc, eq-eqb, ne_eqb, inl, inr, arith}
 use Rattle.std.specs.Prelude.{count_by, slice_get, if◌then◌else◌}
 use Rattle.std.proofs.lemmas.List.Sums.{count_by-le-length}
 use Rattle.std.proofs.lemmas.Option.{get_or_from_slice_get, slice_get_within}
 use Rattle.ir_core.proofs.Sizing.{total_more}
 use Rattle.ir_core.specs.Edits.{lines_of}
-use Rattle.ir_core.specs.Lists.{Different, Each, In}
+use Rattle.ir_core.specs.Lists.{Different, In}
 use Rattle.ir_core.specs.Lookup.{block_numbers}
 use Rattle.ir_core.specs.Module.{Block, Function, Line, Module}
 use Rattle.ir_core.specs.Size.{block_size, line_size, size_of, total}
@@ -35,11 +35,6 @@ pub one_summary : {functions sites inlined before after steps functions' sites' 
 one_summary functions sites inlined before after steps = rw (functions, sites, inlined, before, after, steps) refl
 
 -- ---- a place of a list
-
-pub each_at : {A : Type 0} (P : A → Type 0) (xs : List A) (i : ℕ) (x : A) → Each P xs → slice_get xs i ≡ Some x → P x
-each_at P [] i x h e = absurd cc
-each_at P (y ∷ xs) zero x h e = let q : y ≡ x = cc in subst P q h.0
-each_at P (y ∷ xs) (suc i) x h e = each_at P xs i x h.1 e
 
 -- a sum over one element more
 pub one_more : {A : Type 0} (h : A → ℕ) (xs : List A) (i : ℕ) (x : A) → slice_get xs i ≡ Some x → total h (take (i + 1) xs) ≡ total h (take i xs) + h x

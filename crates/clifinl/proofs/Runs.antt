@@ -11,7 +11,7 @@ use Rattle.clifinl.specs.declared.status.Status.TheVariants.{Done, Refused, Usag
 use Rattle.clifinl.specs.declared.status.Refusal.TheVariants.{Text, TooLong, BadScript, NoEntry, BadArgs, BadDirective}
 use Rattle.clif_check.specs.Faults.{IsAccepted}
 use Rattle.clif_check.proofs.Stages.{accepted_has_no_fault}
-use Rattle.clifinl.specs.Runs.{IsFirstFault, most_bytes, ReadsWhole, GivesTooMany, Outside, Took, NoText, Stopped, Wrote, IsRun}
+use Rattle.clifinl.specs.Runs.{IsFirstFault, most_bytes, ReadsWhole, GivesTooMany, Outside, Took, Stopped, Wrote, IsRun}
 
 -- ---- where the source tells its bytes
 
@@ -32,21 +32,6 @@ told_long (Some xs) (Some ys) all many is =
     omega (arith, long, length-append many.0 ys, many.2)
 
 -- ---- a run for each end
-
--- where no text is refused, none of certain texts is
-pub stopped_at_no_text : (Refuses : List ℕ → TextKind → Place → Type 0) (before after : Option (List ℕ)) (faults now : ℕ) (status : Status) → Stopped NoText before after faults now status → Stopped Refuses before after faults now status
-stopped_at_no_text Refuses before after faults now (Refused (Text k place)) why = absurd why.2
-stopped_at_no_text Refuses before after faults now (Refused TooLong) why = why
-stopped_at_no_text Refuses before after faults now (Refused (BadScript count)) why = absurd why
-stopped_at_no_text Refuses before after faults now (Refused NoEntry) why = absurd why
-stopped_at_no_text Refuses before after faults now (Refused BadArgs) why = absurd why
-stopped_at_no_text Refuses before after faults now (Refused (BadDirective line)) why = absurd why
-stopped_at_no_text Refuses before after faults now ReadFault why = why
-stopped_at_no_text Refuses before after faults now NoMemory why = why
-stopped_at_no_text Refuses before after faults now Done why = absurd why
-stopped_at_no_text Refuses before after faults now Usage why = absurd why
-stopped_at_no_text Refuses before after faults now WriteFault why = absurd why
-stopped_at_no_text Refuses before after faults now ChecksFailed why = absurd why
 
 module _ (Takes : List ℕ → Module → Type 0) (Refuses : List ℕ → TextKind → Place → Type 0) (output : Module → List ℕ)
     (before after : Outside) where

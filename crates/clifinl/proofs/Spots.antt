@@ -4,8 +4,8 @@ use Rattle.std.specs.Str.{bytes_eq}
 use Rattle.std.specs.Prelude.{codes}
 use Rattle.grammar.specs.Rules.{Lexeme, Rule}
 use Rattle.token_reader.specs.Next.{spot_or}
-use Rattle.clif_insts.proofs.Formed.{each_behind}
 use Rattle.ir_core.specs.Lists.{Each}
+use Rattle.ir_core.proofs.Members.{each_right}
 use Rattle.clif_lex.specs.declared.spans.TokenKind.{TokenKind}
 use Rattle.clif_lex.specs.declared.spans.TokenKind.TheVariants as kinds
 use Rattle.clif_lex.specs.declared.spans.Token.{Token}
@@ -109,4 +109,4 @@ pub stops_within : (rule : Rule) (text : List ℕ) (spot : ℕ) → StopsIn rule
 stops_within rule text spot stops =
     let len = length text in
     subst (λ (n : ℕ). n ≤ len) (sym stops.3.2)
-    (spot_within len stops.1 (each_behind (λ (x : Lexeme). x.spot ≤ len) stops.0 stops.1 (subst (Within len) stops.2 (lexed_within text))))
+    (spot_within len stops.1 (each_right (λ (x : Lexeme). x.spot ≤ len) stops.0 stops.1 (subst (Within len) stops.2 (lexed_within text))))

@@ -6,7 +6,7 @@ use lib.Signed.{mag, nat_abs-le, shr_z}
 use Rattle.std.proofs.Math.Pow.{mod-mod-pow}
 use Rattle.std.proofs.Math.Nat.{mod-eq_of_lt, mul-add-mod_self_right}
 use Rattle.std.proofs.lemmas.Int.{fits_signed_mul}
-use Rattle.std.proofs.lemmas.Nat.{pow_pos, div_below, mul-lt}
+use Rattle.std.proofs.lemmas.Nat.{pow_pos}
 use Rattle.std.proofs.lemmas.Bool.Decides.{nat_tests}
 use Rattle.clk_num.specs.declared.width.Width.{Width}
 use Rattle.clk_num.specs.declared.width.Width.TheVariants.{W8, W16, W32, W64, W128}
@@ -128,18 +128,6 @@ power_64 W16 h = lit≤ tt
 power_64 W32 h = lit≤ tt
 power_64 W64 h = lit≤ tt
 power_64 W128 h = absurd (omega arith)
-
--- the product of two values of at most 64 bits has at most 128
-pub product_fits : (t : Width) (x y : ℕ) → bits_of t ≤ 64 → x < 2 ^ bits_of t → y < 2 ^ bits_of t → x * y < 2 ^ 128
-product_fits t x y n h k =
-    let bound = power_64 t n in
-    let a : x < 2 ^ 64 = omega arith in
-    let b : y < 2 ^ 64 = omega arith in
-    mul-lt x y (2 ^ 64) (2 ^ 64) a b
-
--- and its upper half is a value again
-pub upper_half_lt : (t : Width) (x y : ℕ) → x < 2 ^ bits_of t → y < 2 ^ bits_of t → x * y / 2 ^ bits_of t < 2 ^ bits_of t
-upper_half_lt t x y h k = div_below (x * y) (2 ^ bits_of t) (2 ^ bits_of t) (pow_pos (bits_of t)) (mul-lt x y (2 ^ bits_of t) (2 ^ bits_of t) h k)
 
 pub umulhi_is : (t : Width) (x y k : ℕ) → k ≡ bits_of t → x * y / 2 ^ k ≡ umulhi (bits_of t) x y
 unfolding umulhi

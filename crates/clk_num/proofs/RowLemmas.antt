@@ -13,7 +13,7 @@ use Rattle.clk_num.specs.Rows.{Fits, row, of_one, of_two, any, up_to_64, from_16
 use Rattle.clk_num.specs.Operations.{DataValue, Evaluation, Values, widths, within, operation, meaning}
 
 -- two types of one width are one
-same_width : (t u : Width) → same t u ≡ true → t ≡ u
+pub same_width : (t u : Width) → same t u ≡ true → t ≡ u
 same_width W8 W8 h = refl
 same_width W8 W16 h = absurd (false≢true h)
 same_width W8 W32 h = absurd (false≢true h)

@@ -4,7 +4,7 @@ use Rattle.std.specs.List.{starts_with}
 use Rattle.std.proofs.lemmas.List.{get_or_append_left, ext_get_or, length-take-le, get_or-take}
 use Rattle.std.proofs.lemmas.Bool.Decides.{Decides-eqb}
 use Rattle.std.proofs.lemmas.Slice.Eq.{starts_is}
-use Rattle.call_graph.proofs.Walks.{or_cases, or_left, or_right}
+use Rattle.std.proofs.lemmas.Bool.{or_cases, or_left, or_right}
 use Rattle.memchr.specs.Find.{FindsNeedle, OccursAt}
 use Rattle.filetest.specs.LineTests.{contains}
 

@@ -1,9 +1,10 @@
 -- The first difference of two lists of lines.
-use Rattle.std.proofs.Common.{◌≡◌, ℕ, ◌+◌, ◌<◌, ◌≤◌, Bool, true, false, if◌then◌else◌, List, [], ◌∷◌, length, drop, get_or, Some, refl, sym, ap, ◌∙◌, arith}
+use Rattle.std.proofs.Common.{◌≡◌, ℕ, ◌+◌, ◌<◌, ◌≤◌, Bool, true, false, if◌then◌else◌, List, [], ◌∷◌, length, drop, get_or, Some, sym, ap, ◌∙◌, arith}
 use Rattle.std.specs.Str.{bytes_eq}
 use Rattle.std.proofs.lemmas.List.{drop_more, drop_all}
 use Rattle.std.proofs.Common.{not}
 use Rattle.std.proofs.lemmas.List.{length-map}
+use Rattle.std.proofs.lemmas.Bool.{not-true, not-false}
 use denote.Ref.{Bor}
 use Rattle.filetest.specs.declared.report.Pair.{Pair as CodePair}
 use Rattle.filetest.specs.Views.{pair_of, seen_lines}
@@ -32,14 +33,6 @@ expected_ends expected got i l m = sym (ap (λ xs. difference xs (drop i got)) (
 
 -- ---- as the code reads lists
 
-not_same : (b : Bool) → not b ≡ true → b ≡ false
-not_same true h = cc
-not_same false h = refl
-
-is_same : (b : Bool) → not b ≡ false → b ≡ true
-is_same true h = refl
-is_same false h = cc
-
 pub first_differs : (expected : List Line) (got : List (Bor Line)) (i : ℕ) (d : Bor Line) (x : Line) (t : Bool) (p : CodePair)
     → i < length expected → i < length got → x ≡ get_or expected i []
     → t ≡ not (bytes_eq x (get_or got i d).now) → t ≡ true
@@ -50,7 +43,7 @@ first_differs expected got i d x t p l m ex et h a b =
     let ey : y ≡ get_or (seen_lines got) i [] = read_line got i d m in
     let m2 : i < length (seen_lines got) = omega (arith, length-map got (λ (z : Bor Line). z.now)) in
     let f : bytes_eq (get_or expected i []) (get_or (seen_lines got) i []) ≡ false =
-    ap (λ z. bytes_eq z (get_or (seen_lines got) i [])) (sym ex) ∙ (ap (bytes_eq x) (sym ey) ∙ not_same (bytes_eq x y) (sym et ∙ h)) in
+    ap (λ z. bytes_eq z (get_or (seen_lines got) i [])) (sym ex) ∙ (ap (bytes_eq x) (sym ey) ∙ not-true (bytes_eq x y) (sym et ∙ h)) in
     ap (λ z. Some (pair z p.got.items)) (a ∙ ex) ∙ (ap (λ z. Some (pair (get_or expected i []) z)) (b ∙ ey) ∙ other_line expected (seen_lines got) i l m2 f)
 
 pub line_is_same : (expected : List Line) (got : List (Bor Line)) (i : ℕ) (d : Bor Line) (x : Line) (t : Bool)
@@ -61,7 +54,7 @@ line_is_same expected got i d x t l m ex et h =
     let y = (get_or got i d).now in
     let ey : y ≡ get_or (seen_lines got) i [] = read_line got i d m in
     let m2 : i < length (seen_lines got) = omega (arith, length-map got (λ (z : Bor Line). z.now)) in
-    same_line expected (seen_lines got) i l m2 (ap (λ z. bytes_eq z (get_or (seen_lines got) i [])) (sym ex) ∙ (ap (bytes_eq x) (sym ey) ∙ is_same (bytes_eq x y) (sym et ∙ h)))
+    same_line expected (seen_lines got) i l m2 (ap (λ z. bytes_eq z (get_or (seen_lines got) i [])) (sym ex) ∙ (ap (bytes_eq x) (sym ey) ∙ not-false (bytes_eq x y) (sym et ∙ h)))
 
 pub got_has_more : (expected : List Line) (got : List (Bor Line)) (i : ℕ) (d : Bor Line) (p : CodePair)
     → length expected ≤ i → i < length got

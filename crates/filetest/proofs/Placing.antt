@@ -1,27 +1,23 @@
 -- A run's function stands at one place in the raw module and in the module that it means.
-use Rattle.std.proofs.Common.{◌≡◌, ℕ, zero, suc, Bool, true, false, if◌then◌else◌, ℤ, pos, negsuc, List, [], ◌∷◌, ◌++◌, codes, decimal, slice_get, Option, Some, None, refl, sym, ap, ◌∙◌, append_assoc}
+use Rattle.std.proofs.Common.{◌≡◌, ℕ, zero, suc, Bool, true, false, if◌then◌else◌, List, [], ◌∷◌, ◌++◌, codes, decimal, slice_get, Option, Some, None, refl, sym, ap, ◌∙◌, append_assoc}
 use Rattle.std.specs.Str.{bytes_eq}
 use Rattle.ir_core.specs.Lookup.{find_function}
 use Rattle.ir_core.specs.Module.{Function, Module}
 use Rattle.ir_core.specs.WellFormed.{DifferentNames}
-use Rattle.clif_names.specs.declared.limits.Limit.TheVariants.{Entity}
 use Rattle.clif_names.specs.FunctionNames.{NoFunctionFault}
-use Rattle.clif_names.specs.Limits.{keeps, name_limits}
+use Rattle.clif_names.specs.Limits.{name_limits}
 use Rattle.clif_read.specs.declared.raw.RawFuncName.{RawFuncName}
 use Rattle.clif_read.specs.declared.raw.RawFuncName.TheVariants as func_name
 use Rattle.clif_read.specs.declared.raw.RawFunction.{RawFunction}
 use Rattle.clif_meaning.specs.Instructions.{natural}
 use Rattle.clif_meaning.specs.Meaning.{name_of, FunctionMeans, FunctionsMean}
 use Rattle.clif_meaning.proofs.LimitLaws.{AllKept, name_kept}
+use Rattle.clif_meaning.proofs.ModuleLaws.{not_negative}
 use Rattle.program_run.specs.EntryName.{spelling}
 use Rattle.test_directives.specs.Directives.{spelled_name, spelled_user}
 use Rattle.test_directives.specs.Tests.{first_named}
 use Rattle.filetest.specs.Checks.{function_spelled}
 use Rattle.filetest.proofs.RunChecks.{finds_own}
-
-not_negative : (z : ℤ) → keeps Entity z ≡ true → z ≡ pos (natural z)
-not_negative (pos n) h = refl
-not_negative (negsuc n) h = absurd cc
 
 -- a name within its limits is spelled in the report as in the canonical text
 spells_same : (x : RawFuncName) → AllKept (name_limits x) → spelled_name x ≡ spelling (name_of x)

@@ -8,10 +8,10 @@ use Rattle.clk_num.specs.Operations.{DataValue}
 use Rattle.ir_core.specs.Lookup.{and_then, find_function, param_types}
 use Rattle.ir_core.specs.Module.{Function, Module}
 use Rattle.ir_core.specs.WellFormed.{DifferentNames}
+use Rattle.ir_core.proofs.Gets.{get_in}
 use Rattle.ir_semantics.specs.Runs.{Outcome, outcome}
 use Rattle.ir_semantics.specs.Values.{values_for}
 use Rattle.body_import.proofs.Walks.{next_is}
-use Rattle.inline_acceptance.proofs.KeptFunctions.{get_in}
 use Rattle.inline_pass.proofs.Finishing.{found_by_name}
 use Rattle.interp.specs.Entries.{entry_values}
 use Rattle.interp_run.specs.Answers.{IsRefusal}

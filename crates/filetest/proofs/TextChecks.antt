@@ -3,10 +3,9 @@ use Rattle.std.proofs.Common.{◌≡◌, ℕ, ◌+◌, ◌<◌, ◌≤◌, List,
 use Rattle.std.proofs.lemmas.Bool.Decides.{leb_tells}
 use Rattle.std.proofs.lemmas.List.{drop_more, drop_all, drop-map}
 use Rattle.body_import.proofs.Walks.{next_is}
-use Rattle.inline_acceptance.proofs.KeptModules.{get_some}
 use Rattle.ir_core.specs.Module.{Function, Module}
+use Rattle.ir_core.proofs.Gets.{next_left, get_some}
 use Rattle.ir_text.specs.Text.{function_text_of}
-use Rattle.test_directives.proofs.TokenSteps.{drop_next}
 use Rattle.test_directives.specs.Commands.{Command}
 use Rattle.test_directives.specs.Tests.{FunctionTests}
 use Rattle.test_directives.specs.Views.{function_of}
@@ -17,7 +16,7 @@ use Rattle.filetest.specs.Telling.{Told, Tells, TellsWith}
 use Rattle.filetest.proofs.Telling.{tells_front}
 
 texts_at : (m : Module) (i : ℕ) (f : Function) → slice_get m i ≡ Some f → drop i (map function_text_of m) ≡ function_text_of f ∷ drop (i + 1) (map function_text_of m)
-texts_at m i f e = drop-map function_text_of i m ∙ (ap (map function_text_of) (drop_next m i f e) ∙ ap (λ xs. function_text_of f ∷ xs) (sym (drop-map function_text_of (i + 1) m)))
+texts_at m i f e = drop-map function_text_of i m ∙ (ap (map function_text_of) (next_left m i f e) ∙ ap (λ xs. function_text_of f ∷ xs) (sym (drop-map function_text_of (i + 1) m)))
 
 pub mapped_at : {A B : Type 0} (f : A → B) (xs : List A) (i : ℕ) (x : A) → i < length xs → x ≡ get_or xs i x → drop i (map f xs) ≡ f x ∷ drop (i + 1) (map f xs)
 mapped_at f xs i x l e =

@@ -12,6 +12,7 @@ use Rattle.ir_core.specs.declared.names.FuncName.{FuncName}
 use Rattle.ir_core.specs.Lookup.{same_name}
 use Rattle.ir_core.specs.Lists.{In}
 use Rattle.ir_semantics.specs.Names.{name_before, with_name, in_order}
+use Rattle.ir_semantics.proofs.SafetyPlaces.{in_ordered}
 use Rattle.func_addrs.specs.Order.{name_cmp, NeverFalls, begins_apart}
 use Rattle.func_addrs.proofs.Comparing.{name_total, before_is, same_is, equal_is}
 
@@ -116,14 +117,9 @@ order_in : (a : FuncName) (ns : List FuncName) → In a (in_order ns) → In a n
 order_in a [] i = i
 order_in a (n ∷ ns) i = elim (in_with a n (in_order ns) i) [ inl e ↦ inl e | inr k ↦ inr (order_in a ns k) ]
 
-in_ordered : (a : FuncName) (ns : List FuncName) → In a ns → In a (in_order ns)
-in_ordered a [] i = i
-in_ordered a (n ∷ ns) (inl e) = with_in a n (in_order ns) (inl e)
-in_ordered a (n ∷ ns) (inr k) = with_in a n (in_order ns) (inr (in_ordered a ns k))
-
 -- ---- a list in strict order is determined by its members
 
-abbrev Within : List FuncName → List FuncName → Type 0
+abbrev pub Within : List FuncName → List FuncName → Type 0
 Within xs ys = (a : FuncName) → In a xs → In a ys
 
 first_same : (x : FuncName) (xs : List FuncName) (y : FuncName) (ys : List FuncName) → Above x xs → Above y ys → Within (x ∷ xs) (y ∷ ys) → Within (y ∷ ys) (x ∷ xs) → x ≡ y
@@ -160,13 +156,17 @@ contains_in a [] k h e = absurd (omega arith)
 contains_in a (x ∷ xs) zero h e = inl (sym e)
 contains_in a (x ∷ xs) (suc k) h e = inr (contains_in a xs k (omega arith) e)
 
-moved_within : (ms ns : List FuncName) → IsPermutation ms ns → Within (in_order ms) (in_order ns)
-moved_within ms ns p a i =
-    let c = Contains-permutation ms ns a p (contains_from a ms (order_in a ms i)) in
-    in_ordered a ns (contains_in a ns c.0 c.1 c.2)
+-- the names in order depend only on which names there are
+pub in_order_same : (ms ns : List FuncName) → Within ms ns → Within ns ms → in_order ms ≡ in_order ns
+in_order_same ms ns w v =
+    rising_same (in_order ms) (in_order ns) (order_rises ms) (order_rises ns)
+    (λ a i. in_ordered a ns (w a (order_in a ms i))) (λ a i. in_ordered a ms (v a (order_in a ns i)))
+
+moved_within : (ms ns : List FuncName) → IsPermutation ms ns → Within ms ns
+moved_within ms ns p a i = let c = Contains-permutation ms ns a p (contains_from a ms i) in contains_in a ns c.0 c.1 c.2
 
 pub order_same : (ms ns : List FuncName) → IsPermutation ms ns → in_order ms ≡ in_order ns
-order_same ms ns p = rising_same (in_order ms) (in_order ns) (order_rises ms) (order_rises ns) (moved_within ms ns p) (moved_within ns ms (IsPermutation-sym ms ns p))
+order_same ms ns p = in_order_same ms ns (moved_within ms ns p) (moved_within ns ms (IsPermutation-sym ms ns p))
 
 -- ---- names that never fall
 

@@ -2,9 +2,9 @@
 use Rattle.std.proofs.Common.{◌≡◌, ℕ, zero, suc, ◌+◌, ◌<◌, ◌≤◌, ◌^◌, length, refl, ap, arith}
 use Rattle.ir_core.specs.Lists.{Each}
 use Rattle.ir_core.specs.WellFormed.{WellFormed, IsModule}
+use Rattle.ir_core.proofs.Members.{each_in}
 use Rattle.ir_semantics.specs.Accepted.{RulesHold, Accepted}
 use Rattle.ir_text.specs.Writable.{FunctionWritable, Writable}
-use Rattle.ir_semantics.proofs.SafetyPlaces.{each_in}
 use Rattle.gen_mod.specs.Generated.{function, functions_from, generated}
 use Rattle.gen_mod.proofs.EachShape.{of_function, of_functions}
 use Rattle.gen_mod.proofs.Naming.{functions_differ}

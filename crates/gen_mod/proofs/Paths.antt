@@ -6,19 +6,17 @@ use Rattle.ir_core.specs.Module.{Line, Block, Function}
 use Rattle.ir_core.specs.Lookup.{find_block}
 use Rattle.ir_core.specs.Lists.{In}
 use Rattle.ir_core.proofs.Members.{in_left, in_right}
+use Rattle.ir_core.proofs.Gets.{some_same}
 use Rattle.ir_semantics.specs.Available.{Reach, begin, next, branch, Available}
-use Rattle.ir_semantics.proofs.SafetyTypes.{some_same}
 use Rattle.ir_semantics.proofs.SafetyPlaces.{find_first}
-
-same_head : {A : Type 0} {x y : A} {xs ys : List A} → x ∷ xs ≡ y ∷ ys → x ≡ y
-same_head e = cc
+use Rattle.ir_semantics.proofs.SafetyTypes.{head_same}
 
 pub entry_param : (f : Function) (first : Block) (others : List Block) → f.blocks ≡ first ∷ others → (v : ℕ)
     → In v first.params → (b i : ℕ) → Available f b i v
 entry_param f first others starts v p b i = λ defs path. passed path
   where
     passed : {b i : ℕ} {defs : List ℕ} → Reach f b i defs → In v defs
-    passed (begin begun rest q) = subst (λ (z : Block). In v z.params) (same_head (sym starts ∙ q)) p
+    passed (begin begun rest q) = subst (λ (z : Block). In v z.params) (head_same (sym starts ∙ q)) p
     passed (next {defs = defs} before block q l g goes) = in_right v l.results defs (passed before)
     passed (branch {defs = defs} before block q l g t is entered e) = in_right v entered.params defs (passed before)
 

@@ -1,14 +1,15 @@
 -- The rules at a function's parts, put together: what holds at each callee declaration, block and line holds at all
 -- places.
-use Rattle.std.proofs.Common.{◌≡◌, ℕ, zero, suc, List, [], ◌∷◌, Bool, Option, Some, sym, ap, subst, ◌∙◌, inl, inr}
+use Rattle.std.proofs.Common.{◌≡◌, ℕ, zero, suc, List, [], ◌∷◌, Some, subst}
 use Rattle.std.proofs.Common.{eq-eqb, ne_eqb}
-use Rattle.std.specs.Prelude.{⊤, slice_get, if◌then◌else◌}
-use Rattle.std.proofs.lemmas.Bool.{cases_eq}
+use Rattle.std.specs.Prelude.{⊤, slice_get}
 use Rattle.ir_core.specs.declared.declarations.Callee.{Callee}
 use Rattle.ir_core.specs.declared.places.Item.TheVariants as item
 use Rattle.ir_core.specs.Module.{Line, Block, Function, Module}
-use Rattle.ir_core.specs.Lookup.{find_block}
 use Rattle.ir_core.specs.Lists.{Each}
+use Rattle.ir_core.proofs.Gets.{some_same, get_in}
+use Rattle.ir_core.proofs.Members.{each_in}
+use Rattle.ir_core.proofs.ByNumber.{found_is}
 use Rattle.ir_semantics.specs.Accepted.{Rule, no_terminator, entry_target, count_mismatch, type_mismatch, convention}
 use Rattle.ir_semantics.specs.Accepted.{signature_mismatch, slot_range, tag_place, not_available, HoldsAtLine}
 use Rattle.ir_semantics.specs.Accepted.{HoldsAtBlock, HoldsAtCallee, IsFirst, RulesHold, UsesAvailable}
@@ -17,8 +18,7 @@ use Rattle.ir_semantics.specs.CountRules.{Counts, EntryCounts}
 use Rattle.ir_semantics.specs.TypeRules.{Types, EntryTypes}
 use Rattle.ir_semantics.specs.CallRules.{Convention, Declared, Signature, TagPlace}
 use Rattle.ir_semantics.specs.SlotRules.{SlotRange}
-use Rattle.ir_semantics.proofs.SafetyTypes.{some_same}
-use Rattle.ir_semantics.proofs.SafetyPlaces.{each_in, get_in, block_in}
+use Rattle.ir_semantics.proofs.SafetyPlaces.{block_in}
 
 -- ---- lists
 
@@ -90,26 +90,15 @@ callee_keeps m f c declared not_available = tt
 
 -- ---- all parts
 
-found_number : (n : ℕ) (bs : List Block) (b : Block) → find_block n bs ≡ Some b → b.number ≡ n
-found_number n [] b h = cc
-found_number n (c ∷ bs) b h =
-    elim (cases_eq c.number n) [
-      | inl q ↦ ap (λ (z : Block). z.number) (some_same (sym h ∙ ap test (eq-eqb c.number n q))) ∙ q
-      | inr q ↦ found_number n bs b (sym (ap test (ne_eqb c.number n q)) ∙ h)
-    ]
-  where
-    test : Bool → Option Block
-    test z = if z then Some c else find_block n bs
-
 pub rules_hold : (m : Module) (f : Function) → Each (Declared m f) f.callees → Each (Keeps f) f.blocks → RulesHold m f
 rules_hold m f callees blocks item.Whole rule = tt
 rules_hold m f callees blocks (item.Callee k) rule = λ c q.
     callee_keeps m f c (each_in (Declared m f) f.callees callees c (get_in f.callees k c q)) rule
 rules_hold m f callees blocks (item.Block b) rule = λ block q.
     let keeps = each_in (Keeps f) f.blocks blocks block (block_in b f.blocks block q) in
-    subst (λ n. HoldsAtBlock f n block rule) (found_number b f.blocks block q) (block_keeps f block keeps rule)
+    subst (λ n. HoldsAtBlock f n block rule) (found_is b f.blocks block q) (block_keeps f block keeps rule)
 rules_hold m f callees blocks (item.Inst at) rule = λ block l q g.
     let keeps = each_in (Keeps f) f.blocks blocks block (block_in at.block f.blocks block q) in
-    subst (λ n. HoldsAtLine f n block at.index l rule) (found_number at.block f.blocks block q)
+    subst (λ n. HoldsAtLine f n block at.index l rule) (found_is at.block f.blocks block q)
     (line_keeps f block.number block at.index l
     (at_place (LineKeeps f block.number block) block.lines keeps.lines at.index l g) rule)

@@ -6,13 +6,14 @@ use Rattle.ir_core.specs.declared.names.FuncName.{FuncName}
 use Rattle.ir_core.specs.declared.signatures.Ty.TheVariants.{I64}
 use Rattle.ir_core.specs.Module.{Block, Function, Module}
 use Rattle.ir_core.specs.Lists.{Each}
+use Rattle.ir_core.proofs.Members.{each_in}
 use Rattle.ir_semantics.specs.Available.{Available}
 use Rattle.ir_semantics.specs.Accepted.{RulesHold}
 use Rattle.ir_semantics.specs.EndRules.{Terminated}
 use Rattle.ir_semantics.specs.CountRules.{Counts}
 use Rattle.ir_semantics.specs.TypeRules.{HaveTypes, Types}
 use Rattle.ir_semantics.specs.CallRules.{Declared}
-use Rattle.ir_semantics.proofs.SafetyPlaces.{each_in, function_in}
+use Rattle.ir_semantics.proofs.SafetyPlaces.{function_in}
 use Rattle.gen_mod.specs.Shapes.{generated_name, host_name, signature, callee, block, iconst, icmp_ult, call, returned}
 use Rattle.gen_mod.specs.Shapes.{brif, try_call}
 use Rattle.gen_mod.specs.Shapes.{adding, calling_two, trying, choosing}

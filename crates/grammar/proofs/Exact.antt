@@ -11,7 +11,7 @@ use Rattle.grammar.proofs.Refused.{refused}
 abbrev Stop : Type 0
 Stop = Kind × List Lexeme
 
-split_at_next : (us more : List Lexeme) (x : Lexeme) → us ++ x ∷ more ≡ (us ++ x ∷ []) ++ more
+pub split_at_next : (us more : List Lexeme) (x : Lexeme) → us ++ x ∷ more ≡ (us ++ x ∷ []) ++ more
 split_at_next us more x = simp append_assoc
 
 -- with the next token the text does not begin the rule, if reading stopped before it
@@ -23,7 +23,7 @@ no_more r g ts us more x o e h small b =
 same_kind : {A : Type 0} (j k : Kind) (ts us : List Lexeme) → (let z : Result A Stop = Err (j, ts) in z) ≡ Err (k, us) → j ≡ k
 same_kind {A} j k ts us h = ap (λ (p : Stop). p.0) (err_is {A = A} (j, ts) (k, us) h)
 
-longer : (x : Lexeme) (more : List Lexeme) → length (x ∷ more) ≤ length more → ⊥
+pub longer : (x : Lexeme) (more : List Lexeme) → length (x ∷ more) ≤ length more → ⊥
 longer x more h = omega arith
 
 pub exact : (r : Rule) → good r ≡ true → (ts : List Lexeme) → Answers r ts (read_all r ts)

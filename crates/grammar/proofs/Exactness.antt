@@ -1,12 +1,12 @@
 -- A rule in which the next token says the way is read exactly: by the text that it derives, and up to the first token that begins no text.
 use Rattle.std.proofs.Common.{◌≡◌, ℕ, zero, suc, ◌≤◌, ◌==◌, Bool, true, false, not, ◌&&◌, ◌||◌, cond, List, [], ◌∷◌, ◌++◌, length, Some, None, Ok, Err, refl, ap, subst, ◌∙◌, arith, inl, inr, append_assoc, length-append}
 use Rattle.std.specs.Prelude.{◌⊎◌}
-use Rattle.std.proofs.lemmas.Bool.{eqb-true, eq-eqb}
+use Rattle.std.proofs.lemmas.Bool.{eqb-true, eq-eqb, and_parts, not-true}
 use Rattle.std.proofs.Math.Bool.{or-true}
 use Rattle.grammar.specs.Rules.{Lexeme, Kind, Syntax, Rule, Empty, Tok, Seq, Alt, Opt, Many, Refuse, Chain, Tree, Each, ByFlag, ends, Derives, Begins, heads, nullable, firsts, exts, disjoint, good, Out, ◌>>=◌, token, repeat, by_flag, read}
 use Rattle.grammar.proofs.Binds.{bind_ok, ok_is, regroup}
 use Rattle.grammar.proofs.Chains.{sound_chain, front_chain, complete_chain}
-use Rattle.grammar.proofs.Sets.{both, not_true, heads_split, heads_left, heads_right, heads_append, heads_some, disjoint_heads}
+use Rattle.grammar.proofs.Sets.{heads_split, heads_left, heads_right, heads_append, heads_some, disjoint_heads}
 
 -- ---- what is read is derived
 
@@ -265,11 +265,11 @@ pub record GoodChain (a b : Rule) : Type 0 where
 
 pub good_chain : (c : ℕ) (a b : Rule) → good (Chain c a b) ≡ true → GoodChain a b
 good_chain c a b g =
-    let g1 = both ((good a && good b) && (not (nullable a) && not (nullable b))) (disjoint (exts a ++ exts b) (firsts a ++ firsts b)) g in
-    let g2 = both (good a && good b) (not (nullable a) && not (nullable b)) g1.0 in
-    let g3 = both (good a) (good b) g2.0 in
-    let g4 = both (not (nullable a)) (not (nullable b)) g2.1 in
-    record { first = g3.0; second = g3.1; first_some = not_true (nullable a) g4.0; second_some = not_true (nullable b) g4.1; free = g1.1 }
+    let g1 = and_parts ((good a && good b) && (not (nullable a) && not (nullable b))) (disjoint (exts a ++ exts b) (firsts a ++ firsts b)) g in
+    let g2 = and_parts (good a && good b) (not (nullable a) && not (nullable b)) g1.0 in
+    let g3 = and_parts (good a) (good b) g2.0 in
+    let g4 = and_parts (not (nullable a)) (not (nullable b)) g2.1 in
+    record { first = g3.0; second = g3.1; first_some = not-true (nullable a) g4.0; second_some = not-true (nullable b) g4.1; free = g1.1 }
 
 not_first : (a b : Rule) (rest : List Lexeme) → heads (firsts a ++ firsts b) rest ≡ false → (f : Bool) → heads (flag_firsts a b f) rest ≡ false
 not_first a b rest h true = (heads_split (firsts a) (firsts b) rest h).1
@@ -279,24 +279,24 @@ pub complete : (r : Rule) → good r ≡ true → Complete r
 complete Empty g us v rest d h = rw d refl
 complete (Tok c) g us x rest d h = rw (d.0, d.1, eq-eqb c c refl) refl
 complete (Seq a b) g us v rest d h =
-    let g1 = both (good a && good b) (disjoint (exts a) (firsts b)) g in
-    let g2 = both (good a) (good b) g1.0 in
+    let g1 = and_parts (good a && good b) (disjoint (exts a) (firsts b)) g in
+    let g2 = and_parts (good a) (good b) g1.0 in
     let f = follow_two a b d.1 rest g1.1 (front b d.1 v.1 d.3.1) h in
     let e1 = complete a g2.0 d.0 v.0 (d.1 ++ rest) d.3.0 f in
     let e2 = complete b g2.1 d.1 v.1 rest d.3.1 (heads_split (exts b) (cond (nullable b) (exts a) []) rest h).0 in
     ap (read (Seq a b)) (ap (λ (l : List Lexeme). l ++ rest) d.2 ∙ append_assoc d.0 d.1 rest) ∙ rw (e1, e2) refl
 complete (Alt a b) g us (inl v) rest d h =
-    let g1 = both (good a && good b) (not (nullable a) && disjoint (firsts a) (firsts b)) g in
-    let g2 = both (good a) (good b) g1.0 in
-    let g3 = both (not (nullable a)) (disjoint (firsts a) (firsts b)) g1.1 in
+    let g1 = and_parts (good a && good b) (not (nullable a) && disjoint (firsts a) (firsts b)) g in
+    let g2 = and_parts (good a) (good b) g1.0 in
+    let g3 = and_parts (not (nullable a)) (disjoint (firsts a) (firsts b)) g1.1 in
     let h2 = (heads_split (exts a ++ exts b) (cond (nullable b) (firsts a) []) rest h).0 in
-    let t = heads_append (firsts a) us rest (some_front a us (not_true (nullable a) g3.0) (front a us v d)) in
+    let t = heads_append (firsts a) us rest (some_front a us (not-true (nullable a) g3.0) (front a us v d)) in
     let e = complete a g2.0 us v rest d (heads_split (exts a) (exts b) rest h2).0 in
     rw (t, e) refl
 complete (Alt a b) g us (inr v) rest d h =
-    let g1 = both (good a && good b) (not (nullable a) && disjoint (firsts a) (firsts b)) g in
-    let g2 = both (good a) (good b) g1.0 in
-    let g3 = both (not (nullable a)) (disjoint (firsts a) (firsts b)) g1.1 in
+    let g1 = and_parts (good a && good b) (not (nullable a) && disjoint (firsts a) (firsts b)) g in
+    let g2 = and_parts (good a) (good b) g1.0 in
+    let g3 = and_parts (not (nullable a)) (disjoint (firsts a) (firsts b)) g1.1 in
     let h2 = heads_split (exts a ++ exts b) (cond (nullable b) (firsts a) []) rest h in
     let e = complete b g2.1 us v rest d (heads_split (exts a) (exts b) rest h2.0).1 in
     let t : heads (firsts a) (us ++ rest) ≡ false =
@@ -307,14 +307,14 @@ complete (Alt a b) g us (inr v) rest d h =
     rw (t, e) refl
 complete (Opt a) g us None rest d h = rw (d, (heads_split (firsts a) (exts a) rest h).0) refl
 complete (Opt a) g us (Some v) rest d h =
-    let g1 = both (good a) (not (nullable a)) g in
-    let t = heads_append (firsts a) us rest (some_front a us (not_true (nullable a) g1.1) (front a us v d)) in
+    let g1 = and_parts (good a) (not (nullable a)) g in
+    let t = heads_append (firsts a) us rest (some_front a us (not-true (nullable a) g1.1) (front a us v d)) in
     let e = complete a g1.0 us v rest d (heads_split (firsts a) (exts a) rest h).1 in
     rw (t, e) refl
 complete (Many a) g us vs rest d h =
-    let g1 = both (good a && not (nullable a)) (disjoint (exts a) (firsts a)) g in
-    let g2 = both (good a) (not (nullable a)) g1.0 in
-    complete_each a (complete a g2.0) (not_true (nullable a) g2.1) g1.1 (length (us ++ rest)) us vs rest (let l = length-append us rest in omega arith) d h
+    let g1 = and_parts (good a && not (nullable a)) (disjoint (exts a) (firsts a)) g in
+    let g2 = and_parts (good a) (not (nullable a)) g1.0 in
+    complete_each a (complete a g2.0) (not-true (nullable a) g2.1) g1.1 (length (us ++ rest)) us vs rest (let l = length-append us rest in omega arith) d h
 complete (Refuse c k) g us v rest d h = absurd d
 complete (Chain c a b) g us vs rest d h =
     let k = good_chain c a b g in

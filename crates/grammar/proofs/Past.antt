@@ -1,10 +1,10 @@
 -- Reading goes past each text that begins the rule, and each refusal is met.
 use Rattle.std.proofs.Common.{◌≡◌, ℕ, zero, suc, ◌≤◌, Bool, true, false, not, ◌&&◌, cond, List, [], ◌∷◌, ◌++◌, length, Some, None, Result, Ok, Err, refl, sym, ap, subst, ◌∙◌, arith, inl, inr, append_assoc, length-append}
 use Rattle.std.specs.Prelude.{◌⊎◌}
-use Rattle.std.proofs.lemmas.Bool.{eq-eqb}
+use Rattle.std.proofs.lemmas.Bool.{eq-eqb, and_parts, not-true}
 use Rattle.std.proofs.lemmas.List.{append-nil}
 use Rattle.grammar.specs.Rules.{Lexeme, Kind, Rule, Empty, Tok, Seq, Alt, Opt, Many, Refuse, Chain, Tree, Each, Links, ByFlag, OnFlag, ends, Derives, Begins, heads, nullable, firsts, exts, disjoint, good, Out, ◌>>=◌, repeat, used, chain, by_flag, read}
-use Rattle.grammar.proofs.Sets.{both, not_true, heads_append, heads_some, disjoint_heads}
+use Rattle.grammar.proofs.Sets.{heads_append, heads_some, disjoint_heads}
 use Rattle.grammar.proofs.Chains.{ends-append, front_chain, chain_step}
 use Rattle.grammar.proofs.Exactness.{front_flag, flag_firsts, complete_flag, some_flag, free_flag, good_chain, sound, front, begins_front, Complete, complete, some_front}
 use Rattle.grammar.proofs.Stops.{stopped}
@@ -28,17 +28,13 @@ suffix ts us rest e = let l = length-append us rest in let m = ap length e in om
 pub shrinks : (r : Rule) (ts : List Lexeme) → Left (length ts) (read r ts)
 shrinks r ts = left_from (length ts) (read r ts) (λ x e. let s = sound r ts x e in suffix ts s.0 x.1 s.1) (λ e h. let s = stopped r ts e h in suffix ts s.0 e.1 s.1)
 
-left_more : {A : Type 0} (m n : ℕ) (o : Out A) → m ≤ n → Left m o → Left n o
+pub left_more : {A : Type 0} (m n : ℕ) (o : Out A) → m ≤ n → Left m o → Left n o
 left_more m n (Ok x) le h = omega arith
 left_more m n (Err e) le h = omega arith
 
-left_bind : {A B : Type 0} (n : ℕ) (o : Out A) (f : A × List Lexeme → Out B) → Left n o → ((x : A × List Lexeme) → length x.1 ≤ n → Left n (f x)) → Left n (o >>= f)
+pub left_bind : {A B : Type 0} (n : ℕ) (o : Out A) (f : A × List Lexeme → Out B) → Left n o → ((x : A × List Lexeme) → length x.1 ≤ n → Left n (f x)) → Left n (o >>= f)
 left_bind n (Ok x) f h g = g x h
 left_bind n (Err e) f h g = h
-
--- what one more part does
-left_then : {A B : Type 0} (n : ℕ) (r : Rule) (a : A) (ts : List Lexeme) (f : Tree r × List Lexeme → B) → length ts ≤ n → Left n (read r ts >>= λ y. Ok (f y, y.1))
-left_then n r a ts f le = left_bind n (read r ts) (λ y. Ok (f y, y.1)) (left_more (length ts) n (read r ts) le (shrinks r ts)) (λ y h. h)
 
 left_repeat : (a : Rule) (m n : ℕ) (ts : List Lexeme) → length ts ≤ n → Left n (repeat (read a) (firsts a) m ts)
 left_repeat a zero n ts le = le
@@ -219,11 +215,11 @@ past Empty g ts tail h = empty_past Empty ts tail h
 past (Tok c) g ts tail (inl h) = empty_past (Tok c) ts tail h
 past (Tok c) g ts tail (inr h) = rw (h.1, h.2, eq-eqb c c refl) (omega arith)
 past (Seq a b) g ts tail (inl h) =
-    let g1 = both (good a && good b) (disjoint (exts a) (firsts b)) g in
-    seq_first a b (past a (both (good a) (good b) g1.0).0) ts tail h
+    let g1 = and_parts (good a && good b) (disjoint (exts a) (firsts b)) g in
+    seq_first a b (past a (and_parts (good a) (good b) g1.0).0) ts tail h
 past (Seq a b) g ts tail (inr h) =
-    let g1 = both (good a && good b) (disjoint (exts a) (firsts b)) g in
-    let g2 = both (good a) (good b) g1.0 in
+    let g1 = and_parts (good a && good b) (disjoint (exts a) (firsts b)) g in
+    let g2 = and_parts (good a) (good b) g1.0 in
     elim (begins_front b h.1 h.3.1) [
       | inl z ↦ (
           let e : ts ≡ h.0 = h.2 ∙ ap (λ (l : List Lexeme). h.0 ++ l) z ∙ append-nil h.0 in
@@ -237,22 +233,22 @@ past (Seq a b) g ts tail (inr h) =
           )
     ]
 past (Alt a b) g ts tail (inl h) =
-    let g1 = both (good a && good b) (not (nullable a) && disjoint (firsts a) (firsts b)) g in
+    let g1 = and_parts (good a && good b) (not (nullable a) && disjoint (firsts a) (firsts b)) g in
     elim (begins_front a ts h) [
       | inl z ↦ empty_past (Alt a b) ts tail z
       | inr z ↦ (
           let t = heads_append (firsts a) ts tail z in
-          rw t (left_bind (length tail) (read a (ts ++ tail)) (λ x. Ok (inl x.0, x.1)) (past a (both (good a) (good b) g1.0).0 ts tail h) (λ y k. k))
+          rw t (left_bind (length tail) (read a (ts ++ tail)) (λ x. Ok (inl x.0, x.1)) (past a (and_parts (good a) (good b) g1.0).0 ts tail h) (λ y k. k))
           )
     ]
 past (Alt a b) g ts tail (inr h) =
-    let g1 = both (good a && good b) (not (nullable a) && disjoint (firsts a) (firsts b)) g in
-    let g3 = both (not (nullable a)) (disjoint (firsts a) (firsts b)) g1.1 in
+    let g1 = and_parts (good a && good b) (not (nullable a) && disjoint (firsts a) (firsts b)) g in
+    let g3 = and_parts (not (nullable a)) (disjoint (firsts a) (firsts b)) g1.1 in
     elim (begins_front b ts h) [
       | inl z ↦ empty_past (Alt a b) ts tail z
       | inr z ↦ (
           let t = disjoint_heads (firsts a) (firsts b) (ts ++ tail) g3.1 (heads_append (firsts b) ts tail z) in
-          rw t (left_bind (length tail) (read b (ts ++ tail)) (λ x. Ok (inr x.0, x.1)) (past b (both (good a) (good b) g1.0).1 ts tail h) (λ y k. k))
+          rw t (left_bind (length tail) (read b (ts ++ tail)) (λ x. Ok (inr x.0, x.1)) (past b (and_parts (good a) (good b) g1.0).1 ts tail h) (λ y k. k))
           )
     ]
 past (Opt a) g ts tail (inl h) = empty_past (Opt a) ts tail h
@@ -261,13 +257,13 @@ past (Opt a) g ts tail (inr h) =
       | inl z ↦ empty_past (Opt a) ts tail z
       | inr z ↦ (
           let t = heads_append (firsts a) ts tail z in
-          rw t (left_bind (length tail) (read a (ts ++ tail)) (λ x. Ok (Some x.0, x.1)) (past a (both (good a) (not (nullable a)) g).0 ts tail h) (λ y k. k))
+          rw t (left_bind (length tail) (read a (ts ++ tail)) (λ x. Ok (Some x.0, x.1)) (past a (and_parts (good a) (not (nullable a)) g).0 ts tail h) (λ y k. k))
           )
     ]
 past (Many a) g ts tail h =
-    let g1 = both (good a && not (nullable a)) (disjoint (exts a) (firsts a)) g in
-    let g2 = both (good a) (not (nullable a)) g1.0 in
-    let p = many_past a (complete a g2.0) (past a g2.0) (not_true (nullable a) g2.1) g1.1 (length (ts ++ tail)) h.0 h.1 tail h.3.0.0 (let l = length-append ts tail in let m = ap length h.2 in omega arith) h.3.0.1 h.3.1 in
+    let g1 = and_parts (good a && not (nullable a)) (disjoint (exts a) (firsts a)) g in
+    let g2 = and_parts (good a) (not (nullable a)) g1.0 in
+    let p = many_past a (complete a g2.0) (past a g2.0) (not-true (nullable a) g2.1) g1.1 (length (ts ++ tail)) h.0 h.1 tail h.3.0.0 (let l = length-append ts tail in let m = ap length h.2 in omega arith) h.3.0.1 h.3.1 in
     subst (λ (l : List Lexeme). Left (length tail) (repeat (read a) (firsts a) (length (ts ++ tail)) (l ++ tail))) (sym h.2) p
 past (Refuse c k) g ts tail h = empty_past (Refuse c k) ts tail h
 past (Chain c a b) g ts tail h =

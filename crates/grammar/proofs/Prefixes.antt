@@ -20,7 +20,7 @@ further (u ∷ us) ws (p ∷ ps) qs e = let t = tail_same u p (us ++ ws) (ps ++ 
     go same (inl h) = inl (h.0, (λ j. sym same j ∷ h.1 j))
     go same (inr h) = inr (h.0, (λ j. same j ∷ h.1 j), h.2)
 
-none_left : (us ws : List Lexeme) → us ++ ws ≡ [] → us ≡ []
+pub none_left : (us ws : List Lexeme) → us ++ ws ≡ [] → us ≡ []
 none_left [] ws e = refl
 none_left (u ∷ us) ws e = absurd cc
 

@@ -1,7 +1,8 @@
 -- A token that its place refuses is refused as that kind.
 use Rattle.std.proofs.Common.{◌≡◌, ℕ, zero, suc, ◌<◌, Bool, true, false, not, ◌&&◌, cond, List, [], ◌∷◌, ◌++◌, length, Err, refl, sym, ap, ◌∙◌, arith, inl, inr, append_assoc, length-append}
+use Rattle.std.proofs.lemmas.Bool.{and_parts, not-true}
 use Rattle.grammar.specs.Rules.{Lexeme, Kind, Rule, Empty, Tok, Seq, Alt, Opt, Many, Refuse, Chain, Tree, Each, ByFlag, OnFlag, ends, Derives, Refuses, heads, nullable, firsts, exts, disjoint, good, repeat, chain, by_flag, read}
-use Rattle.grammar.proofs.Sets.{both, not_true, heads_left, heads_right, heads_append, heads_some, disjoint_heads}
+use Rattle.grammar.proofs.Sets.{heads_left, heads_right, heads_append, heads_some, disjoint_heads}
 use Rattle.grammar.proofs.Chains.{front_chain, refused_chain}
 use Rattle.grammar.proofs.Exactness.{front_flag, flag_firsts, complete_flag, some_flag, free_flag, good_chain, front, front_each, Complete, complete, some_front}
 
@@ -66,28 +67,28 @@ refused_flag a b ra rb f ts x k tail (inr d) = rw (d.0, rb ts x k tail d.1) refl
 pub refused : (r : Rule) → good r ≡ true → Refusing r
 refused Empty g ts x k tail d = absurd d
 refused (Tok c) g ts x k tail d = absurd d
-refused (Seq a b) g ts x k tail (inl d) = rw (refused a (both (good a) (good b) (both (good a && good b) (disjoint (exts a) (firsts b)) g).0).0 ts x k tail d) refl
+refused (Seq a b) g ts x k tail (inl d) = rw (refused a (and_parts (good a) (good b) (and_parts (good a && good b) (disjoint (exts a) (firsts b)) g).0).0 ts x k tail d) refl
 refused (Seq a b) g ts x k tail (inr d) =
-    let g1 = both (good a && good b) (disjoint (exts a) (firsts b)) g in
-    let g2 = both (good a) (good b) g1.0 in
+    let g1 = and_parts (good a && good b) (disjoint (exts a) (firsts b)) g in
+    let g2 = and_parts (good a) (good b) g1.0 in
     let all : ts ++ x ∷ tail ≡ d.0 ++ (d.1 ++ x ∷ tail) = ap (λ (l : List Lexeme). l ++ x ∷ tail) d.2 ∙ append_assoc d.0 d.1 (x ∷ tail) in
     let f = disjoint_heads (exts a) (firsts b) (d.1 ++ x ∷ tail) g1.1 (refuses_front b d.1 x k tail d.3.1) in
     let e = complete a g2.0 d.0 d.3.0.0 (d.1 ++ x ∷ tail) d.3.0.1 f in
     rw (all, e, refused b g2.1 d.1 x k tail d.3.1) refl
 refused (Alt a b) g ts x k tail (inl d) =
-    let g1 = both (good a && good b) (not (nullable a) && disjoint (firsts a) (firsts b)) g in
-    rw (refuses_front a ts x k tail d, refused a (both (good a) (good b) g1.0).0 ts x k tail d) refl
+    let g1 = and_parts (good a && good b) (not (nullable a) && disjoint (firsts a) (firsts b)) g in
+    rw (refuses_front a ts x k tail d, refused a (and_parts (good a) (good b) g1.0).0 ts x k tail d) refl
 refused (Alt a b) g ts x k tail (inr d) =
-    let g1 = both (good a && good b) (not (nullable a) && disjoint (firsts a) (firsts b)) g in
-    let g3 = both (not (nullable a)) (disjoint (firsts a) (firsts b)) g1.1 in
-    rw (disjoint_heads (firsts a) (firsts b) (ts ++ x ∷ tail) g3.1 (refuses_front b ts x k tail d), refused b (both (good a) (good b) g1.0).1 ts x k tail d) refl
-refused (Opt a) g ts x k tail d = rw (refuses_front a ts x k tail d, refused a (both (good a) (not (nullable a)) g).0 ts x k tail d) refl
+    let g1 = and_parts (good a && good b) (not (nullable a) && disjoint (firsts a) (firsts b)) g in
+    let g3 = and_parts (not (nullable a)) (disjoint (firsts a) (firsts b)) g1.1 in
+    rw (disjoint_heads (firsts a) (firsts b) (ts ++ x ∷ tail) g3.1 (refuses_front b ts x k tail d), refused b (and_parts (good a) (good b) g1.0).1 ts x k tail d) refl
+refused (Opt a) g ts x k tail d = rw (refuses_front a ts x k tail d, refused a (and_parts (good a) (not (nullable a)) g).0 ts x k tail d) refl
 refused (Many a) g ts x k tail d =
-    let g1 = both (good a && not (nullable a)) (disjoint (exts a) (firsts a)) g in
-    let g2 = both (good a) (not (nullable a)) g1.0 in
+    let g1 = and_parts (good a && not (nullable a)) (disjoint (exts a) (firsts a)) g in
+    let g2 = and_parts (good a) (not (nullable a)) g1.0 in
     let all : ts ++ x ∷ tail ≡ d.0 ++ (d.1 ++ x ∷ tail) = ap (λ (l : List Lexeme). l ++ x ∷ tail) d.2 ∙ append_assoc d.0 d.1 (x ∷ tail) in
     let le : length d.0 < length (ts ++ x ∷ tail) = (let l = length-append d.0 d.1 in let m = ap length d.2 in let o = length-append ts (x ∷ tail) in omega arith) in
-    ap (repeat (read a) (firsts a) (length (ts ++ x ∷ tail))) all ∙ refused_each a (complete a g2.0) (refused a g2.0) (not_true (nullable a) g2.1) g1.1 (length (ts ++ x ∷ tail)) d.0 d.1 d.3.0.0 x k tail le d.3.0.1 d.3.1
+    ap (repeat (read a) (firsts a) (length (ts ++ x ∷ tail))) all ∙ refused_each a (complete a g2.0) (refused a g2.0) (not-true (nullable a) g2.1) g1.1 (length (ts ++ x ∷ tail)) d.0 d.1 d.3.0.0 x k tail le d.3.0.1 d.3.1
 refused (Refuse c j) g ts x k tail d = rw (d.0, d.1, d.2) refl
 refused (Chain c a b) g ts x k tail d =
     let q = good_chain c a b g in

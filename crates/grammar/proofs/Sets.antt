@@ -1,26 +1,10 @@
 -- Sets of classes, and tests on the next token.
-use Rattle.std.proofs.Common.{◌≡◌, ℕ, ◌≤◌, ◌==◌, Bool, true, false, not, ◌&&◌, ◌||◌, List, [], ◌∷◌, ◌++◌, length, refl, sym, subst, ◌∙◌, arith, inl, inr}
+use Rattle.std.proofs.Common.{◌≡◌, ℕ, ◌≤◌, ◌==◌, Bool, true, false, not, List, [], ◌∷◌, ◌++◌, length, refl, sym, subst, ◌∙◌, arith, inl, inr}
 use Rattle.std.specs.Prelude.{◌⊎◌}
 use Rattle.std.specs.List.{list_all}
 use Rattle.std.proofs.lemmas.List.Folds.{list_any-append}
-use Rattle.std.proofs.lemmas.Bool.{eqb-true}
+use Rattle.std.proofs.lemmas.Bool.{eqb-true, and_parts, or_cases, or_left, or_right, or_parts, not-true}
 use Rattle.grammar.specs.Rules.{Lexeme, member, heads, disjoint}
-
-pub both : (a b : Bool) → (a && b) ≡ true → (a ≡ true) × (b ≡ true)
-both true b h = (refl, h)
-both false b h = absurd cc
-
-pub not_true : (b : Bool) → not b ≡ true → b ≡ false
-not_true true h = absurd cc
-not_true false h = refl
-
-neither : (a b : Bool) → (a || b) ≡ false → (a ≡ false) × (b ≡ false)
-neither true b h = absurd cc
-neither false b h = (refl, h)
-
-either : (a b : Bool) → (a || b) ≡ true → (a ≡ true) ⊎ (b ≡ true)
-either true b h = inl refl
-either false b h = inr h
 
 pub one_way : (b : Bool) → (b ≡ true) ⊎ (b ≡ false)
 one_way true = inl refl
@@ -28,15 +12,7 @@ one_way false = inr refl
 
 pub heads_split : (cs ds : List ℕ) (ts : List Lexeme) → heads (cs ++ ds) ts ≡ false → (heads cs ts ≡ false) × (heads ds ts ≡ false)
 heads_split cs ds [] h = (refl, refl)
-heads_split cs ds (x ∷ xs) h = neither (member x.class cs) (member x.class ds) (sym (list_any-append (λ d. d == x.class) cs ds) ∙ h)
-
-or_left : (a b : Bool) → a ≡ true → (a || b) ≡ true
-or_left true b h = refl
-or_left false b h = absurd cc
-
-or_right : (a b : Bool) → b ≡ true → (a || b) ≡ true
-or_right true b h = refl
-or_right false b h = h
+heads_split cs ds (x ∷ xs) h = or_parts (member x.class cs) (member x.class ds) (sym (list_any-append (λ d. d == x.class) cs ds) ∙ h)
 
 pub heads_left : (cs ds : List ℕ) (ts : List Lexeme) → heads cs ts ≡ true → heads (cs ++ ds) ts ≡ true
 heads_left cs ds [] h = absurd cc
@@ -58,8 +34,8 @@ heads_some cs (x ∷ xs) h = omega arith
 all_at : (p : ℕ → Bool) (cs : List ℕ) (c : ℕ) → list_all p cs ≡ true → member c cs ≡ true → p c ≡ true
 all_at p [] c h m = absurd cc
 all_at p (d ∷ ds) c h m =
-    let b = both (p d) (list_all p ds) h in
-    elim (either (d == c) (member c ds) m) [
+    let b = and_parts (p d) (list_all p ds) h in
+    elim (or_cases (d == c) (member c ds) m) [
       | inl e ↦ subst (λ (k : ℕ). p k ≡ true) (eqb-true d c e) b.0
       | inr e ↦ all_at p ds c b.1 e
     ]
@@ -68,6 +44,6 @@ pub disjoint_heads : (cs ds : List ℕ) (ts : List Lexeme) → disjoint cs ds �
 disjoint_heads cs ds [] h m = refl
 disjoint_heads cs ds (x ∷ xs) h m =
     elim (one_way (member x.class cs)) [
-      | inl e ↦ absurd (let n = not_true (member x.class ds) (all_at (λ c. not (member c ds)) cs x.class h e) in cc)
+      | inl e ↦ absurd (let n = not-true (member x.class ds) (all_at (λ c. not (member c ds)) cs x.class h e) in cc)
       | inr e ↦ e
     ]

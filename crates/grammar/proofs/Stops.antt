@@ -24,9 +24,6 @@ why_more : (r q : Rule) (us ws : List Lexeme) (e : Stop) → ((x : Lexeme) (k : 
 why_more r q us ws e f (inl h) = inl h
 why_more r q us ws e f (inr h) = inr (h.0, h.1, h.2, f h.0 e.0 h.3)
 
-abbrev ManySoFar : Rule → List Lexeme → Stop → Type 0
-ManySoFar a ts e = (us : List Lexeme) × (ts ≡ us ++ e.1) × Begins (Many a) us × Why (Many a) us e
-
 stopped_each : (a : Rule) → ((ts : List Lexeme) (e : Stop) → read a ts ≡ Err e → Stopped a ts e)
     → (n : ℕ) (ts : List Lexeme) (e : Stop) → repeat (read a) (firsts a) n ts ≡ Err e → Stopped (Many a) ts e
 stopped_each a one zero ts e h = ok_err ([], ts) e h

@@ -1,7 +1,7 @@
 -- Rules that are alike but for what may stand behind their last token.
 use Rattle.std.proofs.Common.{◌≡◌, ℕ, ◌==◌, ◌&&◌, ◌||◌, Bool, true, false, List, [], ◌∷◌, ◌++◌, Option, Some, None, refl, sym, ap, subst, ◌∙◌, inl, inr, append_assoc}
 use Rattle.std.specs.Prelude.{◌⊎◌}
-use Rattle.std.proofs.lemmas.Bool.{eq-eqb}
+use Rattle.std.proofs.lemmas.Bool.{eq-eqb, or_parts}
 use Rattle.std.proofs.lemmas.List.{append-nil}
 use Rattle.grammar.specs.Rules.{Lexeme, Rule, Empty, Tok, Seq, Alt, Opt, Many, Refuse, Chain, Tree, Cut, Each, ends, nullable, heads, firsts, Derives, Begins}
 use Rattle.grammar.proofs.Binds.{regroup}
@@ -9,10 +9,6 @@ use Rattle.grammar.proofs.Exactness.{front}
 use Rattle.grammar.proofs.Past.{derives_begins}
 use Rattle.grammar.proofs.Chains.{ends-append}
 use Rattle.grammar.proofs.Same.{HasTree, Splits, SplitsBegun}
-
-neither : (a b : Bool) → (a || b) ≡ false → (a ≡ false) × (b ≡ false)
-neither true b h = absurd cc
-neither false b h = (refl, h)
 
 -- whether a text of the rule may end with a token of the class
 abbrev pub may_end : ℕ → Rule → Bool
@@ -43,7 +39,7 @@ pub quiet : (c : ℕ) (r : Rule) → may_end c r ≡ false → (us : List Lexeme
 quiet c Empty m us v d = inl d
 quiet c (Tok d) m us x h = inr (λ f. rw (h.0, h.1) m)
 quiet c (Seq a b) m us v d =
-    let k = neither (may_end c b) (nullable b && may_end c a) m in
+    let k = or_parts (may_end c b) (nullable b && may_end c a) m in
     elim (quiet c b k.0 d.1 v.1 d.3.1) [
       | inl z ↦ (
           let e : us ≡ d.0 = d.2 ∙ ap (λ (l : List Lexeme). d.0 ++ l) z ∙ append-nil d.0 in
@@ -54,8 +50,8 @@ quiet c (Seq a b) m us v d =
           )
       | inr z ↦ quiet_two c us d.0 d.1 d.2 z
     ]
-quiet c (Alt a b) m us (inl v) d = quiet c a (neither (may_end c a) (may_end c b) m).0 us v d
-quiet c (Alt a b) m us (inr v) d = quiet c b (neither (may_end c a) (may_end c b) m).1 us v d
+quiet c (Alt a b) m us (inl v) d = quiet c a (or_parts (may_end c a) (may_end c b) m).0 us v d
+quiet c (Alt a b) m us (inr v) d = quiet c b (or_parts (may_end c a) (may_end c b) m).1 us v d
 quiet c (Opt a) m us None d = inl d
 quiet c (Opt a) m us (Some v) d = quiet c a m us v d
 quiet c (Many a) m us vs d = quiet_each c a (quiet c a m) us vs d

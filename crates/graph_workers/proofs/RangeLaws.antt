@@ -3,9 +3,9 @@ use Rattle.std.proofs.Common.{◌≡◌, ℕ, ◌+◌, List, [], ◌∷◌, ◌+
 use Rattle.std.specs.Prelude.{slice_get}
 use Rattle.std.proofs.lemmas.List.{append-nil, drop_all}
 use Rattle.ir_core.specs.Module.{Function, Module}
+use Rattle.ir_core.proofs.Gets.{next_left}
 use Rattle.range_workers.specs.Follow.{Follow}
 use Rattle.call_graph.specs.Calls.{calls_in, graph_of}
-use Rattle.call_graph.proofs.Marking.{next_left}
 use Rattle.graph_workers.specs.Ranges.{AreCalls}
 
 -- the calls of one function more

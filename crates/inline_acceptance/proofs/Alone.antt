@@ -8,23 +8,24 @@ use Rattle.ir_core.specs.declared.places.Item.TheVariants as item
 use Rattle.ir_core.specs.Module.{Function, Module}
 use Rattle.ir_core.specs.Lookup.{find_function, definitions, block_numbers}
 use Rattle.ir_core.specs.WellFormed.{WellFormed}
+use Rattle.ir_core.proofs.Gets.{some_same, in_get}
+use Rattle.ir_core.proofs.Equal.{cases_name}
 use Rattle.ir_semantics.specs.Accepted.{RulesHold, HoldsAtCallee, Rule, signature_mismatch}
 use Rattle.ir_semantics.specs.CallRules.{Declared}
 use Rattle.ir_semantics.specs.Canon.{canonical, canonical_names, SameFunction}
 use Rattle.ir_semantics.specs.Import.{sigs_after}
 use Rattle.ir_semantics.specs.Splice.{Splicing, sides, spliced}
-use Rattle.inline_outcomes.proofs.Local.{some_same}
 use Rattle.inline_outcomes.proofs.Related.{Distinct}
 use Rattle.inline_outcomes.proofs.Linking.{distinct_sides}
 use Rattle.inline_outcomes.proofs.Merging.{own_sig, other_sig}
-use Rattle.inline_outcomes.proofs.Functions.{cases_named, function_hit, function_skip}
+use Rattle.inline_outcomes.proofs.Functions.{function_hit, function_skip}
 use Rattle.inline_acceptance.specs.Alone.{AcceptedAlone, AloneParts, CallSite, StatesCaller, SpliceAlone}
 use Rattle.inline_outcomes.proofs.Numbering.{place_injective, back_names, back_is_injective, back_rest, canonical_back}
 use Rattle.inline_acceptance.proofs.KeptCanon.{back_typed}
 use Rattle.inline_acceptance.proofs.KeptNumbers.{renumbered_accepted, canonical_typed}
 use Rattle.inline_acceptance.proofs.KeptTypes.{Apart, apart_sides}
 use Rattle.inline_acceptance.proofs.KeptLines.{Setting}
-use Rattle.inline_acceptance.proofs.KeptFunctions.{sound, in_get, out_accepted, declaration_of}
+use Rattle.inline_acceptance.proofs.KeptFunctions.{sound, out_accepted, declaration_of}
 use Rattle.inline_acceptance.proofs.KeptModules.{out_whole}
 
 -- ---- the module that has one function
@@ -34,7 +35,7 @@ alone_accepted f ok = ok f (inl refl)
 
 found_alone : (n : FuncName) (f h : Function) → find_function n (f ∷ []) ≡ Some h → (f.name ≡ n) × (h ≡ f)
 found_alone n f h q =
-    elim (cases_named f.name n) [
+    elim (cases_name f.name n) [
       | inl e ↦ (e, some_same (sym q ∙ function_hit n f [] e))
       | inr e ↦ let none : None ≡ Some h = sym (function_skip n f [] e) ∙ q in cc
     ]

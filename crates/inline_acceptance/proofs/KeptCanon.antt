@@ -8,10 +8,10 @@ use Rattle.ir_core.specs.Lists.{In, Each, Different}
 use Rattle.ir_semantics.specs.Accepted.{RulesHold, Accepted}
 use Rattle.ir_semantics.specs.Canon.{canonical_names, canonical, canonical_module}
 use Rattle.ir_core.specs.WellFormed.{WellFormed, DifferentNames}
+use Rattle.ir_core.proofs.Gets.{some_same}
+use Rattle.ir_core.proofs.Members.{each_in, in_map, map_in}
 use Rattle.inline_acceptance.specs.Laws.{NumberingAccepted}
-use Rattle.inline_outcomes.proofs.Local.{some_same}
 use Rattle.inline_outcomes.proofs.Numbering.{place_hit, place_skip, place_injective, Under, back, back_is, back_place, above, under_above, name_kept, function_map, function_none, back_names, back_is_injective, back_value, back_rest, canonical_back}
-use Rattle.inline_acceptance.proofs.KeptLists.{each_in, in_map, map_in}
 use Rattle.inline_acceptance.proofs.KeptNumbers.{renumbered_accepted, order_from, undefined, canonical_typed}
 
 -- ---- numbers changed back

@@ -3,19 +3,20 @@
 use Rattle.std.proofs.Common.{◌≡◌, ℕ, suc, ◌≤◌, ◌<◌, ◌+◌, inl, inr, ◌⊎◌, List, [], ◌∷◌, ◌++◌, length, map, Some, refl, sym, ap, ap₂, ◌∙◌, subst, arith, eq-eqb, ne_eqb}
 use Rattle.std.specs.Prelude.{slice_get, nat_eq, if◌then◌else◌}
 use Rattle.std.proofs.lemmas.Bool.{cases_eq}
+use Rattle.std.proofs.lemmas.List.{map-append}
 use Rattle.exn_tables.specs.declared.table.Entry.{Entry}
 use Rattle.ir_core.specs.declared.signatures.Ty.{Ty}
 use Rattle.ir_core.specs.declared.instructions.BlockCall.{BlockCall}
 use Rattle.ir_core.specs.Module.{Branches, Call, Instruction, Line, Block, Plain, Return, ReturnCall, SequencePoint, TryCall}
 use Rattle.ir_core.specs.Lookup.{type_in, definitions, line_definitions}
 use Rattle.ir_core.specs.Lists.{In, Different}
+use Rattle.ir_core.proofs.Members.{map_in}
+use Rattle.ir_core.proofs.Splitting.{definitions_join}
 use Rattle.ir_semantics.specs.TypeRules.{types_of, each_some}
 use Rattle.ir_semantics.specs.Renaming.{Renaming, line_under, block_under}
 use Rattle.ir_semantics.specs.Splice.{Kind, Last, Fragment, Splicing, Tries, Within, body, from, kind_of, line_types, new_results, new_types, new_types_by, fragment, fragment_by, tries_fragment, typed_results, with_type, within_fragment}
 use Rattle.inline_outcomes.proofs.Local.{Injective}
 use Rattle.inline_outcomes.proofs.Related.{Distinct}
-use Rattle.inline_acceptance.proofs.KeptLists.{map_in}
-use Rattle.inline_acceptance.proofs.KeptRules.{map_append}
 use Rattle.inline_acceptance.proofs.KeptTypes.{Apart}
 
 pub count : ℕ → List ℕ → ℕ
@@ -100,14 +101,6 @@ same_map h inj xs ys same u = by (none_or_map h u xs) (none_or_map h u ys)
 
 -- ---- definitions of joined and renamed blocks
 
-pub definitions_append : (a b : List Block) → definitions (a ++ b) ≡ definitions a ++ definitions b
-definitions_append [] b = refl
-definitions_append (x ∷ a) b = ap (λ z. x.params ++ (line_definitions x.lines ++ z)) (definitions_append a b) ∙ ap (λ z. x.params ++ z) (assoc (line_definitions x.lines) (definitions a) (definitions b)) ∙ assoc x.params (line_definitions x.lines ++ definitions a) (definitions b)
-  where
-    assoc : (xs ys zs : List ℕ) → xs ++ (ys ++ zs) ≡ (xs ++ ys) ++ zs
-    assoc [] ys zs = refl
-    assoc (x ∷ xs) ys zs = ap (λ z. x ∷ z) (assoc xs ys zs)
-
 pub lines_append : (u : ℕ) (a b : List Line) → count u (line_definitions (a ++ b)) ≡ count u (line_definitions a) + count u (line_definitions b)
 lines_append u [] b = let e = count_none u in omega (arith, e)
 lines_append u (l ∷ a) b =
@@ -117,12 +110,12 @@ lines_append u (l ∷ a) b =
 
 pub lines_under : (r : Renaming) (ls : List Line) → line_definitions (map (line_under r) ls) ≡ map r.value (line_definitions ls)
 lines_under r [] = refl
-lines_under r (l ∷ ls) = ap (λ z. map r.value l.results ++ z) (lines_under r ls) ∙ sym (map_append r.value l.results (line_definitions ls))
+lines_under r (l ∷ ls) = ap (λ z. map r.value l.results ++ z) (lines_under r ls) ∙ sym (map-append r.value l.results (line_definitions ls))
 
 pub blocks_under : (r : Renaming) (bs : List Block) → definitions (map (block_under r) bs) ≡ map r.value (definitions bs)
 blocks_under r [] = refl
 blocks_under r (b ∷ bs) =
-    ap₂ (λ x y. map r.value b.params ++ (x ++ y)) (lines_under r b.lines) (blocks_under r bs) ∙ ap (λ z. map r.value b.params ++ z) (sym (map_append r.value (line_definitions b.lines) (definitions bs))) ∙ sym (map_append r.value b.params (line_definitions b.lines ++ definitions bs))
+    ap₂ (λ x y. map r.value b.params ++ (x ++ y)) (lines_under r b.lines) (blocks_under r bs) ∙ ap (λ z. map r.value b.params ++ z) (sym (map-append r.value (line_definitions b.lines) (definitions bs))) ∙ sym (map-append r.value b.params (line_definitions b.lines ++ definitions bs))
 
 -- the values of a list of typed ones
 abbrev pub values : List (ℕ × Ty) → List ℕ
@@ -193,8 +186,8 @@ module _ (S : Splicing) (names : Distinct S.naming) (news : Apart S.naming) wher
     piece_given c j (i ∷ is) h =
         let ih = piece_given c (suc j) is (λ s l q. h (suc s) l q) in
         let now = by_given (kind_of S.site.inst) refl c j i (h 0 i refl) (fragment S c (suc j) is) in
-        let a = ap (count u) (map_append S.naming.callee_value i.results (line_definitions is)) ∙ count_append u (map S.naming.callee_value i.results) (map S.naming.callee_value (line_definitions is)) in
-        let b = ap (count u) (map_append (λ (x : ℕ × Ty). x.0) (new_types_by S c (kind_of S.site.inst) i.inst) (line_types S c is)) ∙ count_append u (values (new_types_by S c (kind_of S.site.inst) i.inst)) (values (line_types S c is)) in omega (arith, ih, now, a, b)
+        let a = ap (count u) (map-append S.naming.callee_value i.results (line_definitions is)) ∙ count_append u (map S.naming.callee_value i.results) (map S.naming.callee_value (line_definitions is)) in
+        let b = ap (count u) (map-append (λ (x : ℕ × Ty). x.0) (new_types_by S c (kind_of S.site.inst) i.inst) (line_types S c is)) ∙ count_append u (values (new_types_by S c (kind_of S.site.inst) i.inst)) (values (line_types S c is)) in omega (arith, ih, now, a, b)
 
     pub body_given : (gs : List Block) → ((b : Block) → In b gs → (s : ℕ) (l : Line) → slice_get b.lines s ≡ Some l → NoResults l.inst l) → count u (definitions (body S gs)) ≡ count u (map S.naming.callee_value (definitions gs)) + count u (values (new_types S gs))
     body_given [] h = let b = count_none u in omega (arith, b)
@@ -205,7 +198,7 @@ module _ (S : Splicing) (names : Distinct S.naming) (news : Apart S.naming) wher
         let ps = map S.naming.callee_value b.params in
         let a1 = count_append u ps (line_definitions P.lines ++ definitions (P.more ++ body S gs)) in
         let a2 = count_append u (line_definitions P.lines) (definitions (P.more ++ body S gs)) in
-        let a3 = ap (count u) (definitions_append P.more (body S gs)) ∙ count_append u (definitions P.more) (definitions (body S gs)) in
-        let b1 = ap (count u) (map_append S.naming.callee_value b.params (line_definitions b.lines ++ definitions gs)) ∙ count_append u ps (map S.naming.callee_value (line_definitions b.lines ++ definitions gs)) in
-        let b2 = ap (count u) (map_append S.naming.callee_value (line_definitions b.lines) (definitions gs)) ∙ count_append u (map S.naming.callee_value (line_definitions b.lines)) (map S.naming.callee_value (definitions gs)) in
-        let b3 = ap (count u) (map_append (λ (x : ℕ × Ty). x.0) (line_types S b.number b.lines) (new_types S gs)) ∙ count_append u (values (line_types S b.number b.lines)) (values (new_types S gs)) in omega (arith, ih, now, a1, a2, a3, b1, b2, b3)
+        let a3 = ap (count u) (definitions_join P.more (body S gs)) ∙ count_append u (definitions P.more) (definitions (body S gs)) in
+        let b1 = ap (count u) (map-append S.naming.callee_value b.params (line_definitions b.lines ++ definitions gs)) ∙ count_append u ps (map S.naming.callee_value (line_definitions b.lines ++ definitions gs)) in
+        let b2 = ap (count u) (map-append S.naming.callee_value (line_definitions b.lines) (definitions gs)) ∙ count_append u (map S.naming.callee_value (line_definitions b.lines)) (map S.naming.callee_value (definitions gs)) in
+        let b3 = ap (count u) (map-append (λ (x : ℕ × Ty). x.0) (line_types S b.number b.lines) (new_types S gs)) ∙ count_append u (values (line_types S b.number b.lines)) (values (new_types S gs)) in omega (arith, ih, now, a1, a2, a3, b1, b2, b3)

@@ -19,11 +19,13 @@ use Rattle.ir_core.specs.Lists.{Each}
 use Rattle.ir_core.specs.Uses.{branch_targets}
 use Rattle.ir_semantics.specs.TypeRules.{HaveTypes, types_of, each_some}
 use Rattle.ir_core.specs.Forms.{access_type}
+use Rattle.ir_core.proofs.Members.{each_join}
 use Rattle.ir_semantics.specs.Renaming.{Renaming, arg_under, target_under, simple_under, branch_under, called_under, entry_under, instruction_under, tag_under}
 use Rattle.ir_semantics.specs.Splice.{tags_before}
+use Rattle.ir_semantics.proofs.SafetyPlaces.{some_and}
 use Rattle.ir_text.specs.Writable.{ResultTypes, OpForm, conversion, result_types, AccessForm, NarrowSuffix, SimpleForm, BranchForm, InstructionForm, TargetWritable, ValueArg, NormalArg, TableArg, TableWritable, TagWritable}
 use Rattle.inline_outcomes.proofs.Frames.{Embeds}
-use Rattle.inline_acceptance.proofs.KeptLists.{some_and, and_some, each_map, each_append, length_map, targets_under}
+use Rattle.inline_acceptance.proofs.KeptLists.{and_some, each_map, length_map, targets_under}
 use Rattle.inline_acceptance.proofs.KeptRules.{sig_under, some_map}
 
 -- values that have the types have the types of a form's results
@@ -31,9 +33,6 @@ pub results_of : (f : Function) (vs : List ℕ) (ts : List Ty) → HaveTypes f v
 results_of f [] ts h = tt
 results_of f (v ∷ vs) [] h = cc
 results_of f (v ∷ vs) (t ∷ ts) h = ((let e : type_of f v ≡ Some t = cc in e), results_of f vs ts (let e : types_of f vs ≡ each_some ts = cc in e))
-
-pub results_none : (f : Function) (vs : List ℕ) (ts : List Ty) → vs ≡ [] → ResultTypes f vs ts
-results_none f vs ts h = subst (λ z. ResultTypes f z ts) (sym h) tt
 
 -- ---- tags
 
@@ -43,10 +42,10 @@ tags_written r (tag.User n ∷ ts) h = (h.0, tags_written r ts h.1)
 tags_written r (tag.Slot k ∷ ts) h = (tt, tags_written r ts h.1)
 
 pub joined_written : (i : Instruction) (us ts : List Tag) → Each TagWritable us → Each TagWritable ts → Each TagWritable (tags_before i us ts)
-joined_written SequencePoint us ts a b = each_append TagWritable us ts a b
-joined_written (Call t c) us ts a b = each_append TagWritable us ts a b
-joined_written (ReturnCall t c) us ts a b = each_append TagWritable us ts a b
-joined_written (TryCall t c d e f) us ts a b = each_append TagWritable us ts a b
+joined_written SequencePoint us ts a b = each_join TagWritable us ts a b
+joined_written (Call t c) us ts a b = each_join TagWritable us ts a b
+joined_written (ReturnCall t c) us ts a b = each_join TagWritable us ts a b
+joined_written (TryCall t c d e f) us ts a b = each_join TagWritable us ts a b
 joined_written (Plain p) us ts a b = b
 joined_written (Branches p) us ts a b = b
 joined_written (Return p) us ts a b = b

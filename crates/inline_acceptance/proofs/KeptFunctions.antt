@@ -1,5 +1,5 @@
 -- A splice of whole and accepted functions is accepted, and so is the module with it.
-use Rattle.std.proofs.Common.{◌≡◌, ◌≢◌, ℕ, zero, suc, ◌+◌, inl, inr, ◌⊎◌, List, [], ◌∷◌, ◌++◌, length, map, Option, Some, None, Bool, false, true, refl, sym, ap, ◌∙◌, subst, arith}
+use Rattle.std.proofs.Common.{◌≡◌, ◌≢◌, ℕ, suc, ◌+◌, inl, inr, ◌⊎◌, List, [], ◌∷◌, ◌++◌, length, map, Option, Some, None, Bool, false, true, refl, sym, ap, ◌∙◌, subst, arith}
 use Rattle.std.specs.Prelude.{slice_get, if◌then◌else◌}
 use Rattle.ir_core.specs.declared.names.FuncName.{FuncName}
 use Rattle.ir_core.specs.declared.signatures.Sig.{Sig}
@@ -18,12 +18,14 @@ use Rattle.ir_core.specs.WellFormed.{WellFormed}
 use Rattle.ir_semantics.specs.Import.{with_item, with_items, sigs_after, callee_with, callees_with, callees_after, same_callee}
 use Rattle.ir_semantics.specs.Renaming.{line_under}
 use Rattle.ir_semantics.specs.Splice.{Splicing, caller_names, first_number, jump_in, fragment, replace, spliced}
-use Rattle.inline_outcomes.proofs.Local.{some_same}
+use Rattle.ir_semantics.proofs.SafetyPlaces.{some_and}
 use Rattle.inline_outcomes.proofs.Places.{find_hit}
 use Rattle.inline_outcomes.proofs.Merging.{own_sig, other_sig}
-use Rattle.inline_outcomes.proofs.Functions.{cases_named, replaced, others_stay}
-use Rattle.ir_core.proofs.Equal.{equal_name}
-use Rattle.inline_acceptance.proofs.KeptLists.{some_and, each_in, length_map, get_map, get_after}
+use Rattle.inline_outcomes.proofs.Functions.{replaced, others_stay}
+use Rattle.ir_core.proofs.Equal.{equal_name, cases_name}
+use Rattle.ir_core.proofs.Gets.{some_same, get_mapped, in_get, get_in}
+use Rattle.ir_core.proofs.Members.{each_in}
+use Rattle.inline_acceptance.proofs.KeptLists.{length_map, get_after}
 use Rattle.inline_acceptance.proofs.Points.{from_is, to_ending, of_ending, piece_first, BlockOf, of_f, of_cut, of_g, of_after, block_of}
 use Rattle.inline_acceptance.proofs.KeptPaths.{Sound, LineFrom, known, site_get, site_goes}
 use Rattle.inline_acceptance.proofs.KeptTraces.{out_first}
@@ -77,16 +79,6 @@ sound m f ok whole =
 
 -- ---- members of lists by their places
 
-pub in_get : {A : Type 0} (xs : List A) (a : A) → In a xs → (k : ℕ) × (slice_get xs k ≡ Some a)
-in_get [] a p = elim p [ ]
-in_get (x ∷ xs) a (inl p) = (0, ap Some (sym p))
-in_get (x ∷ xs) a (inr p) = let u = in_get xs a p in (suc u.0, u.1)
-
-pub get_in : {A : Type 0} (xs : List A) (k : ℕ) (a : A) → slice_get xs k ≡ Some a → In a xs
-get_in [] k a h = cc
-get_in (x ∷ xs) zero a h = inl (sym (some_same h))
-get_in (x ∷ xs) (suc k) a h = inr (get_in xs k a h)
-
 in_item : {A : Type 0} (same : A → A → Bool) (a : A) (ys : List A) (x : A) → In a (with_item same ys x) → In a ys ⊎ (a ≡ x)
 in_item same a [] x (inl q) = inr q
 in_item same a [] x (inr q) = elim q [ ]
@@ -127,7 +119,7 @@ module _ (m : Module) (S : Splicing) (E : Setting m S) where
       seen ls e l h = is_filled k'.lines l (ap (λ z. slice_get z 0) e ∙ h)
 
       by : BlockOf S E.names E.site.block S.caller.blocks x k' → k'.lines ≢ []
-      by (of_f b k name q off is) = let a = E.f_ok.lines b k q in seen (map (line_under (caller_names S)) k.lines) (ap (λ z. z.lines) is) (line_under (caller_names S) a.0) (get_map (line_under (caller_names S)) k.lines 0 a.0 a.1)
+      by (of_f b k name q off is) = let a = E.f_ok.lines b k q in seen (map (line_under (caller_names S)) k.lines) (ap (λ z. z.lines) is) (line_under (caller_names S) a.0) (get_mapped (line_under (caller_names S)) k.lines 0 a.0 a.1)
       by (of_cut name is) = let a = cut_first S.before in seen (map (line_under (caller_names S)) S.before ++ (jump_in S ∷ [])) (ap (λ z. z.lines) is) a.0 a.1
         where
           cut_first : (ls : List Line) → (c : Line) × (slice_get (map (line_under (caller_names S)) ls ++ (jump_in S ∷ [])) 0 ≡ Some c)
@@ -137,7 +129,7 @@ module _ (m : Module) (S : Splicing) (E : Setting m S) where
           let a = (E.f_ok.ends S.at E.site.block (length S.before) S.site E.site.block_found (site_get m S E.names E.site E.f_ok E.g_ok)).goes (site_goes S.site.inst E.site.callee E.site.is_call within) in
           let z : suc (length S.before) ≡ suc (length S.before + 0) = omega arith in
           let got : slice_get S.behind 0 ≡ Some a.0 = sym (get_after S.before S.site S.behind 0) ∙ ap (λ ls. slice_get ls (suc (length S.before + 0))) (sym E.site.lines) ∙ ap (slice_get E.site.block.lines) (sym z) ∙ a.1 in
-          seen (map (line_under (caller_names S)) S.behind) (ap (λ y. y.lines) is) (line_under (caller_names S) a.0) (get_map (line_under (caller_names S)) S.behind 0 a.0 got)
+          seen (map (line_under (caller_names S)) S.behind) (ap (λ y. y.lines) is) (line_under (caller_names S) a.0) (get_mapped (line_under (caller_names S)) S.behind 0 a.0 got)
       by (of_g o) =
           elim o.which [
             | inl u ↦ let a = E.g_ok.lines o.c o.k o.found in let b = piece_first S E.names o.c 0 o.k.lines a.0 a.1 in seen (fragment S o.c 0 o.k.lines).lines u.2 b.0 b.1
@@ -210,7 +202,7 @@ module _ (m : Module) (S : Splicing) (E : Setting m S) where
 
     still_declared : (name : FuncName) (o : Option Sig) → ((h : Function) → find_function name m ≡ Some h → o ≡ Some h.sig) → (h : Function) → find_function name (replace (spliced S) m) ≡ Some h → o ≡ Some h.sig
     still_declared name o old h q =
-        elim (cases_named name S.caller.name) [
+        elim (cases_name name S.caller.name) [
           | inl e ↦
               let there = replaced (spliced S) m S.caller caller_there in
               let same : spliced S ≡ h = some_same (sym there ∙ ap (λ z. find_function z (replace (spliced S) m)) (sym e) ∙ q) in

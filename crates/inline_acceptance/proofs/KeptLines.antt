@@ -21,20 +21,23 @@ use Rattle.ir_semantics.specs.CallRules.{InstructionTags}
 use Rattle.ir_semantics.specs.CountRules.{CallCounts, TargetCounts, ArgCounts}
 use Rattle.ir_semantics.specs.TypeRules.{CallTypes, TargetTypes, arg_type, HaveTypes, types_of, each_some}
 use Rattle.ir_core.specs.WellFormed.{WellFormed}
+use Rattle.ir_core.proofs.Gets.{some_same}
+use Rattle.ir_core.proofs.Members.{each_join}
 use Rattle.ir_semantics.specs.Import.{callees_after}
 use Rattle.ir_semantics.specs.Renaming.{Renaming, entry_under, called_under, instruction_under}
 use Rattle.ir_semantics.specs.Splice.{Splicing, callee_names, caller_names, from, jump_to, kind_of, named_sig, or_ret, returned_arg, spliced, to_normal, try_with}
 use Rattle.inline_acceptance.specs.Alone.{CallSite, standing}
-use Rattle.inline_outcomes.proofs.Local.{some_same}
 use Rattle.inline_outcomes.proofs.Frames.{Embeds}
 use Rattle.inline_outcomes.proofs.Related.{Distinct, RestF, RestG}
 use Rattle.inline_outcomes.proofs.Linking.{embeds_f, embeds_g}
-use Rattle.inline_acceptance.proofs.KeptLists.{some_and, and_some, each_map, each_append, length_map, table_under}
+use Rattle.inline_acceptance.proofs.KeptLists.{and_some, each_map, length_map, table_under}
 use Rattle.inline_acceptance.proofs.KeptPaths.{Sound}
 use Rattle.inline_acceptance.proofs.KeptTypes.{Apart, caller_typed, callee_typed, types_from}
 use Rattle.inline_acceptance.proofs.KeptRules.{Leaves, used_under, targets_used_under, called_used_under, vals_typed, targets_counts, targets_types, call_counts, call_types, counts_under, types_under, convention_under, signature_under, slot_under}
 use Rattle.inline_acceptance.proofs.KeptSite.{LineKept, each_split, table_counts, TriesFacts}
 use Rattle.ir_semantics.proofs.Ranges.{length_from}
+use Rattle.ir_semantics.proofs.SafetyPlaces.{some_and}
+use Rattle.ir_semantics.proofs.Arguments.{value_args_used}
 
 -- a splice of whole and accepted functions
 pub record Setting (m : Module) (S : Splicing) : Type 0 where
@@ -78,10 +81,6 @@ pub value_counts : (n : Option ℕ) (vs : List ℕ) → Each (ArgCounts n) (map 
 value_counts n [] = tt
 value_counts n (v ∷ vs) = (tt, value_counts n vs)
 
-pub value_used : (vs : List ℕ) → arg_values_used (map arg.Value vs) ++ [] ≡ vs
-value_used [] = refl
-value_used (v ∷ vs) = ap (λ z. v ∷ z) (value_used vs)
-
 -- ---- arguments that are results
 
 rets_counts : (i j n : ℕ) → i + j ≤ n → Each (ArgCounts (Some n)) (map arg.Ret (from i j))
@@ -91,10 +90,6 @@ rets_counts i (suc j) n h = (omega (arith, h), rets_counts (suc i) j n (omega (a
 rets_types : (f : Function) (ts ps : List Ty) (i j : ℕ) → map (arg_type f ts ps) (map arg.Ret (from i j)) ≡ map (slice_get ts) (from i j)
 rets_types f ts ps i zero = refl
 rets_types f ts ps i (suc j) = ap (λ z. slice_get ts i ∷ z) (rets_types f ts ps (suc i) j)
-
-rets_used : (i j : ℕ) → arg_values_used (map arg.Ret (from i j)) ≡ []
-rets_used i zero = refl
-rets_used i (suc j) = rets_used (suc i) j
 
 length_some : (ts : List Ty) → length (each_some ts) ≡ length ts
 length_some ts = length_map (λ t. Some t) ts
@@ -111,7 +106,7 @@ module _ (m : Module) (S : Splicing) (E : Setting m S) where
         signature = tt;
         slots = tt;
         tags = refl;
-        available = subst (Each (Available (spliced S) x i)) (sym (value_used vs)) av;
+        available = subst (Each (Available (spliced S) x i)) (sym (value_args_used vs)) av;
       }
 
   ef : Embeds S.caller (spliced S) (caller_names S) (RestF S)
@@ -199,7 +194,7 @@ module _ (m : Module) (S : Splicing) (E : Setting m S) where
           signature = tt;
           slots = tt;
           tags = refl;
-          available = each_append (Available (spliced S) x i) (arg_values_used target.args) [] (returned_used (Available (spliced S) x i) own normal.args av) tt;
+          available = each_join (Available (spliced S) x i) (arg_values_used target.args) [] (returned_used (Available (spliced S) x i) own normal.args av) tt;
         }
 
   -- ---- a call of the callee, as a `try_call`
@@ -234,7 +229,7 @@ module _ (m : Module) (S : Splicing) (E : Setting m S) where
           signature = named ∙ ap (signature_of (spliced S)) (sym same);
           slots = tt;
           tags = tt;
-          available = each_append (Available (spliced S) x i) (called_used (call_target t' sg) ++ map S.naming.callee_value args) (targets_used (normal ∷ table_targets table)) (subst (λ u. Each (Available (spliced S) x i) (called_used u ++ map S.naming.callee_value args)) (sym same) (subst (Each (Available (spliced S) x i)) (sym (called_used_under (callee_names S) t args)) av)) one.available;
+          available = each_join (Available (spliced S) x i) (called_used (call_target t' sg) ++ map S.naming.callee_value args) (targets_used (normal ∷ table_targets table)) (subst (λ u. Each (Available (spliced S) x i) (called_used u ++ map S.naming.callee_value args)) (sym same) (subst (Each (Available (spliced S) x i)) (sym (called_used_under (callee_names S) t args)) av)) one.available;
         }
 
   -- the site's table, whatever the call returns

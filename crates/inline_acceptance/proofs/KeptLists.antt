@@ -1,78 +1,38 @@
 -- Members of lists, and what stands in mapped and joined lists.
-use Rattle.std.proofs.Common.{◌≡◌, ℕ, zero, suc, ◌+◌, ◌<◌, ◌⊎◌, inl, inr, List, [], ◌∷◌, ◌++◌, length, map, Option, Some, None, refl, sym, ap, ◌∙◌, subst, arith}
+use Rattle.std.proofs.Common.{◌≡◌, ℕ, zero, suc, ◌+◌, ◌<◌, inl, inr, List, [], ◌∷◌, ◌++◌, length, map, Option, Some, None, refl, sym, ap, ◌∙◌, subst, arith}
 use Rattle.std.specs.Prelude.{slice_get, IsSomeAnd}
 use Rattle.exn_tables.specs.declared.table.Entry.{Entry}
 use Rattle.ir_core.specs.declared.instructions.BlockCall.{BlockCall}
 use Rattle.ir_core.specs.Module.{Jump, Brif, BrTable, Branches, Call, Instruction, Line, Plain, Return, ReturnCall, SequencePoint, TryCall}
 use Rattle.ir_core.specs.Lists.{In, Each}
 use Rattle.ir_core.specs.Uses.{targets, table_targets}
+use Rattle.ir_core.proofs.Gets.{some_same}
+use Rattle.ir_core.proofs.Members.{in_left, in_right, in_cases, in_map, map_in}
 use Rattle.ir_semantics.specs.Renaming.{Renaming, entry_under, instruction_under, target_under}
-use Rattle.inline_outcomes.proofs.Local.{some_same}
-
-pub some_and : {A : Type 0} (o : Option A) (P : A → Type 0) → IsSomeAnd o P → (a : A) × (o ≡ Some a) × P a
-some_and None P h = elim h [ ]
-some_and (Some a) P h = (a, refl, h)
 
 pub and_some : {A : Type 0} (o : Option A) (P : A → Type 0) (a : A) → o ≡ Some a → P a → IsSomeAnd o P
 and_some o P a q h = subst (λ z. IsSomeAnd z P) (sym q) h
-
-pub each_in : {A : Type 0} (P : A → Type 0) (as' : List A) → Each P as' → (a : A) → In a as' → P a
-each_in P [] h a p = elim p [ ]
-each_in P (x ∷ as') h a (inl p) = subst P (sym p) h.0
-each_in P (x ∷ as') h a (inr p) = each_in P as' h.1 a p
-
-pub in_each : {A : Type 0} (P : A → Type 0) (as' : List A) → ((a : A) → In a as' → P a) → Each P as'
-in_each P [] h = tt
-in_each P (x ∷ as') h = (h x (inl refl), in_each P as' (λ a p. h a (inr p)))
 
 pub each_map : {A B : Type 0} (P : A → Type 0) (Q : B → Type 0) (h : A → B) → ((a : A) → P a → Q (h a)) → (as' : List A) → Each P as' → Each Q (map h as')
 each_map P Q h on [] e = tt
 each_map P Q h on (x ∷ as') e = (on x e.0, each_map P Q h on as' e.1)
 
-pub each_append : {A : Type 0} (P : A → Type 0) (xs ys : List A) → Each P xs → Each P ys → Each P (xs ++ ys)
-each_append P [] ys a b = b
-each_append P (x ∷ xs) ys a b = (a.0, each_append P xs ys a.1 b)
-
-pub map_in : {A B : Type 0} (h : A → B) (b : B) (vs : List A) → In b (map h vs) → (a : A) × In a vs × (b ≡ h a)
-map_in h b [] p = elim p [ ]
-map_in h b (x ∷ vs) (inl p) = (x, inl refl, p)
-map_in h b (x ∷ vs) (inr p) = let r = map_in h b vs p in (r.0, inr r.1, r.2)
-
 pub length_map : {A B : Type 0} (h : A → B) (ls : List A) → length (map h ls) ≡ length ls
 length_map h [] = refl
 length_map h (x ∷ ls) = ap suc (length_map h ls)
-
-pub in_split : {A : Type 0} (v : A) (a b : List A) → In v (a ++ b) → In v a ⊎ In v b
-in_split v [] b p = inr p
-in_split v (x ∷ a) b (inl p) = inl (inl p)
-in_split v (x ∷ a) b (inr p) = elim (in_split v a b p) [ inl q ↦ inl (inr q) | inr q ↦ inr q ]
-
-pub in_front : {A : Type 0} (v : A) (a b : List A) → In v a → In v (a ++ b)
-in_front v [] b p = elim p [ ]
-in_front v (x ∷ a) b (inl p) = inl p
-in_front v (x ∷ a) b (inr p) = inr (in_front v a b p)
-
-pub in_back : {A : Type 0} (v : A) (a b : List A) → In v b → In v (a ++ b)
-in_back v [] b p = p
-in_back v (x ∷ a) b p = inr (in_back v a b p)
-
-pub in_map : {A B : Type 0} (h : A → B) (v : A) (vs : List A) → In v vs → In (h v) (map h vs)
-in_map h v [] p = elim p [ ]
-in_map h v (x ∷ vs) (inl p) = inl (ap h p)
-in_map h v (x ∷ vs) (inr p) = inr (in_map h v vs p)
 
 -- each of d is in e, under its new number
 pub record Sub (h : ℕ → ℕ) (d e : List ℕ) : Type 0 where
   pub at : (v : ℕ) → In v d → In (h v) e
 
 pub sub_front : (h : ℕ → ℕ) (us d e : List ℕ) → Sub h d e → Sub h (us ++ d) (map h us ++ e)
-sub_front h us d e s = record { at = λ v p. elim (in_split v us d p) [ inl q ↦ in_front (h v) (map h us) e (in_map h v us q) | inr q ↦ in_back (h v) (map h us) e (s.at v q) ] }
+sub_front h us d e s = record { at = λ v p. elim (in_cases v us d p) [ inl q ↦ in_left (h v) (map h us) e (in_map h v us q) | inr q ↦ in_right (h v) (map h us) e (s.at v q) ] }
 
 pub sub_more : (h : ℕ → ℕ) (us d e : List ℕ) → Sub h d e → Sub h d (us ++ e)
-sub_more h us d e s = record { at = λ v p. in_back (h v) us e (s.at v p) }
+sub_more h us d e s = record { at = λ v p. in_right (h v) us e (s.at v p) }
 
 pub sub_only : (h : ℕ → ℕ) (us e : List ℕ) → Sub h us (map h us ++ e)
-sub_only h us e = record { at = λ v p. in_front (h v) (map h us) e (in_map h v us p) }
+sub_only h us e = record { at = λ v p. in_left (h v) (map h us) e (in_map h v us p) }
 
 -- ---- targets under new names
 
@@ -104,11 +64,6 @@ pub map_get : {A B : Type 0} (h : A → B) (ls : List A) (i : ℕ) (b : B) → s
 map_get h [] i b q = cc
 map_get h (a ∷ ls) zero b q = (a, refl, some_same (sym q))
 map_get h (a ∷ ls) (suc i) b q = map_get h ls i b q
-
-pub get_map : {A B : Type 0} (h : A → B) (ls : List A) (i : ℕ) (a : A) → slice_get ls i ≡ Some a → slice_get (map h ls) i ≡ Some (h a)
-get_map h [] i a q = cc
-get_map h (x ∷ ls) zero a q = ap (λ z. Some (h z)) (some_same q)
-get_map h (x ∷ ls) (suc i) a q = get_map h ls i a q
 
 pub none_map : {A B : Type 0} (h : A → B) (ls : List A) (i : ℕ) → slice_get ls i ≡ None → slice_get (map h ls) i ≡ None
 none_map h [] i q = refl

@@ -1,8 +1,6 @@
 -- A splice of whole functions is whole, and the module with it is one again.
-use Rattle.std.proofs.Common.{◌≡◌, ℕ, zero, suc, ◌<◌, inl, inr, List, [], ◌∷◌, ◌++◌, length, map, Some, Bool, false, true, refl, sym, ap, ◌∙◌, subst, arith}
+use Rattle.std.proofs.Common.{◌≡◌, ℕ, ◌<◌, inl, inr, List, [], ◌∷◌, ◌++◌, length, map, Some, Bool, false, true, refl, sym, ap, ◌∙◌, subst, arith}
 use Rattle.std.specs.Prelude.{slice_get, if◌then◌else◌}
-use Rattle.std.proofs.lemmas.Bool.{cases_eq}
-use Rattle.ir_core.specs.declared.names.FuncName.{FuncName}
 use Rattle.exn_tables.specs.declared.table.Entry.{Entry}
 use Rattle.debug_tags.specs.declared.tags.Tag.{Tag}
 use Rattle.debug_tags.specs.declared.tags.Tag.TheVariants as tag
@@ -20,45 +18,31 @@ use Rattle.ir_semantics.specs.Import.{sigs_after, callee_with, callees_with, cal
 use Rattle.ir_semantics.specs.Renaming.{Renaming, called_under, instruction_under, tag_under}
 use Rattle.ir_semantics.specs.Site.{Site}
 use Rattle.ir_semantics.specs.Splice.{Kind, Last, Splicing, Tries, Within, callee_line, callee_names, caller_names, joined_tags, kind_of, replace, sides, spliced, tags_before}
+use Rattle.ir_semantics.proofs.SafetyPlaces.{line_whole as line_whole_at, has_type, function_in}
 use Rattle.inline_acceptance.specs.Laws.{SpliceAccepted}
 use Rattle.inline_acceptance.specs.Alone.{CallSite, standing}
-use Rattle.inline_outcomes.proofs.Local.{some_same, Fits, named_target, try_target_called}
+use Rattle.inline_outcomes.proofs.Local.{Fits, named_target, try_target_called}
 use Rattle.inline_outcomes.proofs.Related.{Distinct}
-use Rattle.inline_outcomes.proofs.Linking.{embeds_f, embeds_g, get_below, distinct_sides}
-use Rattle.inline_outcomes.proofs.Places.{find_hit, find_skip}
+use Rattle.inline_outcomes.proofs.Linking.{embeds_f, embeds_g, distinct_sides}
 use Rattle.inline_outcomes.proofs.Merging.{own_sig, other_sig}
-use Rattle.inline_outcomes.proofs.Functions.{cases_named, others_stay, function_hit, function_skip}
+use Rattle.inline_outcomes.proofs.Functions.{others_stay}
 use Rattle.ir_core.proofs.Equal.{name_equal, equal_name}
-use Rattle.inline_acceptance.proofs.KeptLists.{each_in, in_each, each_map}
+use Rattle.ir_core.proofs.Gets.{get_some, in_get, get_below}
+use Rattle.ir_core.proofs.Members.{each_by, each_in}
+use Rattle.ir_core.proofs.ByNumber.{in_find}
+use Rattle.inline_acceptance.proofs.KeptLists.{each_map}
 use Rattle.inline_acceptance.proofs.Points.{Trans}
 use Rattle.inline_acceptance.proofs.KeptPaths.{LineFrom, pf, pj, pg, px, known, site_get}
 use Rattle.inline_acceptance.proofs.KeptTraces.{out_first}
 use Rattle.inline_acceptance.proofs.KeptTypes.{Apart, apart_sides}
-use Rattle.inline_acceptance.proofs.KeptSite.{declared_type, param_defined}
+use Rattle.inline_acceptance.proofs.KeptSite.{param_defined}
 use Rattle.inline_acceptance.proofs.KeptLines.{Setting}
 use Rattle.inline_acceptance.proofs.KeptSplice.{line_kept}
-use Rattle.inline_acceptance.proofs.KeptFunctions.{sound, in_get, get_in, in_items, in_with, in_replace, module_accepted}
+use Rattle.inline_acceptance.proofs.KeptFunctions.{sound, in_items, in_with, in_replace, module_accepted}
 use Rattle.inline_acceptance.proofs.KeptCounts.{count_in, in_count, count_different}
 use Rattle.inline_acceptance.proofs.KeptValues.{out_counts, declared_once}
 use Rattle.inline_acceptance.proofs.KeptWhole.{HasType, typed_declared, used_typed, used_blocks, used_slots, used_sigs}
-use Rattle.inline_acceptance.proofs.Unique.{in_find, out_different}
-
-pub get_some : {A : Type 0} (xs : List A) (i : ℕ) → i < length xs → (x : A) × (slice_get xs i ≡ Some x)
-get_some [] i h = absurd (omega arith)
-get_some (x ∷ xs) zero h = (x, refl)
-get_some (x ∷ xs) (suc i) h = get_some xs i (omega (arith, h))
-
-pub find_in : (x : ℕ) (bs : List Block) (k : Block) → find_block x bs ≡ Some k → In k bs
-find_in x [] k h = cc
-find_in x (b ∷ bs) k h = elim (cases_eq b.number x) [ inl q ↦ inl (some_same (sym h ∙ find_hit x b bs q)) | inr q ↦ inr (find_in x bs k (sym (find_skip x b bs q) ∙ h)) ]
-
-pub find_function_in : (x : FuncName) (m : Module) (f : Function) → find_function x m ≡ Some f → In f m
-find_function_in x [] f h = cc
-find_function_in x (k ∷ m) f h = elim (cases_named k.name x) [ inl q ↦ inl (some_same (sym h ∙ function_hit x k m q)) | inr q ↦ inr (find_function_in x m f (sym (function_skip x k m q) ∙ h)) ]
-
--- a line of a whole function is whole
-pub line_whole_at : (f : Function) → WellFormed f → (b : ℕ) (k : Block) (i : ℕ) (l : Line) → find_block b f.blocks ≡ Some k → slice_get k.lines i ≡ Some l → LineWellFormed f l
-line_whole_at f w b k i l found get = each_in (LineWellFormed f) k.lines (each_in (BlockWellFormed f) f.blocks w.lines k (find_in b f.blocks k found)) l (get_in k.lines i l get)
+use Rattle.inline_acceptance.proofs.Unique.{out_different}
 
 -- ---- callees and shown slots under other numbers
 
@@ -191,7 +175,7 @@ module _ (m : Module) (S : Splicing) (E : Setting m S) where
   params_typed x k found v p =
       let a = count_in v (definitions (spliced S).blocks) (param_defined x (spliced S).blocks k found v p) in
       let b = out_counts m S E v in
-      declared_type (spliced S).types v (in_count v (declared (spliced S)) (omega (arith, a, b)))
+      has_type (spliced S).types v (in_count v (declared (spliced S)) (omega (arith, a, b)))
 
   line_whole : (x : ℕ) (k' : Block) → find_block x (spliced S).blocks ≡ Some k' → (i : ℕ) (i' : Line) → slice_get k'.lines i ≡ Some i' → LineWellFormed (spliced S) i'
   line_whole x k' found i i' get =
@@ -199,7 +183,7 @@ module _ (m : Module) (S : Splicing) (E : Setting m S) where
       let lk = line_kept m S E x i i' o in
       let ps = parts x i i' o in
       record {
-        values = in_each (λ v. In v (declared (spliced S))) (values_used i'.inst) (λ v p. let t = each_in (HasType (spliced S)) (values_used i'.inst) (used_typed (spliced S) params_typed i' i'.inst lk.types) v p in typed_declared (spliced S).types v t.0 t.1);
+        values = each_by (λ v. In v (declared (spliced S))) (values_used i'.inst) (λ v p. let t = each_in (HasType (spliced S)) (values_used i'.inst) (used_typed (spliced S) params_typed i' i'.inst lk.types) v p in typed_declared (spliced S).types v t.0 t.1);
         blocks = used_blocks (spliced S) params_typed i' i'.inst lk.counts;
         slots = used_slots (spliced S) params_typed i'.inst lk.slots;
         shown = ps.shown;
@@ -229,8 +213,8 @@ module _ (m : Module) (S : Splicing) (E : Setting m S) where
         defined_once = count_different (definitions (spliced S).blocks) (λ u. let a = declared_once m S E u in let b = out_counts m S E u in omega (arith, a, b));
         defined = λ v p. let a = count_in v (declared (spliced S)) p in let b = out_counts m S E v in in_count v (definitions (spliced S).blocks) (omega (arith, a, b));
         definitions_declared = λ v p. let a = count_in v (definitions (spliced S).blocks) p in let b = out_counts m S E v in in_count v (declared (spliced S)) (omega (arith, a, b));
-        callees = in_each (λ (c : Callee). c.sig < length (spliced S).sigs) (spliced S).callees callee_sigs;
-        lines = in_each (BlockWellFormed (spliced S)) (spliced S).blocks (λ k p. in_each (LineWellFormed (spliced S)) k.lines (λ l q. let g = in_get k.lines l q in line_whole k.number k (in_find k (spliced S).blocks numbers p) g.0 l g.1));
+        callees = each_by (λ (c : Callee). c.sig < length (spliced S).sigs) (spliced S).callees callee_sigs;
+        lines = each_by (BlockWellFormed (spliced S)) (spliced S).blocks (λ k p. each_by (LineWellFormed (spliced S)) k.lines (λ l q. let g = in_get k.lines l q in line_whole k.number k (in_find k (spliced S).blocks numbers p) g.0 l g.1));
       }
 
 -- ---- the module
@@ -259,8 +243,8 @@ call_site m S site ok =
 
 pub setting : (m : Module) → IsModule m → Accepted m → (S : Splicing) → S.naming ≡ sides → Site m S → Setting m S
 setting m whole accepted S named site =
-    let fi = find_function_in S.caller.name m S.caller site.caller_found in
-    let gi = find_function_in site.declared.name m S.callee site.callee_found in
+    let fi = function_in S.caller.name m S.caller site.caller_found in
+    let gi = function_in site.declared.name m S.callee site.callee_found in
     let fw = each_in WellFormed m whole.whole S.caller fi in
     let gw = each_in WellFormed m whole.whole S.callee gi in
     record {
@@ -278,6 +262,6 @@ setting m whole accepted S named site =
 pub splice_accepted : SpliceAccepted
 splice_accepted m whole accepted S named site =
     let E = setting m whole accepted S named site in (
-      record { names = names_stay_different (spliced S) m whole.names; whole = in_each WellFormed (replace (spliced S) m) (λ h p. elim (in_replace (spliced S) h m p) [ inl e ↦ subst WellFormed (sym e) (out_whole m S E) | inr q ↦ each_in WellFormed m whole.whole h q ]) },
+      record { names = names_stay_different (spliced S) m whole.names; whole = each_by WellFormed (replace (spliced S) m) (λ h p. elim (in_replace (spliced S) h m p) [ inl e ↦ subst WellFormed (sym e) (out_whole m S E) | inr q ↦ each_in WellFormed m whole.whole h q ]) },
       module_accepted m S E site.caller_found accepted,
     )

@@ -17,24 +17,25 @@ use Rattle.ir_semantics.specs.TypeRules.{types_of, each_some}
 use Rattle.ir_semantics.specs.EndRules.{EntryIsNoTarget}
 use Rattle.ir_semantics.specs.Canon.{canonical_names, canonical, types_in_order}
 use Rattle.ir_core.specs.WellFormed.{WellFormed}
+use Rattle.ir_core.proofs.Gets.{get_mapped}
+use Rattle.ir_core.proofs.Members.{each_by, each_in, in_map}
 use Rattle.ir_semantics.specs.Renaming.{Renaming, block_under, line_under, tag_under}
 use Rattle.ir_semantics.specs.Splice.{first_number, with_type}
+use Rattle.ir_semantics.proofs.SafetyPlaces.{has_type}
 use Rattle.inline_outcomes.proofs.Local.{Injective}
 use Rattle.inline_outcomes.proofs.Frames.{Embeds}
 use Rattle.inline_outcomes.proofs.Related.{RestOf}
 use Rattle.inline_outcomes.proofs.Numbering.{Renumbers, renumber_embeds, place_injective}
-use Rattle.inline_acceptance.proofs.KeptLists.{each_in, in_each, in_map, length_map, Sub, sub_front, target_from, map_get, get_map, none_map}
+use Rattle.inline_acceptance.proofs.KeptLists.{length_map, Sub, sub_front, target_from, map_get, none_map}
 use Rattle.inline_acceptance.proofs.Points.{RenamedFrom, renamed_find, ends_under, Ending, to_ending, of_ending}
 use Rattle.inline_acceptance.proofs.KeptTypes.{type_hit, type_append_none, with_off}
 use Rattle.inline_acceptance.proofs.KeptRules.{vals_typed}
-use Rattle.inline_acceptance.proofs.KeptSite.{LineKept, line_kept_at, rule_at, declared_type}
+use Rattle.inline_acceptance.proofs.KeptSite.{LineKept, line_kept_at, rule_at}
 use Rattle.inline_acceptance.proofs.KeptLines.{under_kept}
 use Rattle.inline_acceptance.proofs.KeptSplice.{tags_under}
 use Rattle.inline_acceptance.proofs.KeptFunctions.{is_filled}
 use Rattle.inline_acceptance.proofs.KeptWhole.{typed_declared}
-
-block_head : {x y : Block} {xs ys : List Block} → x ∷ xs ≡ y ∷ ys → x ≡ y
-block_head e = cc
+use Rattle.inline_acceptance.proofs.KeptPaths.{block_head}
 
 -- m' has the signatures of m, and G is F under other numbers
 module _ (m m' : Module) (declares : (name : FuncName) (h' : Function) → find_function name m' ≡ Some h' → (h : Function) × (find_function name m ≡ Some h) × (h.sig ≡ h'.sig)) (F G : Function) (r : Renaming) (value : Injective r.value) (block : Injective r.block) (rest : (k : ℕ) → (r.slot k ≡ k) × (r.sig k ≡ k) × (r.callee k ≡ k)) (same : Renumbers r F G) (typed : (v : ℕ) → type_of G (r.value v) ≡ type_of F v) (accepted : RulesHold m F) where
@@ -122,11 +123,11 @@ module _ (m m' : Module) (declares : (name : FuncName) (h' : Function) → find_
       ending =
           let e = to_ending l.0.inst (slice_get o.k.lines (suc i)) (rule_at m F accepted o.b o.k i l.0 o.found l.1 no_terminator) in
           let t : terminates l'.inst ≡ terminates l.0.inst = ap (λ z. terminates z.inst) l.2 ∙ ends_under r l.0.inst in
-          record { goes = λ q. let u = e.goes (sym t ∙ q) in (line_under r u.0, ap (λ z. slice_get z.lines (suc i)) o.is ∙ get_map (line_under r) o.k.lines (suc i) u.0 u.1); stops = λ q. ap (λ z. slice_get z.lines (suc i)) o.is ∙ none_map (line_under r) o.k.lines (suc i) (e.stops (sym t ∙ q)) }
+          record { goes = λ q. let u = e.goes (sym t ∙ q) in (line_under r u.0, ap (λ z. slice_get z.lines (suc i)) o.is ∙ get_mapped (line_under r) o.k.lines (suc i) u.0 u.1); stops = λ q. ap (λ z. slice_get z.lines (suc i)) o.is ∙ none_map (line_under r) o.k.lines (suc i) (e.stops (sym t ∙ q)) }
 
       no_entry : EntryIsNoTarget G l'
       no_entry =
-          in_each (λ (t : BlockCall). t.block ≢ first_number G.blocks) (targets l'.inst) (λ t p q.
+          each_by (λ (t : BlockCall). t.block ≢ first_number G.blocks) (targets l'.inst) (λ t p q.
           let u = target_from r l.0.inst t (subst (λ z. In t (targets z.inst)) l.2 p) in
           not_first F.blocks refl u.0 u.1 (ap (λ z. z.block) (sym u.2) ∙ q))
         where
@@ -220,4 +221,4 @@ canonical_typed f w v = by (type_of f v) refl
   where
     by : (o : Option Ty) → type_of f v ≡ o → type_of (canonical f) ((canonical_names f).value v) ≡ type_of f v
     by (Some t) q = order_in (number_in (definitions f.blocks)) (place_injective (definitions f.blocks)) f.types (definitions f.blocks) v t q (w.defined v (typed_declared f.types v t q)) ∙ sym q
-    by None q = order_off (number_in (definitions f.blocks)) (place_injective (definitions f.blocks)) f.types (definitions f.blocks) v (λ p. let t = declared_type f.types v (w.definitions_declared v p) in let z : None ≡ Some t.0 = sym q ∙ t.1 in cc) ∙ sym q
+    by None q = order_off (number_in (definitions f.blocks)) (place_injective (definitions f.blocks)) f.types (definitions f.blocks) v (λ p. let t = has_type f.types v (w.definitions_declared v p) in let z : None ≡ Some t.0 = sym q ∙ t.1 in cc) ∙ sym q

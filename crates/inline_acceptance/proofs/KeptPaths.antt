@@ -11,11 +11,13 @@ use Rattle.ir_semantics.specs.Available.{terminates, Reach, begin, next, branch}
 use Rattle.ir_semantics.specs.Renaming.{Renaming, entry_under, line_under, target_under}
 use Rattle.ir_semantics.specs.Splice.{Kind, Last, Splicing, Tries, Within, callee_line, callee_names, caller_names, from, jump_in, kind_of, new_results, fragment, spliced, to_after}
 use Rattle.ir_core.specs.Uses.{callee_of}
+use Rattle.ir_core.proofs.Gets.{get_mapped}
+use Rattle.ir_core.proofs.Members.{in_cases, map_in}
 use Rattle.inline_acceptance.specs.Alone.{CallSite, standing}
 use Rattle.inline_outcomes.proofs.Related.{Distinct, RestF, RestG}
 use Rattle.inline_outcomes.proofs.Frames.{Embeds}
 use Rattle.inline_outcomes.proofs.Linking.{embeds_f, embeds_g}
-use Rattle.inline_acceptance.proofs.KeptLists.{map_in, in_split, table_under, table_append, target_from, map_get, get_map, none_map, Cut_get, before, last, cut_get, get_after, get_site, get_before}
+use Rattle.inline_acceptance.proofs.KeptLists.{table_under, table_append, target_from, map_get, none_map, Cut_get, before, last, cut_get, get_after, get_site, get_before}
 use Rattle.inline_acceptance.proofs.Points.{From, from_line, from_is, Goes, ends_under, Ending, EndsWell, IsTail, Trans, piece_line, NewOf, GBlock, BlockOf, of_f, of_cut, of_g, of_after, block_of}
 
 -- what paths need of a function
@@ -121,7 +123,7 @@ module _ (m : Module) (S : Splicing) (names : Distinct S.naming) (site : CallSit
   under_ending : (r : Renaming) (ls : List Line) (s : ℕ) (li i' : Line) → i' ≡ line_under r li → Ending li.inst (slice_get ls s) → Ending i'.inst (slice_get (map (line_under r) ls) s)
   under_ending r ls s li i' h e =
       record {
-        goes = λ q. let u = e.goes (sym (ends_under r li.inst) ∙ ap (λ z. terminates z.inst) (sym h) ∙ q) in (line_under r u.0, get_map (line_under r) ls s u.0 u.1);
+        goes = λ q. let u = e.goes (sym (ends_under r li.inst) ∙ ap (λ z. terminates z.inst) (sym h) ∙ q) in (line_under r u.0, get_mapped (line_under r) ls s u.0 u.1);
         stops = λ q. none_map (line_under r) ls s (e.stops (sym (ends_under r li.inst) ∙ ap (λ z. terminates z.inst) (sym h) ∙ q));
       }
 
@@ -240,7 +242,7 @@ module _ (m : Module) (S : Splicing) (names : Distinct S.naming) (site : CallSit
         elim (subst (λ y. In t' (targets y.inst)) h is) [
           | inl p ↦ into_g own (subst (λ y. In own (targets y)) (sym q) (inl refl)) (ap (λ z. z.block) p)
           | inr p ↦
-              elim (in_split t' (table_targets (map (entry_under (callee_names S)) inner)) (table_targets (map (entry_under (caller_names S)) table)) (subst (In t') (table_append (map (entry_under (callee_names S)) inner) (map (entry_under (caller_names S)) table)) p)) [
+              elim (in_cases t' (table_targets (map (entry_under (callee_names S)) inner)) (table_targets (map (entry_under (caller_names S)) table)) (subst (In t') (table_append (map (entry_under (callee_names S)) inner) (map (entry_under (caller_names S)) table)) p)) [
                 | inl a ↦ let v = map_in (target_under (callee_names S)) t' (table_targets inner) (subst (In t') (table_under (callee_names S) inner) a) in into_g v.0 (subst (λ y. In v.0 (targets y)) (sym q) (inr v.1)) (ap (λ z. z.block) v.2)
                 | inr a ↦ table_to normal table kind a
               ]

@@ -3,6 +3,7 @@
 use Rattle.inline_outcomes.proofs.Local.{try_target_called}
 use Rattle.std.proofs.Common.{◌≡◌, ℕ, zero, suc, List, [], ◌∷◌, ◌++◌, length, map, Option, Some, None, false, true, refl, sym, ap, ap₂, ◌∙◌, subst}
 use Rattle.std.specs.Prelude.{slice_get, IsSomeAnd, IsSome, IsTrue, ℤ}
+use Rattle.std.proofs.lemmas.List.{map-append}
 use Rattle.clk_num.specs.declared.width.Width.{Width}
 use Rattle.clk_num.specs.declared.op.Op.{Op}
 use Rattle.clk_num.specs.declared.op.Op.TheVariants as op
@@ -26,13 +27,10 @@ use Rattle.ir_semantics.specs.CountRules.{TargetCounts, ArgCounts, CallCounts, I
 use Rattle.ir_semantics.specs.TypeRules.{types_of, each_some, HaveTypes, TargetTypes, arg_type, type_at, widths_of_values, OpTypes, SimpleTypes, BranchTypes, CalledTypes, CallTypes, InstructionTypes, store_form}
 use Rattle.ir_semantics.specs.CallRules.{InstructionConvention, InstructionSignature}
 use Rattle.ir_semantics.specs.SlotRules.{SimpleSlot, InstructionSlot}
+use Rattle.ir_semantics.proofs.SafetyPlaces.{some_and}
 use Rattle.ir_core.specs.Forms.{access_type, controlling}
 use Rattle.inline_outcomes.proofs.Frames.{Embeds}
-use Rattle.inline_acceptance.proofs.KeptLists.{some_and, and_some, each_map, length_map, table_under, targets_under}
-
-pub map_append : {A B : Type 0} (h : A → B) (xs ys : List A) → map h (xs ++ ys) ≡ map h xs ++ map h ys
-map_append h [] ys = refl
-map_append h (x ∷ xs) ys = ap (λ z. h x ∷ z) (map_append h xs ys)
+use Rattle.inline_acceptance.proofs.KeptLists.{and_some, each_map, length_map, table_under, targets_under}
 
 pub some_map : {A : Type 0} (o : Option A) (P Q : A → Type 0) → ((a : A) → o ≡ Some a → P a → Q a) → IsSomeAnd o P → IsSomeAnd o Q
 some_map None P Q go h = elim h [ ]
@@ -54,9 +52,9 @@ arg_used_under r (arg.Exn i ∷ as') = arg_used_under r as'
 
 pub targets_used_under : (r : Renaming) (ts : List BlockCall) → targets_used (map (target_under r) ts) ≡ map r.value (targets_used ts)
 targets_used_under r [] = refl
-targets_used_under r (t ∷ ts) = ap₂ (λ x y. x ++ y) (arg_used_under r t.args) (targets_used_under r ts) ∙ sym (map_append r.value (arg_values_used t.args) (targets_used ts))
+targets_used_under r (t ∷ ts) = ap₂ (λ x y. x ++ y) (arg_used_under r t.args) (targets_used_under r ts) ∙ sym (map-append r.value (arg_values_used t.args) (targets_used ts))
 
-simple_used_under : (r : Renaming) (p : Simple) → simple_used (simple_under r p) ≡ map r.value (simple_used p)
+pub simple_used_under : (r : Renaming) (p : Simple) → simple_used (simple_under r p) ≡ map r.value (simple_used p)
 simple_used_under r Nop = refl
 simple_used_under r (Const a) = refl
 simple_used_under r (Pure a b) = refl
@@ -87,7 +85,7 @@ operands_under r (TryCall (TryDirect k) s args n u) = refl
 operands_under r (TryCall (TryIndirect a) s args n u) = refl
 
 pub used_under : (r : Renaming) (i : Instruction) → values_used (instruction_under r i) ≡ map r.value (values_used i)
-used_under r i = ap₂ (λ x y. x ++ y) (operands_under r i) (ap targets_used (targets_under r i) ∙ targets_used_under r (targets i)) ∙ sym (map_append r.value (operands i) (targets_used (targets i)))
+used_under r i = ap₂ (λ x y. x ++ y) (operands_under r i) (ap targets_used (targets_under r i) ∙ targets_used_under r (targets i)) ∙ sym (map-append r.value (operands i) (targets_used (targets i)))
 
 -- ---- a function F, whose parts G has under r
 

@@ -15,7 +15,7 @@ use Rattle.ir_core.specs.declared.instructions.Arg.TheVariants as arg
 use Rattle.ir_core.specs.declared.instructions.BlockCall.{BlockCall}
 use Rattle.ir_core.specs.declared.places.Item.TheVariants as item
 use Rattle.ir_core.specs.Module.{CallTarget, Direct, Indirect, Function, Module, Branches, Call, Instruction, Line, Block, Plain, Return, ReturnCall, SequencePoint, TryCall, call_target}
-use Rattle.ir_core.specs.Lookup.{and_then, find_block, type_in, type_of, signature_of, param_types, definitions, line_definitions}
+use Rattle.ir_core.specs.Lookup.{and_then, find_block, type_of, signature_of, param_types, definitions, line_definitions}
 use Rattle.ir_core.specs.Lists.{In, Each}
 use Rattle.ir_core.specs.Uses.{table_targets, values_used, targets_used, called_used}
 use Rattle.ir_semantics.specs.Available.{Available}
@@ -27,11 +27,12 @@ use Rattle.ir_semantics.specs.SlotRules.{SlotRange}
 use Rattle.ir_core.specs.WellFormed.{WellFormed}
 use Rattle.inline_acceptance.specs.Alone.{CallSite}
 use Rattle.ir_core.specs.Uses.{callee_of, named_callee}
+use Rattle.ir_core.proofs.Gets.{some_same}
+use Rattle.ir_core.proofs.Members.{in_left, in_right}
 use Rattle.ir_semantics.specs.Splice.{Kind, Last, Splicing, Tries, Within, args_of, kind_of}
-use Rattle.inline_outcomes.proofs.Local.{some_same}
+use Rattle.ir_semantics.proofs.SafetyPlaces.{has_type, some_and}
 use Rattle.inline_outcomes.proofs.Places.{find_hit, find_skip}
-use Rattle.inline_acceptance.proofs.KeptLists.{some_and, in_front, in_back, get_site}
-use Rattle.inline_acceptance.proofs.KeptTypes.{type_hit, type_skip}
+use Rattle.inline_acceptance.proofs.KeptLists.{get_site}
 
 -- the rules of a line, but for its place in its block and its targets
 pub record LineKept (f : Function) (b i : ℕ) (l : Line) : Type 0 where
@@ -65,23 +66,18 @@ each_split P (x ∷ xs) ys h = let u = each_split P xs ys h.1 in ((h.0, u.0), u.
 -- ---- a parameter of a block of a whole function has a type
 
 lines_in : (v : ℕ) (b : Block) (bs : List Block) → In v (definitions bs) → In v (definitions (b ∷ bs))
-lines_in v b bs p = in_back v b.params (line_definitions b.lines ++ definitions bs) (in_back v (line_definitions b.lines) (definitions bs) p)
+lines_in v b bs p = in_right v b.params (line_definitions b.lines ++ definitions bs) (in_right v (line_definitions b.lines) (definitions bs) p)
 
 pub param_defined : (x : ℕ) (bs : List Block) (k : Block) → find_block x bs ≡ Some k → (v : ℕ) → In v k.params → In v (definitions bs)
 param_defined x [] k h v p = cc
 param_defined x (b ∷ bs) k h v p =
     elim (cases_eq b.number x) [
-      | inl q ↦ let e : k ≡ b = some_same (sym h ∙ find_hit x b bs q) in in_front v b.params (line_definitions b.lines ++ definitions bs) (subst (λ z. In v z.params) e p)
+      | inl q ↦ let e : k ≡ b = some_same (sym h ∙ find_hit x b bs q) in in_left v b.params (line_definitions b.lines ++ definitions bs) (subst (λ z. In v z.params) e p)
       | inr q ↦ lines_in v b bs (param_defined x bs k (sym (find_skip x b bs q) ∙ h) v p)
     ]
 
-pub declared_type : (ts : List (ℕ × Ty)) (v : ℕ) → In v (map (λ x. x.0) ts) → (t : Ty) × (type_in ts v ≡ Some t)
-declared_type [] v p = elim p [ ]
-declared_type (x ∷ ts) v (inl p) = (x.1, type_hit x ts v (sym p))
-declared_type (x ∷ ts) v (inr p) = elim (cases_eq x.0 v) [ inl q ↦ (x.1, type_hit x ts v q) | inr q ↦ let u = declared_type ts v p in (u.0, type_skip x ts v q ∙ u.1) ]
-
 pub param_typed : (f : Function) → WellFormed f → (x : ℕ) (k : Block) → find_block x f.blocks ≡ Some k → (v : ℕ) → In v k.params → (t : Ty) × (type_of f v ≡ Some t)
-param_typed f whole x k found v p = declared_type f.types v (whole.definitions_declared v (param_defined x f.blocks k found v p))
+param_typed f whole x k found v p = has_type f.types v (whole.definitions_declared v (param_defined x f.blocks k found v p))
 
 -- ---- a table's targets name no result, so their counts hold whatever the call returns
 

@@ -1,63 +1,35 @@
 -- A function under other numbers of values and blocks has the same size, and is writable where it was.
-use Rattle.std.proofs.Common.{◌≡◌, ℕ, ◌≤◌, ◌+◌, List, [], ◌++◌, ◌∷◌, length, map, refl, sym, ap, ap₂, ◌∙◌, subst}
+use Rattle.std.proofs.Common.{◌≡◌, ℕ, ◌≤◌, ◌+◌, List, [], ◌∷◌, length, map, refl, sym, ap, ap₂, ◌∙◌, subst}
 use Rattle.exn_tables.specs.declared.table.Entry.{Entry}
 use Rattle.ir_core.specs.declared.declarations.Callee.{Callee}
 use Rattle.ir_core.specs.declared.instructions.BlockCall.{BlockCall}
-use Rattle.ir_core.specs.Module.{Simple, Nop, Const, Pure, PureImm, Load, Store, StackLoad, StackStore, FuncAddr, Trap, Trapz, Trapnz, CallTarget, Direct, Indirect, Function, Module, Jump, Brif, BrTable, Branches, Call, Instruction, Line, Block, Plain, Return, ReturnCall, SequencePoint, TryCall, TryDirect, TryIndirect}
+use Rattle.ir_core.specs.Module.{Function, Module, Jump, Brif, BrTable, Branches, Call, Instruction, Line, Block, Plain, Return, ReturnCall, SequencePoint, TryCall}
 use Rattle.ir_core.specs.Lookup.{type_of, definitions, block_numbers}
 use Rattle.ir_core.specs.Lists.{Each}
-use Rattle.ir_core.specs.Uses.{table_targets, targets, simple_used, called_used, operands}
+use Rattle.ir_core.specs.Uses.{table_targets, targets, operands}
 use Rattle.ir_semantics.specs.Canon.{canonical_names, canonical, canonical_module}
-use Rattle.ir_semantics.specs.Renaming.{Renaming, arg_under, block_under, called_under, entry_under, instruction_under, line_under, simple_under, tag_under, target_under}
+use Rattle.ir_semantics.specs.Renaming.{Renaming, arg_under, block_under, entry_under, instruction_under, line_under, tag_under, target_under}
 use Rattle.ir_core.specs.Size.{argument_count, block_size, entry_count, line_size, operand_count, sig_size, size_of, total}
 use Rattle.ir_core.specs.WellFormed.{WellFormed}
+use Rattle.ir_core.proofs.Members.{each_by, each_in, in_map, map_in}
 use Rattle.ir_text.specs.Writable.{LineWritable, FunctionWritable, Writable, NameWritable, SlotWritable}
 use Rattle.inline_acceptance.specs.Laws.{NumberingWritable}
 use Rattle.inline_outcomes.proofs.Local.{Injective}
 use Rattle.inline_outcomes.proofs.Frames.{Embeds}
 use Rattle.inline_outcomes.proofs.Related.{RestOf}
 use Rattle.inline_outcomes.proofs.Numbering.{Renumbers, renumber_embeds, place_injective, back_names, back_is_injective, back_rest, canonical_back}
-use Rattle.inline_acceptance.proofs.KeptLists.{each_in, in_each, each_map, in_map, map_in, length_map}
+use Rattle.inline_acceptance.proofs.KeptLists.{each_map, length_map}
 use Rattle.inline_acceptance.proofs.KeptForms.{form_under, tags_written}
 use Rattle.inline_acceptance.proofs.KeptNumbers.{canonical_typed}
 use Rattle.inline_acceptance.proofs.KeptCanon.{back_typed}
 use Rattle.inline_acceptance.proofs.KeptLists.{targets_under}
+use Rattle.inline_acceptance.proofs.KeptRules.{operands_under}
 
 -- ---- sizes
 
 pub total_map : {A B : Type 0} (h : A → B) (f : B → ℕ) (g : A → ℕ) → ((a : A) → f (h a) ≡ g a) → (xs : List A) → total f (map h xs) ≡ total g xs
 total_map h f g same [] = refl
 total_map h f g same (x ∷ xs) = ap₂ (λ a b. a + b) (same x) (total_map h f g same xs)
-
-simple_under_values : (r : Renaming) (p : Simple) → simple_used (simple_under r p) ≡ map r.value (simple_used p)
-simple_under_values r Nop = refl
-simple_under_values r (Const a) = refl
-simple_under_values r (Pure a b) = refl
-simple_under_values r (PureImm a b c) = refl
-simple_under_values r (Load a b c d) = refl
-simple_under_values r (Store a b c d e) = refl
-simple_under_values r (StackLoad a b c) = refl
-simple_under_values r (StackStore a b c) = refl
-simple_under_values r (FuncAddr a) = refl
-simple_under_values r (Trap a) = refl
-simple_under_values r (Trapz a b) = refl
-simple_under_values r (Trapnz a b) = refl
-
-address_under : (r : Renaming) (t : CallTarget) (args : List ℕ) → called_used (called_under r t) ++ map r.value args ≡ map r.value (called_used t ++ args)
-address_under r (Direct k) args = refl
-address_under r (Indirect s a) args = refl
-
-own_under : (r : Renaming) (i : Instruction) → operands (instruction_under r i) ≡ map r.value (operands i)
-own_under r (Plain p) = simple_under_values r p
-own_under r (Branches (Jump t)) = refl
-own_under r (Branches (Brif v t u)) = refl
-own_under r (Branches (BrTable v d ts)) = refl
-own_under r SequencePoint = refl
-own_under r (Return vs) = refl
-own_under r (Call t args) = address_under r t args
-own_under r (ReturnCall t args) = address_under r t args
-own_under r (TryCall (TryDirect k) s args n u) = refl
-own_under r (TryCall (TryIndirect a) s args n u) = refl
 
 entries_same : (r : Renaming) (i : Instruction) → entry_count (instruction_under r i) ≡ entry_count i
 entries_same r (Branches (Jump t)) = refl
@@ -72,7 +44,7 @@ entries_same r (ReturnCall a b) = refl
 
 pub operands_same : (r : Renaming) (i : Instruction) → operand_count (instruction_under r i) ≡ operand_count i
 operands_same r i =
-    let a = ap length (own_under r i) ∙ length_map r.value (operands i) in
+    let a = ap length (operands_under r i) ∙ length_map r.value (operands i) in
     let b = ap (total argument_count) (targets_under r i) ∙ total_map (target_under r) argument_count argument_count (λ t. length_map (arg_under r) t.args) (targets i) in ap₂ (λ x y. x + y) a b
 
 pub line_same : (r : Renaming) (l : Line) → line_size (line_under r l) ≡ line_size l
@@ -112,7 +84,7 @@ module _ (F G : Function) (r : Renaming) (value : Injective r.value) (block : In
 to_canonical : (m : Module) → Each WellFormed m → Writable m → Writable (canonical_module m)
 to_canonical m whole w =
     record {
-      functions = in_each FunctionWritable (canonical_module m) (λ h p.
+      functions = each_by FunctionWritable (canonical_module m) (λ h p.
           let u = map_in canonical h m p in
           let f = u.0 in
           subst FunctionWritable (sym u.2) (renumbered_writable f (canonical f) (canonical_names f) (place_injective (definitions f.blocks)) (place_injective (block_numbers f.blocks)) (λ k. (refl, refl, refl)) (record { sig = refl; slots = refl; sigs = refl; callees = refl; blocks = refl }) refl (canonical_typed f (each_in WellFormed m whole f u.1)) (each_in FunctionWritable m w.functions f u.1)));
@@ -122,7 +94,7 @@ to_canonical m whole w =
 from_canonical : (m : Module) → Each WellFormed m → Writable (canonical_module m) → Writable m
 from_canonical m whole w =
     record {
-      functions = in_each FunctionWritable m (λ f p.
+      functions = each_by FunctionWritable m (λ f p.
           let wf = each_in WellFormed m whole f p in
           let inj = back_is_injective f wf in
           renumbered_writable (canonical f) f (back_names f) inj.0 inj.1 (back_rest f) (record { sig = refl; slots = refl; sigs = refl; callees = refl; blocks = sym (canonical_back f wf) }) refl (back_typed f wf) (each_in FunctionWritable (canonical_module m) w.functions (canonical f) (in_map canonical f m p)));

@@ -17,6 +17,9 @@ use Rattle.ir_core.specs.Module.{CallTarget, Module, Branches, Call, Instruction
 use Rattle.ir_core.specs.Lookup.{find_block, type_of, signature_of, param_types}
 use Rattle.ir_core.specs.Lists.{In, Each}
 use Rattle.ir_core.specs.Uses.{targets, table_targets, values_used, targets_used, called_used, arg_values_used}
+use Rattle.ir_core.proofs.Gets.{some_same}
+use Rattle.ir_core.proofs.Members.{each_by, each_in, each_join}
+use Rattle.ir_core.proofs.ByNumber.{found_is}
 use Rattle.ir_semantics.specs.Available.{Available}
 use Rattle.ir_semantics.specs.Accepted.{type_mismatch, entry_target}
 use Rattle.ir_semantics.specs.CountRules.{InstructionCounts, TargetCounts}
@@ -27,13 +30,14 @@ use Rattle.ir_semantics.specs.Import.{sig_after}
 use Rattle.inline_acceptance.specs.Alone.{standing}
 use Rattle.ir_semantics.specs.Renaming.{Renaming, entry_under, called_under, instruction_under, tag_under, target_under, try_target_under}
 use Rattle.ir_semantics.specs.Splice.{Kind, Last, Splicing, Tries, Within, after_block, args_of, callee_line, callee_names, caller_names, first_number, from, joined_tags, kind_of, line_with, named_sig, new_results, fragment, fragment_by, spliced, tags_before, to_normal, tries_fragment, try_target}
-use Rattle.inline_outcomes.proofs.Local.{some_same, named_target, try_target_called}
+use Rattle.ir_semantics.proofs.SafetyPlaces.{some_and}
+use Rattle.inline_outcomes.proofs.Local.{named_target, try_target_called}
 use Rattle.inline_outcomes.proofs.Frames.{Embeds}
 use Rattle.inline_outcomes.proofs.Related.{RestF, RestG}
-use Rattle.inline_outcomes.proofs.Places.{find_hit, by_same, found_name, new_found}
+use Rattle.inline_outcomes.proofs.Places.{find_hit, by_same, new_found}
 use Rattle.inline_outcomes.proofs.Linking.{embeds_f, embeds_g, after_is, in_out}
 use Rattle.inline_acceptance.proofs.Points.{IsTail, Trans}
-use Rattle.inline_acceptance.proofs.KeptLists.{some_and, each_map, each_append, each_in, in_each, length_map, table_under, table_append, target_from}
+use Rattle.inline_acceptance.proofs.KeptLists.{each_map, length_map, table_under, table_append, target_from}
 use Rattle.inline_acceptance.proofs.KeptPaths.{SpotG, LineFrom, pf, pj, pg, px, GTarget, into_g, into_f, into_after, into_rest, g_target, site_get}
 use Rattle.inline_acceptance.proofs.KeptTraces.{av_f, av_g, av_site, av_new, rest_params, out_first}
 use Rattle.inline_acceptance.proofs.KeptTypes.{caller_typed, callee_typed, results_typed}
@@ -115,7 +119,7 @@ module _ (m : Module) (S : Splicing) (E : Setting m S) where
   rest_there : (c s : ℕ) (k : Block) (li : Line) (normal : BlockCall) (table : List (Entry BlockCall)) → kind_of S.site.inst ≡ Tries normal table → find_block c S.callee.blocks ≡ Some k → slice_get k.lines s ≡ Some li → (a : CallTarget) (args : List ℕ) → li.inst ≡ Call a args → (k' : Block) × (find_block (S.naming.new_block c s) (spliced S).blocks ≡ Some k')
   rest_there c s k li normal table kind found get a args q =
       let r = rest_in k.number 0 k.lines s li normal table kind get a args q in
-      let kc : k.number ≡ c = found_name c S.callee.blocks k found in
+      let kc : k.number ≡ c = found_is c S.callee.blocks k found in
       let z : 0 + s ≡ s = omega arith in
       let more : find_block (S.naming.new_block c s) (fragment S k.number 0 k.lines).more ≡ Some r.0 = ap₂ (λ (y : ℕ) (j : ℕ). find_block (S.naming.new_block y j) (fragment S k.number 0 k.lines).more) (sym kc) (sym z) ∙ r.1 in
       (r.0, in_out S E.names (standing S E.site) (S.naming.new_block c s) r.0 (λ b p. E.names.caller_new b c s p) (new_found S E.names S.callee.blocks c k found s r.0 more))
@@ -165,7 +169,7 @@ module _ (m : Module) (S : Splicing) (E : Setting m S) where
           signature = tt;
           slots = tt;
           tags = tt;
-          available = each_append (Available (spliced S) x i) (called_used (called_under (callee_names S) t) ++ map S.naming.callee_value args) [] (subst (Each (Available (spliced S) x i)) (sym (called_used_under (callee_names S) t args)) (gs_av (called_used t ++ args) (each_split (Available S.callee c s) (called_used t ++ args) [] a).0)) tt;
+          available = each_join (Available (spliced S) x i) (called_used (called_under (callee_names S) t) ++ map S.naming.callee_value args) [] (subst (Each (Available (spliced S) x i)) (sym (called_used_under (callee_names S) t args)) (gs_av (called_used t ++ args) (each_split (Available S.callee c s) (called_used t ++ args) [] a).0)) tt;
         })
     within_kept kind (Plain p) q h = inner_kept (Plain p) q (λ z. z) (λ z. z) h
     within_kept kind (Branches p) q h = inner_kept (Branches p) q (λ z. z) (λ z. z) h
@@ -212,7 +216,7 @@ module _ (m : Module) (S : Splicing) (E : Setting m S) where
             counts = (target_counts S.caller (spliced S) (caller_names S) (RestF S) ef f_typed (Some (length z.results)) normal (subst (λ w. TargetCounts S.caller (Some w) normal) (sym cz.1) fs.counts.0), tb.0);
             normal_types = target_types S.caller (spliced S) (caller_names S) (RestF S) ef f_typed (param_types z.results) [] normal (subst (λ w. TargetTypes S.caller w [] normal) (sym tz) fs.normal_types);
             table_types = tb.1;
-            available = each_append (Available (spliced S) x i) (arg_values_used (target_under (caller_names S) normal).args) (targets_used (table_targets (map (entry_under (caller_names S)) table))) (subst (Each (Available (spliced S) x i)) (sym (arg_used_under (caller_names S) normal.args)) (fs_av (arg_values_used normal.args) normal_av)) tb.2;
+            available = each_join (Available (spliced S) x i) (arg_values_used (target_under (caller_names S) normal).args) (targets_used (table_targets (map (entry_under (caller_names S)) table))) (subst (Each (Available (spliced S) x i)) (sym (arg_used_under (caller_names S) normal.args)) (fs_av (arg_values_used normal.args) normal_av)) tb.2;
           }))
 
       rets_used : (a b : ℕ) → arg_values_used (map arg.Ret (from a b)) ≡ []
@@ -230,7 +234,7 @@ module _ (m : Module) (S : Splicing) (E : Setting m S) where
           subst (LineKept (spliced S) x i) (sym h) (try_kept m S E x i c s li t args (λ z. length li.results ≡ length z.results) (λ z. HaveTypes S.callee li.results (param_types z.results)) n y (own_av t args [] a) (try_target (called_under (callee_names S) t)) (named_sig S (called_under (callee_names S) t)) to (map (entry_under (caller_names S)) table) (named_target S (called_under (callee_names S) t)) (named_at t (λ z. (length args ≡ length z.params) × (length li.results ≡ length z.results)) n) (λ z e cz tz.
           let tb = table_at (length z.results) in
           let rk = rets_kept m S E (S.naming.new_block c s) r.0 li.results (param_types z.results) (length z.results) r.1 params tz cz in
-          record { counts = (rk.0, tb.0); normal_types = rk.1; table_types = tb.1; available = each_append (Available (spliced S) x i) (arg_values_used to.args) (targets_used (table_targets (map (entry_under (caller_names S)) table))) (subst (Each (Available (spliced S) x i)) (sym (rets_used 0 (length li.results))) tt) tb.2 }))
+          record { counts = (rk.0, tb.0); normal_types = rk.1; table_types = tb.1; available = each_join (Available (spliced S) x i) (arg_values_used to.args) (targets_used (table_targets (map (entry_under (caller_names S)) table))) (subst (Each (Available (spliced S) x i)) (sym (rets_used 0 (length li.results))) tt) tb.2 }))
 
       at_try : (t : TryTarget) (sig : ℕ) (args : List ℕ) (own : BlockCall) (inner : List (Entry BlockCall)) → li.inst ≡ TryCall t sig args own inner → Trans S E.names (Tries normal table) c s (TryCall t sig args own inner) li i' → LineKept (spliced S) x i i'
       at_try t sig args own inner q h =
@@ -250,10 +254,10 @@ module _ (m : Module) (S : Splicing) (E : Setting m S) where
           record {
             counts = (
               target_counts S.callee (spliced S) (callee_names S) (RestG S (kind_of S.site.inst)) eg g_typed (Some (length z.results)) own cz.1.0,
-              subst (Each (TargetCounts (spliced S) (Some (length z.results)))) ej (each_append (TargetCounts (spliced S) (Some (length z.results))) (table_targets inner') (table_targets outer') (subst (Each (TargetCounts (spliced S) (Some (length z.results)))) ei (targets_counts S.callee (spliced S) (callee_names S) (RestG S (kind_of S.site.inst)) eg g_typed (Some (length z.results)) (table_targets inner) cz.1.1)) tb.0),
+              subst (Each (TargetCounts (spliced S) (Some (length z.results)))) ej (each_join (TargetCounts (spliced S) (Some (length z.results))) (table_targets inner') (table_targets outer') (subst (Each (TargetCounts (spliced S) (Some (length z.results)))) ei (targets_counts S.callee (spliced S) (callee_names S) (RestG S (kind_of S.site.inst)) eg g_typed (Some (length z.results)) (table_targets inner) cz.1.1)) tb.0),
             );
             normal_types = target_types S.callee (spliced S) (callee_names S) (RestG S (kind_of S.site.inst)) eg g_typed (param_types z.results) [] own tz.0;
-            table_types = subst (Each (TargetTypes (spliced S) [] (I64 ∷ I64 ∷ []))) ej (each_append (TargetTypes (spliced S) [] (I64 ∷ I64 ∷ [])) (table_targets inner') (table_targets outer') (subst (Each (TargetTypes (spliced S) [] (I64 ∷ I64 ∷ []))) ei (targets_types S.callee (spliced S) (callee_names S) (RestG S (kind_of S.site.inst)) eg g_typed [] (I64 ∷ I64 ∷ []) (table_targets inner) tz.1)) tb.1);
+            table_types = subst (Each (TargetTypes (spliced S) [] (I64 ∷ I64 ∷ []))) ej (each_join (TargetTypes (spliced S) [] (I64 ∷ I64 ∷ [])) (table_targets inner') (table_targets outer') (subst (Each (TargetTypes (spliced S) [] (I64 ∷ I64 ∷ []))) ei (targets_types S.callee (spliced S) (callee_names S) (RestG S (kind_of S.site.inst)) eg g_typed [] (I64 ∷ I64 ∷ []) (table_targets inner) tz.1)) tb.1);
             available = joined_av inner' outer' inner_av tb.2;
           }))
         where
@@ -263,13 +267,13 @@ module _ (m : Module) (S : Splicing) (E : Setting m S) where
           joined_av : (xs ys : List (Entry BlockCall)) → Each (Available (spliced S) x i) (targets_used (target_under (callee_names S) own ∷ table_targets xs)) → Each (Available (spliced S) x i) (targets_used (table_targets ys)) → Each (Available (spliced S) x i) (targets_used (target_under (callee_names S) own ∷ table_targets (xs ++ ys)))
           joined_av xs ys p w =
               let u = each_split (Available (spliced S) x i) (arg_values_used (target_under (callee_names S) own).args) (targets_used (table_targets xs)) p in
-              each_append (Available (spliced S) x i) (arg_values_used (target_under (callee_names S) own).args) (targets_used (table_targets (xs ++ ys))) u.0 (tables xs u.1)
+              each_join (Available (spliced S) x i) (arg_values_used (target_under (callee_names S) own).args) (targets_used (table_targets (xs ++ ys))) u.0 (tables xs u.1)
             where
               tables : (xs : List (Entry BlockCall)) → Each (Available (spliced S) x i) (targets_used (table_targets xs)) → Each (Available (spliced S) x i) (targets_used (table_targets (xs ++ ys)))
               tables [] u = w
               tables (e ∷ xs) u =
                   let v = each_split (Available (spliced S) x i) (arg_values_used e.target.args) (targets_used (table_targets xs)) u in
-                  each_append (Available (spliced S) x i) (arg_values_used e.target.args) (targets_used (table_targets (xs ++ ys))) v.0 (tables xs v.1)
+                  each_join (Available (spliced S) x i) (arg_values_used e.target.args) (targets_used (table_targets (xs ++ ys))) v.0 (tables xs v.1)
 
       tries_kept : (inst : Instruction) → li.inst ≡ inst → Trans S E.names (Tries normal table) c s inst li i' → LineKept (spliced S) x i i'
       tries_kept (Return vs) q h = at_return vs q h
@@ -302,7 +306,7 @@ module _ (m : Module) (S : Splicing) (E : Setting m S) where
   line_kept x i i' (pg c s k li spot found get h) = g_kept x i i' c s k li spot found get (kind_of S.site.inst) refl h
   line_kept x i i' (px c s k li spot found get tails w h) =
       let have = fact Within w in
-      subst (LineKept (spliced S) x i) (sym h) (jump_kept m S E S.naming.after (new_results S c) (after_block S) (after_is S E.names (standing S E.site) w) (results_typed S E.names E.news w (param_types S.callee.sig.results) have c s k found li get tails ∙ sym (f_vals S.site.results ∙ have)) x i (in_each (Available (spliced S) x i) (new_results S c) (λ v p. av_new m S E.names E.site E.f_ok E.g_ok x i c s spot k found li get tails v p)))
+      subst (LineKept (spliced S) x i) (sym h) (jump_kept m S E S.naming.after (new_results S c) (after_block S) (after_is S E.names (standing S E.site) w) (results_typed S E.names E.news w (param_types S.callee.sig.results) have c s k found li get tails ∙ sym (f_vals S.site.results ∙ have)) x i (each_by (Available (spliced S) x i) (new_results S c) (λ v p. av_new m S E.names E.site E.f_ok E.g_ok x i c s spot k found li get tails v p)))
 
   -- ---- no target is the first block
 
@@ -314,7 +318,7 @@ module _ (m : Module) (S : Splicing) (E : Setting m S) where
       each_in (λ (t : BlockCall). t.block ≢ first_number S.caller.blocks) (targets li.inst) (rule_at m S.caller E.f_accepted b k s li found get entry_target) u is (E.names.caller_block u.block (first_number S.caller.blocks) (q ∙ first_is))
 
   pub entry_kept : (x i : ℕ) (i' : Line) → LineFrom m S E.names E.site E.f_ok E.g_ok x i i' → EntryIsNoTarget (spliced S) i'
-  entry_kept x i i' o = in_each (λ (t : BlockCall). t.block ≢ first_number (spliced S).blocks) (targets i'.inst) (λ t p q. by o t p q)
+  entry_kept x i i' o = each_by (λ (t : BlockCall). t.block ≢ first_number (spliced S).blocks) (targets i'.inst) (λ t p q. by o t p q)
     where
       led_in : (c s : ℕ) (li : Line) (b : ℕ) → GTarget m S E.names E.site E.f_ok E.g_ok c s li b → b ≡ first_number (spliced S).blocks → ⊥
       led_in c s li b (into_g u is h) q = E.names.blocks (first_number S.caller.blocks) u.block (sym first_is ∙ sym q ∙ h)

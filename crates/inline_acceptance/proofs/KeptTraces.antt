@@ -8,15 +8,16 @@ use Rattle.ir_core.specs.Module.{Module, Branches, Call, Instruction, Line, Bloc
 use Rattle.ir_core.specs.Lookup.{find_block}
 use Rattle.ir_core.specs.Lists.{In}
 use Rattle.ir_core.specs.Uses.{targets}
+use Rattle.ir_core.proofs.Gets.{some_same}
+use Rattle.ir_core.proofs.Members.{in_left, in_map}
 use Rattle.ir_semantics.specs.Available.{terminates, Reach, begin, next, branch, Available}
 use Rattle.ir_semantics.specs.Renaming.{block_under}
 use Rattle.ir_semantics.specs.Splice.{Kind, Last, Splicing, Tries, Within, after_block, after_blocks, body, callee_line, callee_names, caller_names, cut_block, first_number, kind_of, new_results, spliced, spliced_blocks}
 use Rattle.inline_acceptance.specs.Alone.{CallSite, standing}
-use Rattle.inline_outcomes.proofs.Local.{some_same}
 use Rattle.inline_outcomes.proofs.Related.{Distinct}
 use Rattle.inline_outcomes.proofs.Places.{find_hit}
 use Rattle.inline_outcomes.proofs.Linking.{after_is}
-use Rattle.inline_acceptance.proofs.KeptLists.{in_front, in_map, Sub, sub_front, sub_more, sub_only, target_from}
+use Rattle.inline_acceptance.proofs.KeptLists.{Sub, sub_front, sub_more, sub_only, target_from}
 use Rattle.inline_acceptance.proofs.Points.{Goes, Stops, ends_under, IsTail, tail_stops, not_both, Trans, BlockOf, of_f, of_cut, of_g, of_after, block_of}
 use Rattle.inline_acceptance.proofs.KeptPaths.{Sound, block_head, site_goes, came, SpotF, SpotG, f_same, g_same, apart, f_next, g_next, LineFrom, pf, pj, pg, px, known, site_get, ef, eg, GTarget, into_g, into_f, into_after, into_rest, g_target}
 
@@ -132,7 +133,7 @@ module _ (m : Module) (S : Splicing) (names : Distinct S.naming) (site : CallSit
     within_on : (inst : Instruction) → li.inst ≡ inst → Trans S names Within c s inst li i' → Trace x (suc i) (i'.results ++ defs)
     within_on (Return vs) q h = stopped _ h refl
     within_on (ReturnCall j args) q h =
-        tx c s k li e (g_next m S names site f_ok g_ok x i c s spot) found get (subst IsTail (sym q) tt) rf (sub_more S.naming.caller_value i'.results e defs subf) (λ v p. in_front v i'.results defs (subst (λ y. In v y.results) (sym h) p))
+        tx c s k li e (g_next m S names site f_ok g_ok x i c s spot) found get (subst IsTail (sym q) tt) rf (sub_more S.naming.caller_value i'.results e defs subf) (λ v p. in_left v i'.results defs (subst (λ y. In v y.results) (sym h) p))
     within_on (Plain a) q h = plain_on h
     within_on (Branches a) q h = plain_on h
     within_on SequencePoint q h = plain_on h

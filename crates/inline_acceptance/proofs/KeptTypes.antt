@@ -5,10 +5,11 @@ use Rattle.std.proofs.lemmas.Bool.{cases_eq}
 use Rattle.ir_core.specs.declared.signatures.Ty.{Ty}
 use Rattle.ir_core.specs.Module.{Branches, Call, Instruction, Line, Block, Plain, Return, ReturnCall, SequencePoint, TryCall}
 use Rattle.ir_core.specs.Lookup.{find_block, type_in, type_of}
+use Rattle.ir_core.proofs.Gets.{some_same}
 use Rattle.ir_semantics.specs.TypeRules.{types_of, each_some}
 use Rattle.ir_semantics.specs.Renaming.{Renaming, typed_under}
 use Rattle.ir_semantics.specs.Splice.{Kind, Last, Naming, Splicing, Tries, Within, callee_names, caller_names, from, kind_of, line_types, new_results, new_types, new_types_by, pair, sides, spliced, typed_results, with_type}
-use Rattle.inline_outcomes.proofs.Local.{Injective, some_same}
+use Rattle.inline_outcomes.proofs.Local.{Injective}
 use Rattle.inline_outcomes.proofs.Related.{Distinct}
 use Rattle.inline_outcomes.proofs.Linking.{pair_same}
 use Rattle.inline_outcomes.proofs.Places.{find_hit, find_skip}

@@ -2,6 +2,7 @@
 use Rattle.std.proofs.Common.{◌≡◌, ℕ, zero, suc, ◌≤◌, ◌<◌, ◌+◌, inl, inr, ◌⊎◌, List, [], ◌∷◌, ◌++◌, length, map, Some, refl, sym, ap, ◌∙◌, subst, arith, eq-eqb, ne_eqb}
 use Rattle.std.specs.Prelude.{slice_get, if◌then◌else◌}
 use Rattle.std.proofs.lemmas.Bool.{cases_eq}
+use Rattle.std.proofs.lemmas.List.{map-append}
 use Rattle.exn_tables.specs.declared.table.Entry.{Entry}
 use Rattle.ir_core.specs.declared.signatures.Ty.{Ty}
 use Rattle.ir_core.specs.declared.instructions.BlockCall.{BlockCall}
@@ -13,18 +14,19 @@ use Rattle.ir_semantics.specs.Accepted.{count_mismatch}
 use Rattle.ir_semantics.specs.CountRules.{InstructionCounts, TargetCounts}
 use Rattle.ir_semantics.specs.TypeRules.{types_of, each_some}
 use Rattle.ir_core.specs.WellFormed.{WellFormed, declared}
+use Rattle.ir_core.proofs.Gets.{some_same}
+use Rattle.ir_core.proofs.Splitting.{definitions_join}
+use Rattle.ir_core.proofs.ByNumber.{in_find}
 use Rattle.ir_semantics.specs.Renaming.{Renaming, typed_under, line_under, block_under}
 use Rattle.ir_semantics.specs.Splice.{Kind, Last, Splicing, Tries, Within, after_blocks, body, caller_names, callee_names, cut_block, from, jump_in, kind_of, line_types, new_types, new_types_by, spliced, spliced_blocks, typed_results}
-use Rattle.inline_outcomes.proofs.Local.{some_same}
+use Rattle.ir_semantics.proofs.SafetyPlaces.{some_and}
 use Rattle.inline_outcomes.proofs.Places.{find_hit, find_skip}
-use Rattle.inline_acceptance.proofs.KeptLists.{some_and, get_after}
-use Rattle.inline_acceptance.proofs.KeptRules.{map_append}
+use Rattle.inline_acceptance.proofs.KeptLists.{get_after}
 use Rattle.inline_acceptance.proofs.KeptPaths.{site_get}
 use Rattle.inline_acceptance.proofs.KeptSite.{rule_at, facts}
 use Rattle.inline_acceptance.proofs.KeptLines.{Setting}
-use Rattle.inline_acceptance.proofs.KeptCounts.{count, count_none, count_hit, count_skip, count_append, count_in, none_or_in, different_count, count_map, none_or_map, once_map, same_map, definitions_append, lines_append, lines_under, blocks_under, values, NoResults, empty, result_values, body_given}
+use Rattle.inline_acceptance.proofs.KeptCounts.{count, count_none, count_hit, count_skip, count_append, count_in, none_or_in, different_count, count_map, none_or_map, once_map, same_map, lines_append, lines_under, blocks_under, values, NoResults, empty, result_values, body_given}
 use Rattle.inline_acceptance.proofs.Points.{EndsWell, none_first, IsTail, tail_stops, Stops}
-use Rattle.inline_acceptance.proofs.Unique.{in_find}
 
 -- the values of a whole function are defined as often as they are declared
 pub whole_counts : (f : Function) → WellFormed f → (v : ℕ) → count v (definitions f.blocks) ≡ count v (declared f)
@@ -131,8 +133,8 @@ module _ (m : Module) (S : Splicing) (E : Setting m S) (u : ℕ) where
       -- what b and the further blocks define
       from_b : count u (map S.naming.caller_value (definitions (b ∷ bs))) ≡ count u (map S.naming.caller_value b.params) + (count u (map S.naming.caller_value (line_definitions b.lines)) + count u (map S.naming.caller_value (definitions bs)))
       from_b =
-          let x = ap (count u) (map_append S.naming.caller_value b.params (line_definitions b.lines ++ definitions bs)) ∙ count_append u (map S.naming.caller_value b.params) (map S.naming.caller_value (line_definitions b.lines ++ definitions bs)) in
-          let y = ap (count u) (map_append S.naming.caller_value (line_definitions b.lines) (definitions bs)) ∙ count_append u (map S.naming.caller_value (line_definitions b.lines)) (map S.naming.caller_value (definitions bs)) in omega (arith, x, y)
+          let x = ap (count u) (map-append S.naming.caller_value b.params (line_definitions b.lines ++ definitions bs)) ∙ count_append u (map S.naming.caller_value b.params) (map S.naming.caller_value (line_definitions b.lines ++ definitions bs)) in
+          let y = ap (count u) (map-append S.naming.caller_value (line_definitions b.lines) (definitions bs)) ∙ count_append u (map S.naming.caller_value (line_definitions b.lines)) (map S.naming.caller_value (definitions bs)) in omega (arith, x, y)
 
       beyond : count u (definitions (spliced_blocks S bs)) ≡ count u (map S.naming.caller_value (definitions bs)) + (count u (map S.naming.callee_value (definitions S.callee.blocks)) + count u (values (new_types S S.callee.blocks))) → count u (definitions (block_under (caller_names S) b ∷ spliced_blocks S bs)) ≡ count u (map S.naming.caller_value (definitions (b ∷ bs))) + (count u (map S.naming.callee_value (definitions S.callee.blocks)) + count u (values (new_types S S.callee.blocks)))
       beyond ih =
@@ -148,7 +150,7 @@ module _ (m : Module) (S : Splicing) (E : Setting m S) (u : ℕ) where
           let r = caller_names S in
           let l1 = ap (λ z. count u (map S.naming.caller_value (line_definitions z))) (ap (λ z. z.lines) e ∙ E.site.lines) in
           let l2 = ap (count u) (sym (lines_under r (S.before ++ (S.site ∷ S.behind)))) in
-          let l3 = ap (λ z. count u (line_definitions z)) (map_append (line_under r) S.before (S.site ∷ S.behind)) in
+          let l3 = ap (λ z. count u (line_definitions z)) (map-append (line_under r) S.before (S.site ∷ S.behind)) in
           let l4 = lines_append u (map (line_under r) S.before) (map (line_under r) (S.site ∷ S.behind)) in
           let l5 = ap (count u) (lines_under r S.before) in
           let l6 = count_append u (map S.naming.caller_value S.site.results) (line_definitions (map (line_under r) S.behind)) in
@@ -165,8 +167,8 @@ module _ (m : Module) (S : Splicing) (E : Setting m S) (u : ℕ) where
           let x2 = count_append u ls (definitions (B ++ (A ++ C))) in
           let x3 = lines_append u (map (line_under r) S.before) (jump_in S ∷ []) in
           let x4 = ap (count u) (lines_under r S.before) in
-          let x5 = ap (count u) (definitions_append B (A ++ C)) ∙ count_append u (definitions B) (definitions (A ++ C)) in
-          let x6 = ap (count u) (definitions_append A C) ∙ count_append u (definitions A) (definitions C) in
+          let x5 = ap (count u) (definitions_join B (A ++ C)) ∙ count_append u (definitions B) (definitions (A ++ C)) in
+          let x6 = ap (count u) (definitions_join A C) ∙ count_append u (definitions A) (definitions C) in
           let x7 = ap (count u) (blocks_under r bs) in
           let x8 = body_counts in
           let x9 = after_counts (kind_of S.site.inst) refl in
@@ -181,8 +183,8 @@ module _ (m : Module) (S : Splicing) (E : Setting m S) (u : ℕ) where
       let F = map (typed_under (caller_names S)) S.caller.types in
       let G = map (typed_under (callee_names S)) S.callee.types in
       let N = new_types S S.callee.blocks in
-      let a = ap (count u) (map_append (λ (x : ℕ × Ty). x.0) F (G ++ N)) ∙ count_append u (values F) (values (G ++ N)) in
-      let b = ap (count u) (map_append (λ (x : ℕ × Ty). x.0) G N) ∙ count_append u (values G) (values N) in
+      let a = ap (count u) (map-append (λ (x : ℕ × Ty). x.0) F (G ++ N)) ∙ count_append u (values F) (values (G ++ N)) in
+      let b = ap (count u) (map-append (λ (x : ℕ × Ty). x.0) G N) ∙ count_append u (values G) (values N) in
       let c = ap (count u) (under_values (caller_names S) S.caller.types) in
       let d = ap (count u) (under_values (callee_names S) S.callee.types) in omega (arith, a, b, c, d)
 
@@ -229,7 +231,7 @@ module _ (m : Module) (S : Splicing) (E : Setting m S) (u : ℕ) where
       let ih = lines_once c is (λ j k q. ends (suc j) k q) in
       let now = by_kind (kind_of S.site.inst) refl c i.inst in
       let T = new_types_by S c (kind_of S.site.inst) i.inst in
-      let a = ap (count u) (map_append (λ (x : ℕ × Ty). x.0) T (line_types S c is)) ∙ count_append u (values T) (values (line_types S c is)) in
+      let a = ap (count u) (map-append (λ (x : ℕ × Ty). x.0) T (line_types S c is)) ∙ count_append u (values T) (values (line_types S c is)) in
       elim now.1 [
         | inl z ↦ (let b = ih.0 in omega (arith, a, z, b), elim ih.1 [ inl q ↦ inl (omega (arith, a, z, q)) | inr q ↦ inr q ])
         | inr w ↦
@@ -244,7 +246,7 @@ module _ (m : Module) (S : Splicing) (E : Setting m S) (u : ℕ) where
   news_once (b ∷ gs) d ends =
       let ih = news_once gs d.1 (λ k p. ends k (inr p)) in
       let now = lines_once b.number b.lines (ends b (inl refl)) in
-      let a = ap (count u) (map_append (λ (x : ℕ × Ty). x.0) (line_types S b.number b.lines) (new_types S gs)) ∙ count_append u (values (line_types S b.number b.lines)) (values (new_types S gs)) in
+      let a = ap (count u) (map-append (λ (x : ℕ × Ty). x.0) (line_types S b.number b.lines) (new_types S gs)) ∙ count_append u (values (line_types S b.number b.lines)) (values (new_types S gs)) in
       elim now.1 [
         | inl z ↦ (let y = ih.0 in omega (arith, a, z, y), elim ih.1 [ inl q ↦ inl (omega (arith, a, z, q)) | inr q ↦ inr (q.0, inr q.1, q.2, q.3) ])
         | inr w ↦

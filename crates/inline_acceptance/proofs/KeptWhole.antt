@@ -16,13 +16,14 @@ use Rattle.ir_core.specs.Lookup.{and_then, find_block, type_in, type_of, signatu
 use Rattle.ir_core.specs.Lists.{In, Each}
 use Rattle.ir_semantics.specs.Values.{cons_some, slot_place, place_in, bytes_in}
 use Rattle.ir_core.specs.Uses.{targets, table_targets, values_used, simple_used, targets_used, called_used, arg_values_used, slots_used, sigs_used, called_sigs, blocks_used}
+use Rattle.ir_core.proofs.ByNumber.{found_number}
+use Rattle.ir_core.proofs.Members.{each_by, map_in, each_join}
+use Rattle.ir_core.proofs.Gets.{get_below}
 use Rattle.ir_semantics.specs.CountRules.{InstructionCounts, TargetCounts}
 use Rattle.ir_semantics.specs.TypeRules.{InstructionTypes, SimpleTypes, TargetTypes, HaveTypes, arg_type, types_of, each_some, widths_of_values, OpTypes, CalledTypes, store_form}
 use Rattle.ir_semantics.specs.CallRules.{InstructionSignature}
 use Rattle.ir_semantics.specs.SlotRules.{InstructionSlot}
-use Rattle.inline_outcomes.proofs.Linking.{get_below}
-use Rattle.inline_acceptance.proofs.KeptLists.{some_and, in_each, each_append, map_in}
-use Rattle.inline_acceptance.proofs.Points.{in_numbers}
+use Rattle.ir_semantics.proofs.SafetyPlaces.{some_and}
 use Rattle.inline_acceptance.proofs.KeptTypes.{type_skip}
 use Rattle.inline_acceptance.proofs.KeptFunctions.{line_lands}
 
@@ -67,7 +68,7 @@ module _ (f : Function) (params : (x : ℕ) (k : Block) → find_block x f.block
 
   targets_typed : (rs ps : List Ty) (ts : List BlockCall) → Each (TargetTypes f rs ps) ts → Each (HasType f) (targets_used ts)
   targets_typed rs ps [] h = tt
-  targets_typed rs ps (t ∷ ts) h = each_append (HasType f) (arg_values_used t.args) (targets_used ts) (target_typed rs ps t h.0) (targets_typed rs ps ts h.1)
+  targets_typed rs ps (t ∷ ts) h = each_join (HasType f) (arg_values_used t.args) (targets_used ts) (target_typed rs ps t h.0) (targets_typed rs ps ts h.1)
 
   one_typed : (v : ℕ) (P : Ty → Type 0) → IsSomeAnd (type_of f v) P → HasType f v
   one_typed v P h = let u = some_and (type_of f v) P h in (u.0, u.1)
@@ -93,30 +94,30 @@ module _ (f : Function) (params : (x : ℕ) (k : Block) → find_block x f.block
   call_typed : (t : CallTarget) (args : List ℕ) (P : Sig → Type 0) → CalledTypes f t → IsSomeAnd (signature_of f t) (λ s. HaveTypes f args (param_types s.params) × P s) → Each (HasType f) (called_used t ++ args)
   call_typed t args P c h =
       let u = some_and (signature_of f t) (λ s. HaveTypes f args (param_types s.params) × P s) h in
-      each_append (HasType f) (called_used t) args (called_typed t c) (have_typed args (param_types u.0.params) u.2.0)
+      each_join (HasType f) (called_used t) args (called_typed t c) (have_typed args (param_types u.0.params) u.2.0)
 
   pub used_typed : (l : Line) (i : Instruction) → InstructionTypes f l i → Each (HasType f) (values_used i)
-  used_typed l (Plain p) h = each_append (HasType f) (simple_used p) [] (simple_typed l p h) tt
+  used_typed l (Plain p) h = each_join (HasType f) (simple_used p) [] (simple_typed l p h) tt
   used_typed l (Branches (Jump t)) h = targets_typed [] [] (t ∷ []) h.1
   used_typed l (Branches (Brif v t u)) h = (one_typed v (λ ty. l.ty ≡ Some ty) h.0, targets_typed [] [] (t ∷ (u ∷ [])) h.1)
   used_typed l (Branches (BrTable v default ts)) h = ((I32, h.0.1), targets_typed [] [] (default ∷ ts) h.1)
   used_typed l SequencePoint h = tt
-  used_typed l (Return vs) h = each_append (HasType f) vs [] (have_typed vs (param_types f.sig.results) h.1) tt
-  used_typed l (Call t args) h = each_append (HasType f) (called_used t ++ args) [] (call_typed t args (λ s. HaveTypes f l.results (param_types s.results)) h.1 h.2) tt
-  used_typed l (ReturnCall t args) h = each_append (HasType f) (called_used t ++ args) [] (call_typed t args (λ s. param_types s.results ≡ param_types f.sig.results) h.1 h.2) tt
+  used_typed l (Return vs) h = each_join (HasType f) vs [] (have_typed vs (param_types f.sig.results) h.1) tt
+  used_typed l (Call t args) h = each_join (HasType f) (called_used t ++ args) [] (call_typed t args (λ s. HaveTypes f l.results (param_types s.results)) h.1 h.2) tt
+  used_typed l (ReturnCall t args) h = each_join (HasType f) (called_used t ++ args) [] (call_typed t args (λ s. param_types s.results ≡ param_types f.sig.results) h.1 h.2) tt
   used_typed l (TryCall t sig args normal table) h =
       let P = λ (s : Sig). TargetTypes f (param_types s.results) [] normal × Each (TargetTypes f [] (I64 ∷ (I64 ∷ []))) (table_targets table) in
       let u = some_and (signature_of f (call_target t sig)) (λ s. HaveTypes f args (param_types s.params) × P s) h.2 in
-      each_append (HasType f) (called_used (call_target t sig) ++ args) (targets_used (normal ∷ table_targets table)) (call_typed (call_target t sig) args P h.1 h.2) (each_append (HasType f) (arg_values_used normal.args) (targets_used (table_targets table)) (target_typed (param_types u.0.results) [] normal u.2.1.0) (targets_typed [] (I64 ∷ (I64 ∷ [])) (table_targets table) u.2.1.1))
+      each_join (HasType f) (called_used (call_target t sig) ++ args) (targets_used (normal ∷ table_targets table)) (call_typed (call_target t sig) args P h.1 h.2) (each_join (HasType f) (arg_values_used normal.args) (targets_used (table_targets table)) (target_typed (param_types u.0.results) [] normal u.2.1.0) (targets_typed [] (I64 ∷ (I64 ∷ [])) (table_targets table) u.2.1.1))
 
   -- ---- blocks, slots and signatures
 
   pub used_blocks : (l : Line) (i : Instruction) → InstructionCounts f l i → Each (λ b. In b (block_numbers f.blocks)) (blocks_used i)
   used_blocks l i h =
-      in_each (λ b. In b (block_numbers f.blocks)) (blocks_used i) (λ b p.
+      each_by (λ b. In b (block_numbers f.blocks)) (blocks_used i) (λ b p.
       let u = map_in (λ (t : BlockCall). t.block) b (targets i) p in
       let e = line_lands f l i h u.0 u.1 in
-      in_numbers b f.blocks e.0 (ap (λ z. find_block z f.blocks) u.2 ∙ e.1))
+      found_number b f.blocks e.0 (ap (λ z. find_block z f.blocks) u.2 ∙ e.1))
 
   slot_below : (k : ℕ) (offset : ℤ) (n : ℕ) → IsSome (slot_place f k offset n) → k < length f.slots
   slot_below k offset n h = by (slice_get f.slots k) refl h

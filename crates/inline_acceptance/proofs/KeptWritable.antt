@@ -15,24 +15,28 @@ use Rattle.ir_semantics.specs.CountRules.{ArgCounts}
 use Rattle.ir_semantics.specs.Import.{callees_with, callees_after, same_callee, sigs_after}
 use Rattle.ir_semantics.specs.Renaming.{called_under, entry_under, line_under, tag_under}
 use Rattle.ir_core.specs.Size.{size_of, block_size, line_size, total}
+use Rattle.ir_core.proofs.Members.{each_by, each_in, each_join}
+use Rattle.ir_core.proofs.Gets.{in_get, get_in}
+use Rattle.ir_core.proofs.ByNumber.{in_find}
 use Rattle.ir_semantics.specs.Splice.{Kind, Last, Splicing, Tries, Within, args_of, callee_line, callee_names, caller_names, first_number, from, joined_tags, jump_to, kind_of, line_with, new_results, or_ret, replace, returned_arg, spliced}
+use Rattle.ir_semantics.proofs.SafetyPlaces.{function_in, block_in}
 use Rattle.ir_text.specs.Writable.{InstructionForm, LineWritable, FunctionWritable, NameWritable, SlotWritable, ResultTypes, TargetWritable, ValueArg, NormalArg, TableWritable, TagWritable}
 use Rattle.inline_acceptance.specs.Laws.{SpliceWritable}
 use Rattle.inline_acceptance.specs.Alone.{standing}
 use Rattle.inline_outcomes.proofs.Related.{RestF, RestG}
 use Rattle.inline_outcomes.proofs.Linking.{embeds_f, embeds_g}
 use Rattle.inline_acceptance.proofs.Points.{Trans}
-use Rattle.inline_acceptance.proofs.KeptLists.{each_in, in_each, each_append, length_map}
+use Rattle.inline_acceptance.proofs.KeptLists.{length_map}
 use Rattle.inline_acceptance.proofs.KeptPaths.{LineFrom, pf, pj, pg, px, known, site_get}
 use Rattle.inline_acceptance.proofs.KeptTypes.{caller_typed, callee_typed}
 use Rattle.inline_acceptance.proofs.KeptRules.{some_map}
 use Rattle.inline_acceptance.proofs.KeptSite.{LineKept, line_kept_at, TriesFacts, facts}
 use Rattle.inline_acceptance.proofs.KeptLines.{Setting}
 use Rattle.inline_acceptance.proofs.KeptSplice.{line_kept}
-use Rattle.inline_acceptance.proofs.KeptFunctions.{get_in, in_get, in_items, in_with, in_replace}
-use Rattle.inline_acceptance.proofs.KeptModules.{find_in, find_function_in, setting}
+use Rattle.inline_acceptance.proofs.KeptFunctions.{in_items, in_with, in_replace}
+use Rattle.inline_acceptance.proofs.KeptModules.{setting}
 use Rattle.inline_acceptance.proofs.KeptForms.{results_of, tags_written, joined_written, normal_written, table_written, form_under}
-use Rattle.inline_acceptance.proofs.Unique.{in_find, out_different}
+use Rattle.inline_acceptance.proofs.Unique.{out_different}
 
 -- ---- a part is no more than the whole
 
@@ -43,11 +47,11 @@ part_of h a (x ∷ xs) (inr p) = let q = part_of h a xs p in omega (arith, q)
 
 results_within : (f : Function) (b : ℕ) (k : Block) (i : ℕ) (l : Line) → find_block b f.blocks ≡ Some k → slice_get k.lines i ≡ Some l → length l.results ≤ size_of f
 results_within f b k i l found get =
-    let p = part_of block_size k f.blocks (find_in b f.blocks k found) in
+    let p = part_of block_size k f.blocks (block_in b f.blocks k found) in
     let q = part_of line_size l k.lines (get_in k.lines i l get) in omega (arith, p, q)
 
 written_at : (f : Function) → FunctionWritable f → (b : ℕ) (k : Block) (i : ℕ) (l : Line) → find_block b f.blocks ≡ Some k → slice_get k.lines i ≡ Some l → LineWritable f l
-written_at f w b k i l found get = each_in (LineWritable f) k.lines (each_in (λ (b : Block). Each (LineWritable f) b.lines) f.blocks w.lines k (find_in b f.blocks k found)) l (get_in k.lines i l get)
+written_at f w b k i l found get = each_in (LineWritable f) k.lines (each_in (λ (b : Block). Each (LineWritable f) b.lines) f.blocks w.lines k (block_in b f.blocks k found)) l (get_in k.lines i l get)
 
 values_written : (vs : List ℕ) → Each ValueArg (map arg.Value vs)
 values_written [] = tt
@@ -148,7 +152,7 @@ module _ (m : Module) (S : Splicing) (E : Setting m S) (fw : FunctionWritable S.
           subst (LineWritable (spliced S)) (sym h) (((no_ty (Call t args) q).0, rets_written 0 (length li.results) (omega (arith, n, z)), outer, tt), tags)
       tries_written (TryCall t sig args own inner) q h =
           let w = no_ty (TryCall t sig args own inner) q in
-          subst (LineWritable (spliced S)) (sym h) ((w.0, normal_written (callee_names S) own w.1, each_append TableWritable (map (entry_under (callee_names S)) inner) (map (entry_under (caller_names S)) table) (table_written (callee_names S) inner w.2) outer, tt), tags)
+          subst (LineWritable (spliced S)) (sym h) ((w.0, normal_written (callee_names S) own w.1, each_join TableWritable (map (entry_under (callee_names S)) inner) (map (entry_under (caller_names S)) table) (table_written (callee_names S) inner w.2) outer, tt), tags)
       tries_written (Plain p) q h = plain_written h
       tries_written (Branches p) q h = plain_written h
       tries_written SequencePoint q h = plain_written h
@@ -177,9 +181,9 @@ module _ (m : Module) (S : Splicing) (E : Setting m S) (fw : FunctionWritable S.
   out_written size =
       record {
         name = fw.name;
-        slots = each_append SlotWritable S.caller.slots S.callee.slots fw.slots gw.slots;
-        callees = in_each (λ (c : Callee). NameWritable c.name) (callees_after S.caller S.callee) callee_name;
-        lines = in_each (λ (b : Block). Each (LineWritable (spliced S)) b.lines) (spliced S).blocks (λ k p. in_each (LineWritable (spliced S)) k.lines (λ l q.
+        slots = each_join SlotWritable S.caller.slots S.callee.slots fw.slots gw.slots;
+        callees = each_by (λ (c : Callee). NameWritable c.name) (callees_after S.caller S.callee) callee_name;
+        lines = each_by (λ (b : Block). Each (LineWritable (spliced S)) b.lines) (spliced S).blocks (λ k p. each_by (LineWritable (spliced S)) k.lines (λ l q.
             let g = in_get k.lines l q in
             let found = in_find k (spliced S).blocks (out_different S E.names E.f_ok.numbers E.g_ok.numbers) p in
             let o = (known m S E.names E.site E.f_ok E.g_ok k.number k found g.0 l g.1).which in
@@ -198,9 +202,9 @@ as_many f' (k ∷ m) = by (same_name k.name f'.name) (as_many f' m)
 pub splice_writable : SpliceWritable
 splice_writable m whole accepted written S named site size =
     let E = setting m whole accepted S named site in
-    let fw = each_in FunctionWritable m written.functions S.caller (find_function_in S.caller.name m S.caller site.caller_found) in
-    let gw = each_in FunctionWritable m written.functions S.callee (find_function_in site.declared.name m S.callee site.callee_found) in
+    let fw = each_in FunctionWritable m written.functions S.caller (function_in S.caller.name m S.caller site.caller_found) in
+    let gw = each_in FunctionWritable m written.functions S.callee (function_in site.declared.name m S.callee site.callee_found) in
     record {
-      functions = in_each FunctionWritable (replace (spliced S) m) (λ h p. elim (in_replace (spliced S) h m p) [ inl e ↦ subst FunctionWritable (sym e) (out_written m S E fw gw size) | inr q ↦ each_in FunctionWritable m written.functions h q ]);
+      functions = each_by FunctionWritable (replace (spliced S) m) (λ h p. elim (in_replace (spliced S) h m p) [ inl e ↦ subst FunctionWritable (sym e) (out_written m S E fw gw size) | inr q ↦ each_in FunctionWritable m written.functions h q ]);
       count = let e = as_many (spliced S) m in let n = written.count in omega (arith, e, n);
     }

@@ -8,12 +8,13 @@ use Rattle.ir_core.specs.declared.instructions.BlockCall.{BlockCall}
 use Rattle.ir_core.specs.Module.{Simple, Nop, Const, Pure, PureImm, Load, Store, StackLoad, StackStore, FuncAddr, Trap, Trapz, Trapnz, Branches, Call, Instruction, Line, Block, Plain, Return, ReturnCall, SequencePoint, TryCall}
 use Rattle.ir_core.specs.Lookup.{find_block, block_numbers}
 use Rattle.ir_core.specs.Lists.{In, Different}
+use Rattle.ir_core.proofs.Gets.{some_same}
+use Rattle.ir_core.proofs.ByNumber.{found_number}
 use Rattle.ir_semantics.specs.Renaming.{Renaming, called_under, entry_under, instruction_under, simple_under, block_under, target_under, try_target_under}
 use Rattle.ir_semantics.specs.Import.{sig_after}
 use Rattle.ir_semantics.specs.Available.{terminates, simple_terminates}
 use Rattle.ir_semantics.specs.EndRules.{EndsRightly}
 use Rattle.ir_semantics.specs.Splice.{Kind, Last, Fragment, Splicing, Tries, Within, after_block, after_blocks, body, callee_line, callee_names, caller_names, cut_block, from, front, kind_of, line_with, named_sig, new_results, fragment, fragment_by, spliced_blocks, to_after, to_normal, tries_fragment, try_with, within_fragment, try_target}
-use Rattle.inline_outcomes.proofs.Local.{some_same}
 use Rattle.inline_outcomes.proofs.Related.{Distinct}
 use Rattle.inline_outcomes.proofs.Places.{find_hit, find_skip}
 
@@ -59,10 +60,6 @@ renamed_find r (m ∷ bs) x k' h =
       | inl q ↦ record { b = m.number; k = m; name = sym q; found = find_hit m.number m bs refl; is = some_same (sym h ∙ find_hit x (block_under r m) (map (block_under r) bs) q) }
       | inr q ↦ let o = renamed_find r bs x k' (sym (find_skip x (block_under r m) (map (block_under r) bs) q) ∙ h) in record { b = o.b; k = o.k; name = o.name; found = find_skip o.b m bs (λ p. q (ap r.block p ∙ sym o.name)) ∙ o.found; is = o.is }
     ]
-
-pub in_numbers : (x : ℕ) (bs : List Block) (k : Block) → find_block x bs ≡ Some k → In x (block_numbers bs)
-in_numbers x [] k h = cc
-in_numbers x (m ∷ bs) k h = elim (cases_eq m.number x) [ inl q ↦ inl (sym q) | inr q ↦ inr (in_numbers x bs k (sym (find_skip x m bs q) ∙ h)) ]
 
 -- ---- which instructions end a block
 
@@ -335,7 +332,7 @@ module _ (S : Splicing) (names : Distinct S.naming) where
               | inl r ↦ record { c = m.number; k = m; found = find_hit m.number m gs refl; which = inr (new_of m.number 0 m.lines x k' r) }
               | inr r ↦
                   let o = g_block gs d.1 x k' r in
-                  record { c = o.c; k = o.k; found = find_skip o.c m gs (λ e. d.0 (subst (λ z. In z (block_numbers gs)) (sym e) (in_numbers o.c gs o.k o.found))) ∙ o.found; which = o.which }
+                  record { c = o.c; k = o.k; found = find_skip o.c m gs (λ e. d.0 (subst (λ z. In z (block_numbers gs)) (sym e) (found_number o.c gs o.k o.found))) ∙ o.found; which = o.which }
             ]
       ]
 

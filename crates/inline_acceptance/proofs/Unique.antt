@@ -1,34 +1,16 @@
 -- The blocks of a splice have different numbers.
-use Rattle.std.proofs.Common.{◌≡◌, ℕ, suc, ◌≤◌, ◌⊎◌, inl, inr, List, [], ◌∷◌, ◌++◌, map, Some, refl, sym, ap, ◌∙◌, subst, arith, eq-eqb, ne_eqb}
+use Rattle.std.proofs.Common.{◌≡◌, ℕ, suc, ◌≤◌, ◌⊎◌, inl, inr, List, [], ◌∷◌, ◌++◌, map, refl, sym, ap, ◌∙◌, subst, arith, eq-eqb, ne_eqb}
 use Rattle.std.specs.Prelude.{if◌then◌else◌}
 use Rattle.std.proofs.lemmas.Bool.{cases_eq}
 use Rattle.ir_core.specs.Module.{Line, Block}
-use Rattle.ir_core.specs.Lookup.{block_numbers, find_block}
+use Rattle.ir_core.specs.Lookup.{block_numbers}
 use Rattle.ir_core.specs.Lists.{In, Different}
+use Rattle.ir_core.proofs.ByNumber.{numbers_join}
+use Rattle.ir_core.proofs.Members.{in_cases, different_join}
 use Rattle.ir_semantics.specs.Renaming.{block_under}
 use Rattle.ir_semantics.specs.Splice.{Kind, Last, Fragment, Splicing, Tries, Within, after_blocks, body, caller_names, cut_block, kind_of, fragment, fragment_by, spliced, spliced_blocks}
 use Rattle.inline_outcomes.proofs.Related.{Distinct}
-use Rattle.inline_outcomes.proofs.Places.{find_hit, find_skip}
-use Rattle.inline_acceptance.proofs.KeptLists.{in_split, in_map}
 use Rattle.inline_acceptance.proofs.Points.{shape, Shape, one, two, cut}
-
-numbers_append : (a b : List Block) → block_numbers (a ++ b) ≡ block_numbers a ++ block_numbers b
-numbers_append [] b = refl
-numbers_append (x ∷ a) b = ap (λ z. x.number ∷ z) (numbers_append a b)
-
-different_append : (a b : List ℕ) → Different a → Different b → ((x : ℕ) → In x a → In x b → ⊥) → Different (a ++ b)
-different_append [] b d e off = e
-different_append (x ∷ a) b d e off = ((λ p. elim (in_split x a b p) [ inl q ↦ d.0 q | inr q ↦ off x (inl refl) q ]), different_append a b d.1 e (λ y p q. off y (inr p) q))
-
--- names of one kind
-abbrev AllAre : (ℕ → Type 0) → List ℕ → Type 0
-AllAre P xs = (x : ℕ) → In x xs → P x
-
--- a block is found by its number, where numbers are different
-pub in_find : (b : Block) (bs : List Block) → Different (block_numbers bs) → In b bs → find_block b.number bs ≡ Some b
-in_find b [] d p = elim p [ ]
-in_find b (x ∷ bs) d (inl p) = find_hit b.number x bs (ap (λ z. z.number) (sym p)) ∙ ap Some (sym p)
-in_find b (x ∷ bs) d (inr p) = find_skip b.number x bs (λ q. d.0 (subst (λ z. In z (block_numbers bs)) (sym q) (in_map (λ z. z.number) b bs p))) ∙ in_find b bs d.1 p
 
 module _ (S : Splicing) (names : Distinct S.naming) where
   more_numbers : (c s : ℕ) (ls : List Line) → Different (block_numbers (fragment S c s ls).more) × ((x : ℕ) → In x (block_numbers (fragment S c s ls).more) → (j : ℕ) × (s ≤ j) × (x ≡ S.naming.new_block c j))
@@ -57,10 +39,10 @@ module _ (S : Splicing) (names : Distinct S.naming) where
       let ih = body_numbers gs d.1 in
       let more = (fragment S b.number 0 b.lines).more in
       let mn = more_numbers b.number 0 b.lines in
-      let e = numbers_append more (body S gs) in
-      let tail : Different (block_numbers more ++ block_numbers (body S gs)) = different_append (block_numbers more) (block_numbers (body S gs)) mn.0 ih.0 (λ x p q. let u = mn.1 x p in let w = ih.1 x q in elim w.2 [ inl r ↦ names.callee_new w.0 b.number u.0 (sym r ∙ u.2) | inr r ↦ let z = (names.new_block b.number u.0 w.0 r.0 (sym u.2 ∙ r.1)).0 in d.0 (subst (λ y. In y (block_numbers gs)) (sym z) w.1) ]) in (
+      let e = numbers_join more (body S gs) in
+      let tail : Different (block_numbers more ++ block_numbers (body S gs)) = different_join (block_numbers more) (block_numbers (body S gs)) mn.0 ih.0 (λ x p q. let u = mn.1 x p in let w = ih.1 x q in elim w.2 [ inl r ↦ names.callee_new w.0 b.number u.0 (sym r ∙ u.2) | inr r ↦ let z = (names.new_block b.number u.0 w.0 r.0 (sym u.2 ∙ r.1)).0 in d.0 (subst (λ y. In y (block_numbers gs)) (sym z) w.1) ]) in (
         (
-          (λ p. elim (in_split (S.naming.callee_block b.number) (block_numbers more) (block_numbers (body S gs)) (subst (In (S.naming.callee_block b.number)) e p)) [
+          (λ p. elim (in_cases (S.naming.callee_block b.number) (block_numbers more) (block_numbers (body S gs)) (subst (In (S.naming.callee_block b.number)) e p)) [
             | inl q ↦ let u = mn.1 (S.naming.callee_block b.number) q in names.callee_new b.number b.number u.0 u.2
             | inr q ↦ let w = ih.1 (S.naming.callee_block b.number) q in elim w.2 [ inl r ↦ d.0 (subst (λ y. In y (block_numbers gs)) (sym (names.callee_block b.number w.0 r)) w.1) | inr r ↦ names.callee_new b.number w.0 r.0 r.1 ]
           ]),
@@ -70,7 +52,7 @@ module _ (S : Splicing) (names : Distinct S.naming) where
             elim p [
               | inl q ↦ (b.number, inl refl, inl q)
               | inr q ↦
-                  elim (in_split x (block_numbers more) (block_numbers (body S gs)) (subst (In x) e q)) [
+                  elim (in_cases x (block_numbers more) (block_numbers (body S gs)) (subst (In x) e q)) [
                     | inl r ↦ let u = mn.1 x r in (b.number, inl refl, inr (u.0, u.2))
                     | inr r ↦ let w = ih.1 x r in (w.0, inr w.1, w.2)
                   ]
@@ -100,15 +82,15 @@ module _ (S : Splicing) (names : Distinct S.naming) where
       let gn = body_numbers S.callee.blocks dg in
       let an = after_numbers (kind_of S.site.inst) in
       let bn = renamed_numbers bs d in
-      let e2 = numbers_append A B in
-      let e1 = numbers_append G (A ++ B) in
-      let ab : Different (block_numbers A ++ block_numbers B) = different_append (block_numbers A) (block_numbers B) an.0 bn.0 (λ x p q. let u = bn.1 x q in names.caller_after u.0 (sym u.2 ∙ an.1 x p)) in
-      let all : Different (block_numbers G ++ block_numbers (A ++ B)) = different_append (block_numbers G) (block_numbers (A ++ B)) gn.0 (subst Different (sym e2) ab) (λ x p q. let w = gn.1 x p in elim (in_split x (block_numbers A) (block_numbers B) (subst (In x) e2 q)) [ inl r ↦ elim w.2 [ inl z ↦ names.callee_after w.0 (sym z ∙ an.1 x r) | inr z ↦ names.new_after w.0 z.0 (sym z.1 ∙ an.1 x r) ] | inr r ↦ let u = bn.1 x r in elim w.2 [ inl z ↦ names.blocks u.0 w.0 (sym u.2 ∙ z) | inr z ↦ names.caller_new u.0 w.0 z.0 (sym u.2 ∙ z.1) ] ]) in (
+      let e2 = numbers_join A B in
+      let e1 = numbers_join G (A ++ B) in
+      let ab : Different (block_numbers A ++ block_numbers B) = different_join (block_numbers A) (block_numbers B) an.0 bn.0 (λ x p q. let u = bn.1 x q in names.caller_after u.0 (sym u.2 ∙ an.1 x p)) in
+      let all : Different (block_numbers G ++ block_numbers (A ++ B)) = different_join (block_numbers G) (block_numbers (A ++ B)) gn.0 (subst Different (sym e2) ab) (λ x p q. let w = gn.1 x p in elim (in_cases x (block_numbers A) (block_numbers B) (subst (In x) e2 q)) [ inl r ↦ elim w.2 [ inl z ↦ names.callee_after w.0 (sym z ∙ an.1 x r) | inr z ↦ names.new_after w.0 z.0 (sym z.1 ∙ an.1 x r) ] | inr r ↦ let u = bn.1 x r in elim w.2 [ inl z ↦ names.blocks u.0 w.0 (sym u.2 ∙ z) | inr z ↦ names.caller_new u.0 w.0 z.0 (sym u.2 ∙ z.1) ] ]) in (
         subst Different (sym e1) all,
         (λ x p.
-            elim (in_split x (block_numbers G) (block_numbers (A ++ B)) (subst (In x) e1 p)) [
+            elim (in_cases x (block_numbers G) (block_numbers (A ++ B)) (subst (In x) e1 p)) [
               | inl q ↦ let w = gn.1 x q in elim w.2 [ inl z ↦ inr (inl (w.0, z)) | inr z ↦ inr (inr (inl (w.0, z.0, z.1))) ]
-              | inr q ↦ elim (in_split x (block_numbers A) (block_numbers B) (subst (In x) e2 q)) [ inl r ↦ inr (inr (inr (an.1 x r))) | inr r ↦ inl (bn.1 x r) ]
+              | inr q ↦ elim (in_cases x (block_numbers A) (block_numbers B) (subst (In x) e2 q)) [ inl r ↦ inr (inr (inr (an.1 x r))) | inr r ↦ inl (bn.1 x r) ]
             ]),
       )
 

@@ -11,8 +11,9 @@ use Rattle.ir_core.proofs.Members.{in_left, in_right, in_cases, below_in}
 use Rattle.ir_core.proofs.Splitting.{Split, split, at_block_none, numbers_split, count_join, definitions_join, line_definitions_join}
 use Rattle.inline_body.specs.Opened.{taken, parted, with_more}
 use Rattle.inline_body.proofs.Found.{in_middle}
-use Rattle.inline_body.proofs.SiteBlocks.{taken_at, numbers_join}
+use Rattle.inline_body.proofs.SiteBlocks.{taken_at}
 use Rattle.ir_core.proofs.Cutting.{cut_list}
+use Rattle.ir_core.proofs.ByNumber.{numbers_join}
 use Rattle.inline_body.specs.declared.blocks.BlockLines.{BlockLines}
 use Rattle.inline_body.specs.Inlined.{blocks_from}
 use Rattle.inline_body.specs.WithBody.{with_body, empty_from, behind, blocks_with_lines, all_of, numbers_of}

@@ -6,10 +6,11 @@ use Rattle.debug_tags.specs.declared.tags.Tag.TheVariants as tag
 use Rattle.ir_core.specs.declared.instructions.Arg.TheVariants as arg
 use Rattle.ir_core.specs.Module.{CallTarget, Instruction, Plain, Branches, SequencePoint, Return, Call, ReturnCall, TryCall, Line, Block}
 use Rattle.ir_core.specs.Lists.{Each, Below}
-use Rattle.ir_core.specs.Uses.{values_used, targets_used, arg_values_used, slots_used, slots_shown, callees_used, sigs_used, blocks_used}
+use Rattle.ir_core.specs.Uses.{values_used, targets_used, slots_used, slots_shown, callees_used, sigs_used, blocks_used}
 use Rattle.ir_core.specs.Sound.{Counts, LineInRange, BlockInRange}
 use Rattle.ir_core.proofs.Members.{each_more, each_join, below_join, below_left}
 use Rattle.ir_semantics.specs.Renaming.{tag_under, instruction_under, called_under}
+use Rattle.ir_semantics.proofs.Arguments.{value_args_used}
 use Rattle.inline_body.specs.declared.names.Names.{Names}
 use Rattle.inline_body.specs.Named.{names_of, Moves, Reached}
 use Rattle.inline_body.specs.Inlined.{takes_tags, copied_tags, copied_line, jump_line, call_in_place, inlined_line, inlined_lines, results_from, inlined_block, BlockReached}
@@ -23,10 +24,6 @@ below_mapped h m k f (x ∷ xs) b = (f x b.0, below_mapped h m k f xs b.1)
 pub each_below : (P : ℕ → Type 0) (m : ℕ) → ((v : ℕ) → v < m → P v) → (xs : List ℕ) → Below m xs → Each P xs
 each_below P m f [] b = tt
 each_below P m f (x ∷ xs) b = (f x b.0, each_below P m f xs b.1)
-
-pub value_args_used : (vs : List ℕ) → arg_values_used (map arg.Value vs) ++ [] ≡ vs
-value_args_used [] = refl
-value_args_used (v ∷ vs) = ap (λ z. v ∷ z) (value_args_used vs)
 
 shown_join : (xs ys : List Tag) → slots_shown (xs ++ ys) ≡ slots_shown xs ++ slots_shown ys
 shown_join [] ys = refl

@@ -4,10 +4,10 @@ use Rattle.std.specs.Prelude.{if◌then◌else◌}
 use Rattle.ir_core.specs.Module.{Block, Line}
 use Rattle.ir_core.specs.Lookup.{block_numbers}
 use Rattle.ir_core.specs.Lists.{In, Different}
-use Rattle.ir_core.specs.Edits.{params_of, lines_of}
+use Rattle.ir_core.specs.Edits.{params_of, lines_of, block_at}
 use Rattle.ir_core.specs.Viewed.{line_of}
 use Rattle.inline_body.specs.declared.blocks.BlockLines.{BlockLines}
-use Rattle.inline_body.specs.Inlined.{block_at, blocks_from}
+use Rattle.inline_body.specs.Inlined.{blocks_from}
 
 -- a block by its parts
 pub block_is : (n n' : ℕ) (ps ps' : List ℕ) (ls ls' : List Line) → n ≡ n' → ps ≡ ps' → ls ≡ ls'

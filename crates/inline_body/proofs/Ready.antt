@@ -20,6 +20,7 @@ use Rattle.ir_core.proofs.Members.{below_in, below_more, below_right, below_left
 use Rattle.ir_core.proofs.Counting.{definitions_below, all_in}
 use Rattle.ir_semantics.specs.Import.{sig_after, callee_after}
 use Rattle.ir_semantics.specs.Splice.{Naming, Splicing, Within, kind_of, args_of, from, first_number, callee_names, body, jump_in, new_types, spliced, splice_with}
+use Rattle.ir_semantics.proofs.Arguments.{value_args_used}
 use Rattle.body_import.specs.declared.declarations.Import.{Import}
 use Rattle.body_import.specs.Imports.{IsImportOf}
 use Rattle.body_import.proofs.FirstPlaces.{each_at}
@@ -36,7 +37,7 @@ use Rattle.inline_body.specs.PlainCall.{IsPlainCall, CanSplice, Keeps, splicing_
 use Rattle.inline_body.proofs.Along.{fits}
 use Rattle.inline_body.proofs.WithinBody.{body_is}
 use Rattle.inline_body.proofs.ResultTypes.{repeated_length, enumerate_join, types_moved, blocks_typed}
-use Rattle.inline_body.proofs.BodyRanges.{NamesInRange, NamesReach, blocks_in_range, blocks_reached, jump_in_range, value_args_used}
+use Rattle.inline_body.proofs.BodyRanges.{NamesInRange, NamesReach, blocks_in_range, blocks_reached, jump_in_range}
 use Rattle.inline_body.proofs.BodyDefinitions.{map_in, blocks_members, blocks_differ, blocks_count, params_there, lines_there, params_differ, own_lines_differ, lines_apart, lines_ranged, params_ranged, lines_counted, numbers_listed, blocks_listed}
 
 -- ---- lists
@@ -147,7 +148,7 @@ line_at N a i l (b ∷ bs) h e = go (nat_eq b.number a) e (λ q. line_at N a i l
     go true e ih = each_get b.lines i (h.0).lines e
     go false e ih = ih e
 
-index_small : (a : ℕ) (bs : List Block) → length (lines_of a bs) ≤ instruction_count bs
+pub index_small : (a : ℕ) (bs : List Block) → length (lines_of a bs) ≤ instruction_count bs
 index_small a [] = omega arith
 index_small a (b ∷ bs) = go (nat_eq b.number a) (index_small a bs)
   where

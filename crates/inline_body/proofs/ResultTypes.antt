@@ -9,8 +9,7 @@ use Rattle.ir_core.specs.Lookup.{type_in, block_numbers}
 use Rattle.ir_core.specs.Lists.{In, Different, Below}
 use Rattle.ir_semantics.specs.Renaming.{Renaming, typed_under}
 use Rattle.ir_semantics.specs.Splice.{Splicing, Kind, Within, kind_of, with_type, typed_results, new_types_by, line_types, new_types}
-use Rattle.ir_core.specs.Edits.{lines_of}
-use Rattle.inline_body.specs.Inlined.{block_at}
+use Rattle.ir_core.specs.Edits.{lines_of, block_at}
 use Rattle.inline_body.specs.Results.{is_tail_call, tail_calls, tail_calls_in, starts_along, repeated, with_values, OneTail}
 
 -- ---- a table with values at different keys

@@ -7,24 +7,12 @@ use Rattle.ir_core.specs.Lists.{In, Different}
 use Rattle.ir_core.specs.Edits.{at_block, insert_after, put_line, with_lines, but_last, lines_of}
 use Rattle.ir_core.proofs.Splitting.{Split, split, at_block_none}
 use Rattle.ir_core.proofs.Taking.{without_last, left_function}
-use Rattle.ir_core.proofs.Members.{different_apart, different_right}
+use Rattle.ir_core.proofs.Members.{different_apart, different_right, in_left, in_right}
+use Rattle.ir_core.proofs.ByNumber.{numbers_join}
 use Rattle.inline_body.specs.Opened.{taken, parted}
 use Rattle.inline_body.proofs.Fills.{numbers_still}
 
 -- ---- a block between others
-
-pub numbers_join : (xs ys : List Block) → block_numbers (xs ++ ys) ≡ block_numbers xs ++ block_numbers ys
-numbers_join [] ys = refl
-numbers_join (x ∷ xs) ys = ap (λ r. x.number ∷ r) (numbers_join xs ys)
-
-in_left : (a : ℕ) (xs ys : List ℕ) → In a xs → In a (xs ++ ys)
-in_left a [] ys i = elim i [ ]
-in_left a (x ∷ xs) ys (inl e) = inl e
-in_left a (x ∷ xs) ys (inr i) = inr (in_left a xs ys i)
-
-in_right : (a : ℕ) (xs ys : List ℕ) → In a ys → In a (xs ++ ys)
-in_right a [] ys i = i
-in_right a (x ∷ xs) ys i = inr (in_right a xs ys i)
 
 in_cases : (a : ℕ) (xs ys : List ℕ) → In a (xs ++ ys) → (In a xs → ⊥) → In a ys
 in_cases a [] ys i no_left = i
@@ -54,9 +42,6 @@ parted_there a n ps (b ∷ xs) ys h e x =
     ap (λ c. if c then record b { lines = [] } ∷ (record { number = n; params = ps; lines = b.lines } ∷ (xs ++ (h ∷ ys))) else b ∷ parted a n ps (xs ++ (h ∷ ys))) (ne_eqb b.number a (λ q. x (inl (sym q)))) ∙ ap (λ z. b ∷ z) (parted_there a n ps xs ys h e (λ j. x (inr j)))
 
 -- ---- lines
-
-one_more : (i : ℕ) → i + 1 ≡ suc i
-one_more i = omega arith
 
 front_of_cut : (i : ℕ) (ls : List Line) → i < length ls → but_last (take (suc i) ls) ≡ take i ls
 front_of_cut i [] h = absurd (omega (arith, h))

@@ -10,8 +10,9 @@ use Rattle.ir_core.proofs.Members.{in_left, in_right, in_cases, different_left, 
 use Rattle.ir_core.proofs.Splitting.{Split, split, definitions_split, definitions_join, line_definitions_join}
 use Rattle.ir_core.proofs.Counting.{definitions_below}
 use Rattle.inline_body.specs.Opened.{taken}
-use Rattle.inline_body.proofs.SiteBlocks.{taken_at, numbers_join}
+use Rattle.inline_body.proofs.SiteBlocks.{taken_at}
 use Rattle.ir_core.proofs.Cutting.{cut_list}
+use Rattle.ir_core.proofs.ByNumber.{numbers_join}
 
 -- six lists joined in another way
 regroup : (P Q A R B S : List ℕ) → P ++ ((Q ++ (A ++ (R ++ B))) ++ S) ≡ (P ++ (Q ++ A)) ++ (R ++ (B ++ S))

@@ -9,8 +9,8 @@ use Rattle.ir_core.specs.Edits.{at_block, put_line, lines_of}
 use Rattle.ir_core.proofs.Members.{in_left, in_right}
 use Rattle.ir_core.proofs.Splitting.{split}
 use Rattle.ir_core.proofs.Sizing.{each_in}
+use Rattle.ir_core.proofs.ByNumber.{numbers_join}
 use Rattle.inline_body.specs.Opened.{taken, parted}
-use Rattle.inline_body.proofs.SiteBlocks.{numbers_join}
 use Rattle.inline_body.specs.declared.blocks.BlockLines.{BlockLines}
 use Rattle.inline_body.specs.Inlined.{blocks_from}
 use Rattle.inline_body.specs.WithBody.{with_body, empty_from, behind, blocks_with_lines, all_of, numbers_of, counts_with}

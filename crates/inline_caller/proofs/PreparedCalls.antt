@@ -33,10 +33,6 @@ pub few_lines : (f : Function) (at : Point) (b : PlacedBody) → IsPlacedReady f
 few_lines f at (Within q) ready = let h = ready.few_lines in omega (arith, h)
 few_lines f at (Last q) ready = let h = ready.few_lines in omega (arith, h)
 
-pub few_added : (f : Function) (at : Point) (b : PlacedBody) → IsPlacedReady f at b → length f.blocks + blocks_added b < 2 ^ 32
-few_added f at (Within q) ready = let h = ready.few_blocks in omega (arith, h)
-few_added f at (Last q) ready = let h = ready.few_blocks in omega (arith, h)
-
 -- ---- once it is put
 
 module _ (f g k : Function) (at : Point) (call : PreparedCall) (is : IsPreparedFor f g at call) (q : PreparedBody) where

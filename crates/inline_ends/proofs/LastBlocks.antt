@@ -9,11 +9,11 @@ use Rattle.ir_core.specs.Edits.{at_block, put_line, lines_of, insert_after}
 use Rattle.ir_core.proofs.Members.{in_left, in_right, in_cases, below_in}
 use Rattle.ir_core.proofs.Splitting.{Split, split, definitions_join, line_definitions_join, count_join, numbers_split, length_split}
 use Rattle.ir_core.proofs.Sizing.{each_in}
+use Rattle.ir_core.proofs.ByNumber.{numbers_join}
 use Rattle.inline_body.specs.declared.blocks.BlockLines.{BlockLines}
 use Rattle.inline_body.specs.Inlined.{blocks_from}
 use Rattle.inline_ends.specs.Ending.{with_last_body}
 use Rattle.inline_body.specs.WithBody.{empty_from, behind, blocks_with_lines, all_of, numbers_of, counts_with}
-use Rattle.inline_body.proofs.SiteBlocks.{numbers_join}
 use Rattle.inline_body.proofs.Found.{found_at}
 use Rattle.inline_body.proofs.Fills.{numbers_still, as_many, defined_now, counted}
 use Rattle.inline_body.proofs.BodyBlocks.{at_here, empty_defines, empty_count, empty_length, other_number, behind_two}

@@ -13,7 +13,8 @@ use Rattle.ir_core.specs.Uses.{values_used, operands, called_used, called_callee
 use Rattle.ir_core.specs.Sound.{Counts, LineInRange, BlockInRange}
 use Rattle.ir_core.proofs.Members.{below_join, below_left, below_right, each_join}
 use Rattle.ir_semantics.specs.Renaming.{instruction_under, target_under, entry_under}
-use Rattle.ir_semantics.specs.Splice.{from, or_ret}
+use Rattle.ir_semantics.specs.Splice.{or_ret}
+use Rattle.ir_semantics.proofs.Arguments.{rets_use}
 use Rattle.inline_body.specs.declared.names.Names.{Names}
 use Rattle.inline_body.specs.Named.{names_of}
 use Rattle.inline_body.proofs.BodyRanges.{NamesInRange, below_mapped, both_shown, copied_in_range}
@@ -31,10 +32,6 @@ targets_joined (x ∷ xs) ys = ap (λ z. arg_values_used x.target.args ++ z) (ta
 blocks_joined : (xs ys : List (Entry BlockCall)) → map (λ t. t.block) (table_targets (xs ++ ys)) ≡ map (λ t. t.block) (table_targets xs) ++ map (λ t. t.block) (table_targets ys)
 blocks_joined [] ys = refl
 blocks_joined (x ∷ xs) ys = ap (λ z. x.target.block ∷ z) (blocks_joined xs ys)
-
-rets_use : (k n : ℕ) → arg_values_used (map arg.Ret (from k n)) ≡ []
-rets_use k zero = refl
-rets_use k (suc n) = rets_use (suc k) n
 
 returned_used : (m : ℕ) (ws : List ℕ) (as' : List Arg) → Below m ws → Below m (arg_values_used as') → Below m (arg_values_used (map (returned_arg ws) as'))
 returned_used m ws [] b h = tt

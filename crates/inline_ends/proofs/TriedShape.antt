@@ -6,14 +6,13 @@ use Rattle.ir_core.specs.Module.{Instruction, Plain, Branches, SequencePoint, Re
 use Rattle.ir_core.specs.Lists.{In, Different}
 use Rattle.ir_core.specs.Lookup.{block_numbers, definitions, line_definitions}
 use Rattle.ir_core.specs.Sound.{instruction_count}
-use Rattle.ir_core.specs.Edits.{lines_of}
+use Rattle.ir_core.specs.Edits.{lines_of, block_at}
 use Rattle.ir_core.proofs.Members.{in_left, in_right, in_cases, different_join, different_left, different_right, different_apart}
 use Rattle.ir_core.proofs.Splitting.{count_join, definitions_join}
+use Rattle.ir_core.proofs.ByNumber.{numbers_join}
 use Rattle.ir_semantics.specs.Splice.{Fragment}
 use Rattle.inline_body.specs.declared.names.Names.{Names}
-use Rattle.inline_body.specs.Inlined.{block_at}
 use Rattle.inline_body.specs.Results.{with_values}
-use Rattle.inline_body.proofs.SiteBlocks.{numbers_join}
 use Rattle.inline_ends.specs.Ending.{numbered}
 use Rattle.inline_ends.specs.Tried.{OuterTry, is_plain_call, plain_calls, plain_calls_in, numbered_with_calls, tried_line, with_line, tried_lines, tried_block, tried_blocks}
 

@@ -1,5 +1,5 @@
 -- Blocks in the making at a `try_call`, step by step.
-use Rattle.std.proofs.Common.{◌≡◌, ℕ, ◌+◌, ◌<◌, ◌^◌, List, [], ◌∷◌, ◌++◌, map, length, Bool, true, false, sym, ap, ap₂, ◌∙◌, subst, arith, append_assoc, append-nil, length-append}
+use Rattle.std.proofs.Common.{◌≡◌, ℕ, ◌+◌, ◌<◌, ◌^◌, List, [], ◌∷◌, ◌++◌, map, Bool, true, false, sym, ap, ap₂, ◌∙◌, subst, arith, append_assoc, append-nil}
 use Rattle.std.specs.Prelude.{if◌then◌else◌}
 use Rattle.std.proofs.lemmas.List.{map_push}
 use Rattle.ir_core.specs.declared.instructions.InstData.{InstData}
@@ -24,12 +24,6 @@ closed o m ls e p q g =
     ap₂ (λ (x : List (List ℕ)) (y : List BlockLines). blocks_from x y) p q
     ∙ (from_push o.made.block_params.items o.made.block_lines.items o.params (record { block = o.block; lines = ls }) e
     ∙ ap (λ (z : List Line). made_blocks o.made ++ (record { number = o.block; params = o.params; lines = z } ∷ [])) (ap (map line_of) g ∙ sym (append-nil (map line_of o.lines.items))))
-
-pub closed_length : (o : OpenBlock) (m : MadeBlocks) (x : BlockLines) → AsMany o.made → m.block_params.items ≡ o.made.block_params.items ++ (o.params ∷ []) → m.block_lines.items ≡ o.made.block_lines.items ++ (x ∷ []) → AsMany m
-closed_length o m x e p q =
-    let a = ap length p ∙ length-append o.made.block_params.items (o.params ∷ []) in
-    let b = ap length q ∙ length-append o.made.block_lines.items (x ∷ []) in
-    omega (arith, a, b, e)
 
 -- a line more in the open block
 pub longer : (o : OpenBlock) (ls : List InstData) (l : InstData) (rest : Fragment) → ls ≡ o.lines.items ++ (l ∷ []) → made_blocks o.made ++ block_with o.block o.params (record { lines = map line_of ls ++ rest.lines; more = rest.more }) ≡ with_rest o (record { lines = line_of l ∷ rest.lines; more = rest.more })

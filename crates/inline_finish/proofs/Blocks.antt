@@ -6,6 +6,7 @@ use Rattle.ir_core.specs.Edits.{lines_of}
 use Rattle.ir_core.specs.Lists.{In, Different}
 use Rattle.ir_core.specs.Lookup.{block_numbers}
 use Rattle.ir_core.specs.Module.{Block}
+use Rattle.inline_pass.proofs.Going.{move_one}
 use Rattle.inline_finish.specs.Midway.{from_block, behind_block, Remaining}
 
 -- the block of the number, with those behind it
@@ -48,14 +49,7 @@ from_there (a ∷ bs) cs b d =
     let t = from_there bs cs b d.1 in
     (ap (λ c. if c then a ∷ (bs ++ (b ∷ cs)) else from_block b.number (bs ++ (b ∷ cs))) off ∙ t.0, ap (λ c. if c then bs ++ (b ∷ cs) else behind_block b.number (bs ++ (b ∷ cs))) off ∙ t.1)
 
-one_more : (bs cs : List Block) (b : Block) → bs ++ (b ∷ cs) ≡ (bs ++ (b ∷ [])) ++ cs
-one_more [] cs b = refl
-one_more (a ∷ bs) cs b = ap (λ z. a ∷ z) (one_more bs cs b)
-
 -- ---- the loop over their numbers
-
-pub begins_remaining : (bs : List Block) (numbers : List ℕ) → numbers ≡ block_numbers bs → Remaining bs numbers bs
-begins_remaining bs numbers e = record { before = []; all = refl; are = sym e }
 
 -- the next block
 pub record Next (bs : List Block) (rest : List Block) (n : ℕ) (numbers : List ℕ) : Type 0 where
@@ -75,9 +69,5 @@ next bs (b ∷ rest) ns n numbers d r e =
     record {
       there = subst (λ k. In k (block_numbers bs)) first (subst (λ xs. In b.number (block_numbers xs)) (sym r.all) (number_in r.before rest b));
       from = from_n;
-      remaining = subst (Remaining bs numbers) (sym behind_n) (record { before = r.before ++ (b ∷ []); all = r.all ∙ one_more r.before rest b; are = others });
+      remaining = subst (Remaining bs numbers) (sym behind_n) (record { before = r.before ++ (b ∷ []); all = r.all ∙ move_one r.before rest b; are = others });
     }
-
-pub none_remain : (bs rest : List Block) (ns : List ℕ) → Remaining bs ns rest → ns ≡ [] → rest ≡ []
-none_remain bs [] ns r e = refl
-none_remain bs (b ∷ rest) ns r e = let z : b.number ∷ block_numbers rest ≡ [] = r.are ∙ e in absurd cc

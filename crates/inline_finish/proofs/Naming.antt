@@ -1,5 +1,5 @@
 -- Which functions callee declarations name, and their finished bodies.
-use Rattle.std.proofs.Common.{◌≡◌, ℕ, zero, suc, ◌<◌, List, [], ◌∷◌, length, arith, Option, Some, None, Bool, true, false, get_or, map, refl, sym, ap, ◌∙◌, subst}
+use Rattle.std.proofs.Common.{◌≡◌, ℕ, ◌<◌, List, length, Option, Some, None, Bool, true, false, get_or, map, refl, sym, ap, ◌∙◌, subst}
 use Rattle.std.specs.Prelude.{slice_get, if◌then◌else◌}
 use Rattle.std.proofs.lemmas.Option.{get_or_from_slice_get}
 use Rattle.ir_core.specs.declared.names.FuncName.{FuncName}
@@ -11,9 +11,9 @@ use Rattle.ir_core.specs.Uses.{callee_of}
 use Rattle.ir_core.specs.WellFormed.{DifferentNames}
 use Rattle.ir_core.proofs.Equal.{name_equal}
 use Rattle.ir_core.proofs.Indexing.{place_cases}
+use Rattle.ir_core.proofs.Gets.{get_mapped}
 use Rattle.inline_outcomes.proofs.Functions.{function_name}
-use Rattle.inline_acceptance.proofs.KeptFunctions.{get_in}
-use Rattle.inline_acceptance.proofs.KeptLists.{get_map, map_get, in_map}
+use Rattle.inline_acceptance.proofs.KeptLists.{map_get}
 use Rattle.call_graph.specs.Calls.{number_of}
 use Rattle.call_graph.specs.Reach.{apart}
 use Rattle.call_graph.specs.Order.{names_of, piece_number}
@@ -21,17 +21,13 @@ use Rattle.call_graph.proofs.Numbers.{some_at, number_is}
 use Rattle.call_graph.proofs.PieceNumbers.{apart_by_numbers}
 use Rattle.inline_pass.specs.Policy.{Policy}
 use Rattle.inline_pass.specs.Finished.{finished, finished_body}
-use Rattle.inline_pass.proofs.Passing.{then_some}
 use Rattle.call_graph.specs.Marks.{target_by}
+use Rattle.call_graph.proofs.Bridging.{name_in}
+use Rattle.ir_semantics.proofs.SafetyTypes.{then_some}
 use Rattle.inline_finish.specs.Targets.{target_of, targets_in}
 
 abbrev by_piece : (A : Type 0) → Bool → Option A → Option A
 by_piece A b o = if b then o else None
-
-get_below : {A : Type 0} (xs : List A) (k : ℕ) (x : A) → slice_get xs k ≡ Some x → k < length xs
-get_below [] k x h = absurd cc
-get_below (y ∷ ys) zero x h = omega arith
-get_below (y ∷ ys) (suc k) x h = let l = get_below ys k x h in omega (arith, l)
 
 -- ---- the target of a name
 
@@ -42,26 +38,20 @@ no_target m x y h = go (apart m x y)
     go true = h
     go false = refl
 
-name_there : (m : Module) (k : ℕ) (f : Function) → slice_get m k ≡ Some f → In f.name (names_of m)
-name_there m k f h = in_map (λ (f : Function). f.name) f m (get_in m k f h)
-
 pub own_piece : (m : Module) (j k : ℕ) (f g : Function) (y : FuncName) → slice_get m j ≡ Some f → slice_get m k ≡ Some g → g.name ≡ y → piece_number m g.name ≡ piece_number m f.name → None ≡ target_of m f.name y
 own_piece m j k f g y at there is same = go (apart m f.name y) refl
   where
     go : (b : Bool) → apart m f.name y ≡ b → None ≡ by_piece ℕ b (number_of m y)
-    go true e = absurd ((apart_by_numbers m f.name y (name_there m j f at) (subst (λ z. In z (names_of m)) is (name_there m k g there))).0 e (sym same ∙ ap (piece_number m) is))
+    go true e = absurd ((apart_by_numbers m f.name y (name_in m j f at) (subst (λ z. In z (names_of m)) is (name_in m k g there))).0 e (sym same ∙ ap (piece_number m) is))
     go false e = refl
 
 pub other_piece : (m : Module) (j k : ℕ) (f g : Function) (y : FuncName) → slice_get m j ≡ Some f → slice_get m k ≡ Some g → g.name ≡ y → (piece_number m g.name ≡ piece_number m f.name → ⊥) → Some k ≡ number_of m y → Some k ≡ target_of m f.name y
 other_piece m j k f g y at there is off number =
-    let other : apart m f.name y ≡ true = (apart_by_numbers m f.name y (name_there m j f at) (subst (λ z. In z (names_of m)) is (name_there m k g there))).1 (λ e. off (ap (piece_number m) is ∙ sym e)) in
+    let other : apart m f.name y ≡ true = (apart_by_numbers m f.name y (name_in m j f at) (subst (λ z. In z (names_of m)) is (name_in m k g there))).1 (λ e. off (ap (piece_number m) is ∙ sym e)) in
     number ∙ ap (λ b. by_piece ℕ b (number_of m y)) (sym other)
 
 pub number_at : (m : Module) (ns : List ℕ) (k : ℕ) (g : Function) → ns ≡ map (λ f. piece_number m f.name) m → slice_get m k ≡ Some g → get_or ns k 0 ≡ piece_number m g.name
-number_at m ns k g e h = get_or_from_slice_get ns k (piece_number m g.name) 0 (ap (λ xs. slice_get xs k) e ∙ get_map (λ (f : Function). piece_number m f.name) m k g h)
-
-pub index_there : (m : Module) (piece : List ℕ) (k : ℕ) (f : Function) → piece ≡ map (λ f. piece_number m f.name) m → slice_get m k ≡ Some f → k < length piece
-index_there m piece k f e h = subst (λ xs. k < length xs) (sym e) (get_below (map (λ (f : Function). piece_number m f.name) m) k (piece_number m f.name) (get_map (λ (f : Function). piece_number m f.name) m k f h))
+number_at m ns k g e h = get_or_from_slice_get ns k (piece_number m g.name) 0 (ap (λ xs. slice_get xs k) e ∙ get_mapped (λ (f : Function). piece_number m f.name) m k g h)
 
 found_there : (m : Module) (y : FuncName) (k : ℕ) → k < length m → find_function y m ≡ slice_get m k → (g : Function) × (slice_get m k ≡ Some g) × (g.name ≡ y)
 found_there m y k l e = let s = some_at m k l in (s.0, s.1, function_name y m s.0 (e ∙ s.1))
@@ -114,7 +104,7 @@ no_body p m x y h = go (apart m x y) h
 target_named : (m : Module) (f : Function) (l : Line) (j : ℕ) (d : Callee) → callee_of l.inst ≡ Some j → slice_get f.callees j ≡ Some d → target_by (targets_in m f) l ≡ target_of m f.name d.name
 target_named m f l j d is has =
     ap (λ o. and_then o (λ k. and_then (slice_get (targets_in m f) k) (λ target. target))) is
-    ∙ ap (λ o. and_then o (λ target. target)) (get_map (λ (c : Callee). target_of m f.name c.name) f.callees j d has)
+    ∙ ap (λ o. and_then o (λ target. target)) (get_mapped (λ (c : Callee). target_of m f.name c.name) f.callees j d has)
 
 pub record Named (m : Module) (f : Function) (l : Line) (k : ℕ) : Type 0 where
   pub index : ℕ

@@ -11,11 +11,10 @@ use Rattle.ir_core.specs.WellFormed.{WellFormed}
 use Rattle.ir_semantics.specs.Canon.{SameFunction}
 use Rattle.ir_semantics.specs.Renaming.{Renaming, line_under, block_under}
 use Rattle.ir_semantics.specs.Splice.{Naming, Splicing, spliced, splice_with}
+use Rattle.ir_semantics.proofs.SafetyTypes.{then_some}
 use Rattle.avail_flow.proofs.Blocks.{found_parts}
 use Rattle.inline_outcomes.specs.Stands.{Stands}
-use Rattle.inline_outcomes.proofs.Local.{some_same}
 use Rattle.inline_acceptance.proofs.Alone.{Free, free_same}
-use Rattle.inline_acceptance.proofs.KeptFunctions.{get_in}
 use Rattle.inline_numbering.specs.Carried.{SiteUnder, splicing_under}
 use Rattle.inline_numbering.proofs.Same.{by_way, way_renamed, renamed_is_same}
 use Rattle.inline_numbering.proofs.Sizes.{size_renamed}
@@ -25,12 +24,13 @@ use Rattle.inline_pass.specs.Sites.{called}
 use Rattle.inline_pass.specs.Going.{Task, Ahead, Twins, Going, before_line, stands, body_called, with_body, Fit}
 use Rattle.inline_pass.proofs.Putting.{code_splice}
 use Rattle.inline_pass.proofs.Going.{here_is, get_first}
-use Rattle.inline_pass.proofs.Passing.{Found, found, then_some, at_place, splice_is}
+use Rattle.inline_pass.proofs.Passing.{Found, found, at_place, splice_is}
 use Rattle.inline_pass.proofs.Others as others
 use Rattle.splice_bounds.specs.Laws.{WithinLimit}
 use Rattle.splice_size.specs.Laws.{Sited, SpliceSizeUnder}
 use Rattle.inline_finish.specs.Midway.{point_of}
 use Rattle.ir_core.proofs.Cutting.{cut_list}
+use Rattle.ir_core.proofs.Gets.{some_same, get_in}
 
 abbrev takes_of : Policy → ℕ → ℕ → Bool
 takes_of p body result = nat_le body p.callee_size && nat_le result p.caller_size

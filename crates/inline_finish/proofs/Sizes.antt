@@ -1,12 +1,11 @@
 -- Whether a policy takes a body, by sizes that stop at the greatest number.
-use Rattle.std.proofs.Common.{◌≡◌, ℕ, ◌+◌, ◌-◌, ◌<◌, ◌≤◌, List, [], ◌∷◌, length, Option, Some, None, Bool, true, false, ◌&&◌, refl, sym, ap, ◌∙◌, subst, arith}
+use Rattle.std.proofs.Common.{◌≡◌, ℕ, ◌+◌, ◌-◌, ◌<◌, ◌≤◌, length, Option, Some, None, Bool, true, false, ◌&&◌, refl, sym, ap, ◌∙◌, subst, arith}
 use Rattle.std.specs.Prelude.{nat_le, slice_get, IsSomeAnd, SomeIff}
-use Rattle.std.proofs.lemmas.Bool.{le-leb, lt-leb}
+use Rattle.std.proofs.lemmas.Bool.{le-leb, lt-leb, and_from}
 use Rattle.ir_core.specs.declared.places.Point.{Point}
-use Rattle.ir_core.specs.declared.signatures.Sig.{Sig}
 use Rattle.ir_core.specs.Module.{Line, Function, Module}
-use Rattle.ir_core.specs.Size.{size_of, capped, total, sig_size, line_size, block_size}
-use Rattle.ir_core.proofs.Equal.{true_both}
+use Rattle.ir_core.specs.Size.{size_of, capped, total, line_size, block_size}
+use Rattle.ir_core.proofs.Sizing.{sigs_count}
 use Rattle.ir_semantics.specs.Canon.{SameFunction}
 use Rattle.ir_semantics.specs.Splice.{Naming, sides, spliced}
 use Rattle.inline_numbering.proofs.Same.{by_way, way_renamed}
@@ -39,10 +38,6 @@ counts_there p m k h counts = go (slice_get m k)
     go (Some g) same is = same_counts p (finished p m g) h same counts is
 
 -- ---- what a function has beside a call is at most its size without the call
-
-sigs_count : (ss : List Sig) → length ss ≤ total sig_size ss
-sigs_count [] = omega arith
-sigs_count (s ∷ ss) = let h = sigs_count ss in omega (arith, h)
 
 pub sigs_within : (f : Function) → length f.sigs ≤ size_of f
 sigs_within f = let h = sigs_count f.sigs in omega (arith, h)
@@ -104,6 +99,6 @@ module _ (p : Policy) (f g : Function) (at : Point) (l : Line) where
 
       pub both_within : size_of g ≤ p.callee_size → (n : Naming) → takes p g (spliced (splicing_at n f g at l)) ≡ true
       both_within body n =
-          true_both (nat_le (size_of g) p.callee_size) (nat_le (size_of (spliced (splicing_at n f g at l))) p.caller_size)
+          and_from (nat_le (size_of g) p.callee_size) (nat_le (size_of (spliced (splicing_at n f g at l))) p.caller_size)
           (le-leb (size_of g) p.callee_size body)
           (le-leb (size_of (spliced (splicing_at n f g at l))) p.caller_size (subst (λ k. k ≤ p.caller_size) (size_told n) few))

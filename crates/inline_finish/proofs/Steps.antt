@@ -1,18 +1,16 @@
 -- The steps of the loop over a function's own lines.
-use Rattle.std.proofs.Common.{◌≡◌, inl, inr, ℕ, suc, ◌+◌, ◌-◌, ◌<◌, ◌≤◌, ◌^◌, List, [], ◌∷◌, length, drop, Bool, true, false, nat_eq, refl, sym, ap, ◌∙◌, subst, add-one, arith}
+use Rattle.std.proofs.Common.{◌≡◌, inl, inr, ℕ, suc, ◌+◌, ◌-◌, ◌<◌, ◌^◌, List, [], ◌∷◌, length, drop, true, refl, sym, ap, ◌∙◌, subst, add-one, arith}
 use Rattle.std.proofs.lemmas.List.{length-drop}
 use Rattle.ir_core.specs.declared.places.Point.{Point}
 use Rattle.ir_core.specs.Module.{Line, Block, Function, Module}
 use Rattle.ir_core.specs.Edits.{lines_of, IsPoint}
 use Rattle.ir_core.specs.Lists.{In, Each}
-use Rattle.inline_acceptance.proofs.KeptLists.{in_each}
 use Rattle.ir_core.specs.Lookup.{block_numbers}
 use Rattle.ir_core.specs.Sound.{IsSound, instruction_count}
-use Rattle.std.specs.Prelude.{if◌then◌else◌}
 use Rattle.ir_core.specs.Uses.{callee_of}
+use Rattle.ir_core.proofs.Members.{each_by, in_map}
 use Rattle.ir_semantics.specs.Canon.{SameFunction}
 use Rattle.inline_numbering.proofs.Same.{blocks_number}
-use Rattle.inline_numbering.proofs.Typed.{in_map}
 use Rattle.inline_pass.specs.Policy.{Policy}
 use Rattle.inline_pass.specs.Sites.{is_site}
 use Rattle.inline_pass.specs.Finished.{finished, finished_body}
@@ -21,6 +19,7 @@ use Rattle.inline_pass.specs.Going.{Task, Going, Fit, finishing}
 use Rattle.inline_pass.proofs.Steps.{Refused}
 use Rattle.inline_pass.proofs.Going.{begins, passes, turns}
 use Rattle.inline_pass.proofs.Putting.{finished_fit, done_is_finished}
+use Rattle.inline_body.proofs.Ready.{index_small}
 use Rattle.inline_finish.specs.declared.lines.Progress.{Progress}
 use Rattle.inline_finish.specs.Midway.{IsReady, point_of, Twin, twins_of, ahead_of, Midway, Between, IsMidway, IsBehind, IsBetween, IsOwnLine, from_block, left_in, passed_line}
 use Rattle.inline_finish.proofs.Blocks.{here}
@@ -96,21 +95,13 @@ still task l lines rest p h refused =
       size = h.size;
     }
 
-lines_counted : (a : ℕ) (bs : List Block) → length (lines_of a bs) ≤ instruction_count bs
-lines_counted a [] = omega arith
-lines_counted a (b ∷ bs) = go (nat_eq b.number a) (lines_counted a bs)
-  where
-    go : (c : Bool) → length (lines_of a bs) ≤ instruction_count bs → length (if c then b.lines else lines_of a bs) ≤ length b.lines + instruction_count bs
-    go true h = omega arith
-    go false h = omega (arith, h)
-
 -- so the place behind it has a number
 pub point_fits : (f : Function) (at : Point) (g : Function) → IsPoint f at → g ≡ f → IsSound g → at.index + 1 < 2 ^ 32
 point_fits f at g i e s =
     let few : instruction_count f.blocks < 2 ^ 32 - 1 = subst (λ (z : Function). instruction_count z.blocks < 2 ^ 32 - 1) e s.small.instructions in
-    let most = lines_counted at.block f.blocks in
+    let most = index_small at.block f.blocks in
     let below = i.1 in
     omega (arith, few, most, below)
 
 pub all_own : (f : Function) (block : ℕ) (lines : List Line) → lines ≡ lines_of block f.blocks → Each (IsOwnLine f block) lines
-all_own f block lines e = subst (Each (IsOwnLine f block)) (sym e) (in_each (IsOwnLine f block) (lines_of block f.blocks) (λ l i. i))
+all_own f block lines e = subst (Each (IsOwnLine f block)) (sym e) (each_by (IsOwnLine f block) (lines_of block f.blocks) (λ l i. i))

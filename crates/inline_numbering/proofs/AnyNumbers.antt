@@ -1,13 +1,12 @@
 -- Whatever numbers a splice is given, it is the definition's up to numbering.
-use Rattle.std.proofs.Common.{◌≡◌, ◌∷◌, [], refl, sym, ap, ap₂, ◌∙◌, subst}
-use Rattle.ir_core.specs.Module.{Line}
+use Rattle.std.proofs.Common.{◌≡◌, refl, sym, ap, ap₂, ◌∙◌, subst}
 use Rattle.ir_core.specs.Sound.{IsSound, IsWhole}
 use Rattle.ir_core.specs.WellFormed.{WellFormed}
 use Rattle.ir_core.proofs.Wholeness.{whole_of}
 use Rattle.ir_semantics.specs.Canon.{canonical, SameFunction}
 use Rattle.ir_semantics.specs.Renaming.{Renaming, line_under}
 use Rattle.ir_semantics.specs.Splice.{Splicing, sides, spliced}
-use Rattle.inline_outcomes.proofs.Linking.{same_numbers, lines_same}
+use Rattle.inline_outcomes.proofs.Linking.{same_numbers, lines_same, line_same}
 use Rattle.inline_acceptance.specs.Alone.{AloneParts, CallSite, standing}
 use Rattle.inline_acceptance.proofs.Alone.{splice_alone}
 use Rattle.inline_numbering.specs.Renamed.{Renamed}
@@ -16,9 +15,6 @@ use Rattle.inline_numbering.specs.Laws.{by_sides, SpliceOfAnyNumbers}
 use Rattle.inline_numbering.proofs.Same.{renamed_itself, renamed_is_same}
 use Rattle.inline_numbering.proofs.Sides.{joined, sides_carry}
 use Rattle.inline_numbering.proofs.Places.{splice_renamed, splice_stays_whole}
-
-pub line_itself : (l : Line) → line_under same_numbers l ≡ l
-line_itself l = let e : l ∷ [] ≡ line_under same_numbers l ∷ [] = lines_same (l ∷ []) in cc
 
 module _ (q : Splicing) (site : CallSite q) (parts : AloneParts q) where
   abbrev p : Splicing
@@ -49,7 +45,7 @@ module _ (q : Splicing) (site : CallSite q) (parts : AloneParts q) where
   under_is : under ≡ q
   under_is =
       ap₂ (λ us ws. record { naming = q.naming; caller = q.caller; callee = q.callee; at = q.at; before = us; site = line_under same_numbers q.site; behind = ws }) (sym (lines_same q.before)) (sym (lines_same q.behind))
-      ∙ ap (λ l. record { naming = q.naming; caller = q.caller; callee = q.callee; at = q.at; before = q.before; site = l; behind = q.behind }) (line_itself q.site)
+      ∙ ap (λ l. record { naming = q.naming; caller = q.caller; callee = q.callee; at = q.at; before = q.before; site = l; behind = q.behind }) (line_same q.site)
 
   stays : SiteUnder same_numbers same_numbers p q.caller q.callee
   stays =

@@ -13,18 +13,15 @@ use Rattle.exn_tables.specs.declared.table.Entry.{Entry}
 use Rattle.ir_core.specs.declared.instructions.BlockCall.{BlockCall}
 use Rattle.ir_core.specs.Uses.{values_used, slots_used, slots_shown, callees_used, sigs_used, blocks_used, table_targets}
 use Rattle.ir_semantics.specs.Canon.{canonical_names, types_in_order, canonical, canonical_module}
+use Rattle.ir_semantics.proofs.SafetyPlaces.{has_type}
 use Rattle.ir_core.specs.WellFormed.{declared, LineWellFormed, BlockWellFormed, WellFormed}
+use Rattle.ir_core.proofs.Members.{in_map}
 use Rattle.inline_outcomes.proofs.Numbering.{place_injective}
 use Rattle.inline_acceptance.proofs.KeptNumbers.{canonical_typed}
 use Rattle.inline_acceptance.proofs.KeptRules.{used_under}
-use Rattle.inline_acceptance.proofs.KeptSite.{declared_type}
+use Rattle.inline_acceptance.proofs.KeptCounts.{blocks_under}
 use Rattle.inline_numbering.specs.Renamed.{Renamed, CanonicalIsSame, CanonicalModuleIsSame}
-use Rattle.inline_numbering.proofs.Same.{blocks_define, blocks_number, renamed_is_same}
-
-in_map : (f : ℕ → ℕ) (v : ℕ) (xs : List ℕ) → In v xs → In (f v) (map f xs)
-in_map f v [] i = elim i [ ]
-in_map f v (x ∷ xs) (inl e) = inl (ap f e)
-in_map f v (x ∷ xs) (inr i) = inr (in_map f v xs i)
+use Rattle.inline_numbering.proofs.Same.{blocks_number, renamed_is_same}
 
 from_map : (f : ℕ → ℕ) → ((a b : ℕ) → f a ≡ f b → a ≡ b) → (v : ℕ) (xs : List ℕ) → In (f v) (map f xs) → In v xs
 from_map f inj v [] i = elim i [ ]
@@ -127,7 +124,7 @@ module _ (f : Function) (w : WellFormed f) where
 
   declared_of : (new : ℕ → ℕ) (ts : List (ℕ × Ty)) (vs : List ℕ) → ((v : ℕ) → In v vs → In v (map (λ x. x.0) ts)) → map (λ x. x.0) (types_in_order new ts vs) ≡ map new vs
   declared_of new ts [] h = refl
-  declared_of new ts (v ∷ vs) h = go (declared_type ts v (h v (inl refl))) (declared_of new ts vs (λ u i. h u (inr i)))
+  declared_of new ts (v ∷ vs) h = go (has_type ts v (h v (inl refl))) (declared_of new ts vs (λ u i. h u (inr i)))
     where
       go : (t : Ty) × (type_in ts v ≡ Some t) → map (λ x. x.0) (types_in_order new ts vs) ≡ map new vs → map (λ x. x.0) (with_type (new v) (type_in ts v) ++ types_in_order new ts vs) ≡ new v ∷ map new vs
       go (t, e) ih = ap (λ (o : Option Ty). map (λ x. x.0) (with_type (new v) o ++ types_in_order new ts vs)) e ∙ ap (λ z. new v ∷ z) ih
@@ -136,7 +133,7 @@ module _ (f : Function) (w : WellFormed f) where
   declared_is = declared_of r.value f.types (definitions f.blocks) w.definitions_declared
 
   defined_is : definitions (canonical f).blocks ≡ map r.value (definitions f.blocks)
-  defined_is = blocks_define r f.blocks
+  defined_is = blocks_under r f.blocks
 
   numbers_are : block_numbers (canonical f).blocks ≡ map r.block (block_numbers f.blocks)
   numbers_are = blocks_number r f.blocks

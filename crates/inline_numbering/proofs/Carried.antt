@@ -2,6 +2,7 @@
 use Rattle.std.proofs.Common.{◌≡◌, ℕ, zero, suc, inl, inr, List, [], ◌∷◌, ◌++◌, map, length, Some, None, refl, sym, ap, ap₂, ◌∙◌, subst, eq-eqb, ne_eqb}
 use Rattle.std.specs.Prelude.{if◌then◌else◌, nat_eq, slice_get}
 use Rattle.std.proofs.lemmas.Bool.{cases_eq}
+use Rattle.std.proofs.lemmas.List.{map-append}
 use Rattle.exn_tables.specs.declared.table.Entry.{Entry}
 use Rattle.debug_tags.specs.declared.tags.Tag.{Tag}
 use Rattle.ir_core.specs.declared.declarations.Callee.{Callee}
@@ -14,6 +15,7 @@ use Rattle.ir_core.specs.Lookup.{block_numbers}
 use Rattle.ir_semantics.specs.Renaming.{Renaming, arg_under, target_under, tag_under, entry_under, called_under, try_target_under, instruction_under, line_under, block_under}
 use Rattle.ir_semantics.specs.Import.{sig_after, callee_after, slot_after}
 use Rattle.ir_semantics.specs.Splice.{Naming, Splicing, Kind, Within, Last, Tries, kind_of, args_of, tags_before, from, first_number, or_ret, Fragment, caller_names, callee_names, joined_tags, line_with, callee_line, jump_to, to_after, returned_arg, to_normal, new_results, named_sig, try_target, front, try_with, within_fragment, tries_fragment, fragment_by, fragment, body, jump_in, cut_block, after_blocks, spliced_blocks}
+use Rattle.inline_acceptance.proofs.KeptLists.{length_map}
 use Rattle.inline_numbering.proofs.Via.{target_via, entries_via, tags_via, instruction_via, called_via, try_via, lines_via, blocks_via}
 use Rattle.inline_numbering.proofs.Any.{Any, args, entries, called, instruction, lines, blocks}
 use Rattle.inline_numbering.specs.Carried.{Carries}
@@ -25,14 +27,6 @@ map_both h u w (v ∷ vs) e = ap₂ (λ x xs. x ∷ xs) (e v) (map_both h u w vs
 map_square : (h u w x : ℕ → ℕ) (vs : List ℕ) → ((v : ℕ) → h (u v) ≡ w (x v)) → map h (map u vs) ≡ map w (map x vs)
 map_square h u w x [] e = refl
 map_square h u w x (v ∷ vs) e = ap₂ (λ y ys. y ∷ ys) (e v) (map_square h u w x vs e)
-
-pub map_append : {A B : Type 0} (h : A → B) (xs ys : List A) → map h (xs ++ ys) ≡ map h xs ++ map h ys
-map_append h [] ys = refl
-map_append h (x ∷ xs) ys = ap (λ r. h x ∷ r) (map_append h xs ys)
-
-pub length_same : {A B : Type 0} (h : A → B) (xs : List A) → length (map h xs) ≡ length xs
-length_same h [] = refl
-length_same h (x ∷ xs) = ap suc (length_same h xs)
 
 hit : {X : Type 0} (b a : ℕ) (x y : X) → b ≡ a → (if nat_eq b a then x else y) ≡ x
 hit b a x y e = ap (λ c. if c then x else y) (eq-eqb b a e)
@@ -157,16 +151,16 @@ module _ (t r s : Renaming) (n m : Naming) (b c g h : Function) (at : ℕ) (befo
   f_vals vs = map_square t.value n.caller_value m.caller_value r.value vs k.caller_value
 
   news : (x : ℕ) → map t.value (new_results P x) ≡ new_results Q (s.block x)
-  news x = map_both t.value (n.new_value x) (m.new_value (s.block x)) (from 0 (length site.results)) (k.new_value x) ∙ ap (λ z. map (m.new_value (s.block x)) (from 0 z)) (sym (length_same r.value site.results))
+  news x = map_both t.value (n.new_value x) (m.new_value (s.block x)) (from 0 (length site.results)) (k.new_value x) ∙ ap (λ z. map (m.new_value (s.block x)) (from 0 z)) (sym (length_map r.value site.results))
 
   tags_in_front : (i : Instruction) (us ts : List Tag) → map (tag_under t) (tags_before i us ts) ≡ tags_before (instruction_under s i) (map (tag_under t) us) (map (tag_under t) ts)
   tags_in_front (Plain p) us ts = refl
   tags_in_front (Branches x) us ts = refl
-  tags_in_front SequencePoint us ts = map_append (tag_under t) us ts
+  tags_in_front SequencePoint us ts = map-append (tag_under t) us ts
   tags_in_front (Return vs) us ts = refl
-  tags_in_front (Call x vs) us ts = map_append (tag_under t) us ts
-  tags_in_front (ReturnCall x vs) us ts = map_append (tag_under t) us ts
-  tags_in_front (TryCall x y vs z u) us ts = map_append (tag_under t) us ts
+  tags_in_front (Call x vs) us ts = map-append (tag_under t) us ts
+  tags_in_front (ReturnCall x vs) us ts = map-append (tag_under t) us ts
+  tags_in_front (TryCall x y vs z u) us ts = map-append (tag_under t) us ts
 
   tags_same : (i : Instruction) (ts : List Tag) → map (tag_under t) (joined_tags P i ts) ≡ joined_tags Q (instruction_under s i) (map (tag_under s) ts)
   tags_same i ts = tags_in_front i (map (tag_under (caller_names P)) site.tags) (map (tag_under (callee_names P)) ts) ∙ ap₂ (tags_before (instruction_under s i)) (f_tags site.tags) (g_tags ts)
@@ -246,14 +240,14 @@ module _ (t r s : Renaming) (n m : Naming) (b c g h : Function) (at : ℕ) (befo
   tries x u d j i (Return vs) p q e = fronts (to_normal P x vs) (to_normal Q (target_under r x) (map s.value vs)) p q (normal_line x vs) e
   tries x u d j i (Call z vs) p q e = (
     ap (λ a. a ∷ []) (try_line i (try_target (called_under (callee_names P) z)) (try_target (called_under (callee_names Q) (called_under s z))) (named_sig P (called_under (callee_names P) z)) (named_sig Q (called_under (callee_names Q) (called_under s z))) vs (record { block = n.new_block d j; args = map arg.Ret (from 0 (length i.results)) }) (record { block = m.new_block (s.block d) j; args = map arg.Ret (from 0 (length (map s.value i.results))) }) (map (entry_under (caller_names P)) u) (map (entry_under (caller_names Q)) (map (entry_under r) u)) (g_in_place z) (sig_named z)
-        (ap₂ (λ (a : ℕ) (w : List Arg). record { block = a; args = w }) (k.new_block d j) (rets (from 0 (length i.results)) ∙ ap (λ z. map arg.Ret (from 0 z)) (sym (length_same s.value i.results)))) (f_entries u)),
+        (ap₂ (λ (a : ℕ) (w : List Arg). record { block = a; args = w }) (k.new_block d j) (rets (from 0 (length i.results)) ∙ ap (λ z. map arg.Ret (from 0 z)) (sym (length_map s.value i.results)))) (f_entries u)),
     ap₂ (λ (a : Block) w. a ∷ w) (ap₂ (λ (a : ℕ) (w : List ℕ). record { number = a; params = w; lines = map (line_under t) p.lines }) (k.new_block d j) (g_vals i.results) ∙ ap (λ (ls : List Line). record { number = m.new_block (s.block d) j; params = map m.callee_value (map s.value i.results); lines = ls }) e.0) e.1,
   )
   tries x u d j i (TryCall z y vs own inner) p q e =
       fronts (try_with P i (try_target_under (callee_names P) z) (sig_after b g y) vs (target_under (callee_names P) own) (map (entry_under (callee_names P)) inner ++ map (entry_under (caller_names P)) u))
       (try_with Q (line_under s i) (try_target_under (callee_names Q) (try_target_under s z)) (sig_after c h (s.sig y)) (map s.value vs) (target_under (callee_names Q) (target_under s own)) (map (entry_under (callee_names Q)) (map (entry_under s) inner) ++ map (entry_under (caller_names Q)) (map (entry_under r) u))) p q
       (try_line i (try_target_under (callee_names P) z) (try_target_under (callee_names Q) (try_target_under s z)) (sig_after b g y) (sig_after c h (s.sig y)) vs (target_under (callee_names P) own) (target_under (callee_names Q) (target_under s own)) (map (entry_under (callee_names P)) inner ++ map (entry_under (caller_names P)) u) (map (entry_under (callee_names Q)) (map (entry_under s) inner) ++ map (entry_under (caller_names Q)) (map (entry_under r) u)) (g_try z) (k.sig (sig_after b g y) ∙ sym (g_sig y)) (g_target own)
-      (map_append (entry_under t) (map (entry_under (callee_names P)) inner) (map (entry_under (caller_names P)) u) ∙ ap₂ (λ v w. v ++ w) (g_entries inner) (f_entries u))) e
+      (map-append (entry_under t) (map (entry_under (callee_names P)) inner) (map (entry_under (caller_names P)) u) ∙ ap₂ (λ v w. v ++ w) (g_entries inner) (f_entries u))) e
   tries x u d j i (ReturnCall z vs) p q e =
       fronts (try_with P i (try_target (called_under (callee_names P) z)) (named_sig P (called_under (callee_names P) z)) vs (target_under (caller_names P) x) (map (entry_under (caller_names P)) u))
       (try_with Q (line_under s i) (try_target (called_under (callee_names Q) (called_under s z))) (named_sig Q (called_under (callee_names Q) (called_under s z))) (map s.value vs) (target_under (caller_names Q) (target_under r x)) (map (entry_under (caller_names Q)) (map (entry_under r) u))) p q
@@ -275,7 +269,7 @@ module _ (t r s : Renaming) (n m : Naming) (b c g h : Function) (at : ℕ) (befo
   bodies (x ∷ bs) =
       ap₂ (λ (u : Block) w. u ∷ w)
       (ap₂ (λ (u : ℕ) (w : List ℕ). record { number = u; params = w; lines = map (line_under t) (fragment P x.number 0 x.lines).lines }) (k.callee_block x.number) (g_vals x.params) ∙ ap (λ (ls : List Line). record { number = m.callee_block (s.block x.number); params = map m.callee_value (map s.value x.params); lines = ls }) (pieces x.number 0 x.lines).0)
-      (map_append (block_under t) (fragment P x.number 0 x.lines).more (body P bs) ∙ ap₂ (λ u w. u ++ w) (pieces x.number 0 x.lines).1 (bodies bs))
+      (map-append (block_under t) (fragment P x.number 0 x.lines).more (body P bs) ∙ ap₂ (λ u w. u ++ w) (pieces x.number 0 x.lines).1 (bodies bs))
 
   afters : (z : Kind) → map (block_under t) (after_blocks P z) ≡ after_blocks Q (kind_under r z)
   afters Within = ap (λ (u : Block). u ∷ []) (ap₂ (λ (u : ℕ) (w : List ℕ). record { number = u; params = w; lines = map (line_under t) (map (line_under (caller_names P)) behind) }) k.after (f_vals site.results) ∙ ap (λ (ls : List Line). record { number = m.after; params = map m.caller_value (map r.value site.results); lines = ls }) (f_lines behind))
@@ -289,7 +283,7 @@ module _ (t r s : Renaming) (n m : Naming) (b c g h : Function) (at : ℕ) (befo
   cut_same : (x : Block) → block_under t (cut_block P x) ≡ cut_block Q (block_under r x)
   cut_same x =
       ap₂ (λ (u : ℕ) (w : List ℕ). record { number = u; params = w; lines = map (line_under t) (map (line_under (caller_names P)) before ++ (jump_in P ∷ [])) }) (k.caller_block x.number) (f_vals x.params)
-      ∙ ap (λ (ls : List Line). record { number = m.caller_block (r.block x.number); params = map m.caller_value (map r.value x.params); lines = ls }) (map_append (line_under t) (map (line_under (caller_names P)) before) (jump_in P ∷ []) ∙ ap₂ (λ u w. u ++ (w ∷ [])) (f_lines before) enters)
+      ∙ ap (λ (ls : List Line). record { number = m.caller_block (r.block x.number); params = map m.caller_value (map r.value x.params); lines = ls }) (map-append (line_under t) (map (line_under (caller_names P)) before) (jump_in P ∷ []) ∙ ap₂ (λ u w. u ++ (w ∷ [])) (f_lines before) enters)
 
   block : (x : Block) → block_under t (block_under (caller_names P) x) ≡ block_under (caller_names Q) (block_under r x)
   block x = ap₂ (λ (u : ℕ) (w : List ℕ). record { number = u; params = w; lines = map (line_under t) (map (line_under (caller_names P)) x.lines) }) (k.caller_block x.number) (f_vals x.params) ∙ ap (λ (ls : List Line). record { number = m.caller_block (r.block x.number); params = map m.caller_value (map r.value x.params); lines = ls }) (f_lines x.lines)
@@ -302,8 +296,8 @@ module _ (t r s : Renaming) (n m : Naming) (b c g h : Function) (at : ℕ) (befo
 
   middles : (bs : List Block) → map (block_under t) (body P g.blocks ++ (after_blocks P (kind_of site.inst) ++ map (block_under (caller_names P)) bs)) ≡ body Q h.blocks ++ (after_blocks Q (kind_of (instruction_under r site.inst)) ++ map (block_under (caller_names Q)) (map (block_under r) bs))
   middles bs =
-      map_append (block_under t) (body P g.blocks) (after_blocks P (kind_of site.inst) ++ map (block_under (caller_names P)) bs)
-      ∙ ap₂ (λ u w. u ++ w) (bodies g.blocks ∙ ap (body Q) (sym k.callee_blocks)) (map_append (block_under t) (after_blocks P (kind_of site.inst)) (map (block_under (caller_names P)) bs) ∙ ap₂ (λ u w. u ++ w) (afters (kind_of site.inst) ∙ ap (after_blocks Q) (sym (kind_same r site.inst))) (f_blocks bs))
+      map-append (block_under t) (body P g.blocks) (after_blocks P (kind_of site.inst) ++ map (block_under (caller_names P)) bs)
+      ∙ ap₂ (λ u w. u ++ w) (bodies g.blocks ∙ ap (body Q) (sym k.callee_blocks)) (map-append (block_under t) (after_blocks P (kind_of site.inst)) (map (block_under (caller_names P)) bs) ∙ ap₂ (λ u w. u ++ w) (afters (kind_of site.inst) ∙ ap (after_blocks Q) (sym (kind_same r site.inst))) (f_blocks bs))
 
   -- the numbers of these blocks that are not `at` stay other numbers
   pub carried : (bs : List Block) → ((x : ℕ) → In x (block_numbers bs) → r.block x ≡ r.block at → x ≡ at) → map (block_under t) (spliced_blocks P bs) ≡ spliced_blocks Q (map (block_under r) bs)

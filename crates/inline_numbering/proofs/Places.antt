@@ -9,7 +9,6 @@ use Rattle.ir_core.specs.WellFormed.{WellFormed}
 use Rattle.ir_semantics.specs.Canon.{canonical, SameFunction}
 use Rattle.ir_semantics.specs.Renaming.{Renaming, line_under, block_under}
 use Rattle.ir_semantics.specs.Splice.{Naming, Splicing, sides, spliced, splice_with}
-use Rattle.inline_outcomes.proofs.Local.{some_same}
 use Rattle.inline_outcomes.proofs.Places.{find_hit, find_skip}
 use Rattle.inline_numbering.specs.Carried.{Carries, SiteUnder, splicing_under}
 use Rattle.inline_numbering.specs.Laws.{SpliceCarried, SpliceRenamed, SpliceStaysWhole, SpliceRespectsNumbers}
@@ -19,6 +18,8 @@ use Rattle.inline_numbering.proofs.Carried as carried
 use Rattle.inline_numbering.proofs.Sides as numbers
 use Rattle.inline_numbering.proofs.Typed as typed
 use Rattle.ir_core.proofs.Cutting.{cut_list}
+use Rattle.ir_core.proofs.Gets.{some_same}
+use Rattle.ir_core.proofs.Members.{in_map}
 
 pub splice_carried : SpliceCarried
 splice_carried t r s p m c h k bs apart = carried.carried t r s p.naming m p.caller c p.callee h p.at p.before p.site p.behind k bs apart
@@ -39,7 +40,7 @@ find_under r (b ∷ bs) x d i =
       | inr e ↦
           let j : In x (block_numbers bs) = elim i [ inl q ↦ absurd (e (sym q)) | inr q ↦ q ] in
           let t = find_under r bs x d.1 j in
-          let off : r.block b.number ≡ r.block x → ⊥ = λ q. d.0 (subst (λ z. In z (map r.block (block_numbers bs))) (sym q) (typed.in_map r.block x (block_numbers bs) j)) in
+          let off : r.block b.number ≡ r.block x → ⊥ = λ q. d.0 (subst (λ z. In z (map r.block (block_numbers bs))) (sym q) (in_map r.block x (block_numbers bs) j)) in
           (t.0, find_skip x b bs e ∙ t.1, find_skip (r.block x) (block_under r b) (map (block_under r) bs) off ∙ t.2)
     ]
 

@@ -10,16 +10,17 @@ use Rattle.ir_core.specs.declared.declarations.Callee.{Callee}
 use Rattle.ir_core.specs.Module.{Line, Block, Function}
 use Rattle.ir_core.specs.Lookup.{type_in, type_of, line_definitions, definitions, block_numbers, number_in}
 use Rattle.ir_core.specs.Lists.{In, Each, Different}
-use Rattle.ir_semantics.specs.Renaming.{Renaming, line_under, block_under}
+use Rattle.ir_semantics.specs.Renaming.{Renaming, block_under}
 use Rattle.ir_semantics.specs.Splice.{with_type}
 use Rattle.ir_semantics.specs.Canon.{canonical_names, types_in_order, canonical, SameFunction}
 use Rattle.ir_core.specs.Uses.{values_used, blocks_used}
 use Rattle.ir_core.specs.WellFormed.{declared, LineWellFormed, BlockWellFormed, WellFormed}
-use Rattle.ir_core.proofs.Members.{in_left, in_right, each_more}
+use Rattle.ir_core.proofs.Members.{in_left, in_right, each_more, each_by, in_map}
 use Rattle.inline_outcomes.proofs.Linking.{same_numbers, values_same, lines_same}
 use Rattle.inline_outcomes.proofs.Numbering.{back_names, back_rest, canonical_back}
 use Rattle.inline_acceptance.proofs.KeptNumbers.{canonical_typed}
 use Rattle.inline_acceptance.proofs.KeptCanon.{back_typed}
+use Rattle.inline_acceptance.proofs.KeptCounts.{blocks_under}
 use Rattle.inline_numbering.specs.Carried.{SamePlace}
 use Rattle.inline_numbering.specs.Renamed.{Renamed, RenamedIsSame, SameIsRenamed}
 use Rattle.inline_numbering.proofs.Via.{blocks_via}
@@ -29,14 +30,6 @@ use Rattle.inline_numbering.proofs.Via.{blocks_via}
 map_append : (f : ℕ → ℕ) (xs ys : List ℕ) → map f (xs ++ ys) ≡ map f xs ++ map f ys
 map_append f [] ys = refl
 map_append f (x ∷ xs) ys = ap (λ r. f x ∷ r) (map_append f xs ys)
-
-in_map : (f : ℕ → ℕ) (v : ℕ) (xs : List ℕ) → In v xs → In (f v) (map f xs)
-in_map f v [] i = elim i [ ]
-in_map f v (x ∷ xs) i = elim i [ inl e ↦ inl (ap f e) | inr r ↦ inr (in_map f v xs r) ]
-
-each_in : (P : ℕ → Type 0) (xs : List ℕ) → ((v : ℕ) → In v xs → P v) → Each P xs
-each_in P [] h = tt
-each_in P (x ∷ xs) h = (h x (inl refl), each_in P xs (λ v i. h v (inr i)))
 
 -- no injective renaming is asked
 pub place_map : (f : ℕ → ℕ) (xs : List ℕ) (v : ℕ) → Different (map f xs) → In v xs → number_in (map f xs) (f v) ≡ number_in xs v
@@ -50,16 +43,6 @@ place_map f (x ∷ xs) v d i =
     ]
 
 -- ---- numbers under a renaming
-
-pub lines_define : (r : Renaming) (ls : List Line) → line_definitions (map (line_under r) ls) ≡ map r.value (line_definitions ls)
-lines_define r [] = refl
-lines_define r (l ∷ ls) = ap (λ z. map r.value l.results ++ z) (lines_define r ls) ∙ sym (map_append r.value l.results (line_definitions ls))
-
-pub blocks_define : (r : Renaming) (bs : List Block) → definitions (map (block_under r) bs) ≡ map r.value (definitions bs)
-blocks_define r [] = refl
-blocks_define r (b ∷ bs) =
-    ap₂ (λ x y. map r.value b.params ++ (x ++ y)) (lines_define r b.lines) (blocks_define r bs)
-    ∙ (ap (λ z. map r.value b.params ++ z) (sym (map_append r.value (line_definitions b.lines) (definitions bs))) ∙ sym (map_append r.value b.params (line_definitions b.lines ++ definitions bs)))
 
 pub blocks_number : (r : Renaming) (bs : List Block) → block_numbers (map (block_under r) bs) ≡ map r.block (block_numbers bs)
 blocks_number r [] = refl
@@ -77,14 +60,14 @@ module _ (f : Function) (whole : WellFormed f) where
   lines_in : (ls : List Line) → ((v : ℕ) → In v (line_definitions ls) → In v (definitions f.blocks)) → Each (LineWellFormed f) ls → Each (λ l. Each (λ v. In v (definitions f.blocks)) l.results × Each (λ v. In v (definitions f.blocks)) (values_used l.inst) × Each (λ b. In b (block_numbers f.blocks)) (blocks_used l.inst)) ls
   lines_in [] h w = tt
   lines_in (l ∷ ls) h w = (
-    (each_in V l.results (λ v i. h v (in_left v l.results (line_definitions ls) i)), each_more (λ v. In v (declared f)) V whole.defined (values_used l.inst) w.0.values, w.0.blocks),
+    (each_by V l.results (λ v i. h v (in_left v l.results (line_definitions ls) i)), each_more (λ v. In v (declared f)) V whole.defined (values_used l.inst) w.0.values, w.0.blocks),
     lines_in ls (λ v i. h v (in_right v l.results (line_definitions ls) i)) w.1,
   )
 
   pub blocks_in : (bs : List Block) → ((v : ℕ) → In v (definitions bs) → In v (definitions f.blocks)) → ((b : ℕ) → In b (block_numbers bs) → In b (block_numbers f.blocks)) → Each (BlockWellFormed f) bs → Each (λ b. In b.number (block_numbers f.blocks) × Each (λ v. In v (definitions f.blocks)) b.params × Each (λ l. Each (λ v. In v (definitions f.blocks)) l.results × Each (λ v. In v (definitions f.blocks)) (values_used l.inst) × Each (λ b. In b (block_numbers f.blocks)) (blocks_used l.inst)) b.lines) bs
   blocks_in [] h k w = tt
   blocks_in (b ∷ bs) h k w = (
-    (k b.number (inl refl), each_in V b.params (λ v i. h v (in_left v b.params (line_definitions b.lines ++ definitions bs) i)), lines_in b.lines (λ v i. h v (in_right v b.params (line_definitions b.lines ++ definitions bs) (in_left v (line_definitions b.lines) (definitions bs) i))) w.0),
+    (k b.number (inl refl), each_by V b.params (λ v i. h v (in_left v b.params (line_definitions b.lines ++ definitions bs) i)), lines_in b.lines (λ v i. h v (in_right v b.params (line_definitions b.lines ++ definitions bs) (in_left v (line_definitions b.lines) (definitions bs) i))) w.0),
     blocks_in bs (λ v i. h v (in_right v b.params (line_definitions b.lines ++ definitions bs) (in_right v (line_definitions b.lines) (definitions bs) i))) (λ b i. k b (inr i)) w.1,
   )
 
@@ -114,7 +97,7 @@ renamed_is_same r f g wf wg h =
     gb = (canonical g).blocks
 
     defs : definitions g.blocks ≡ map r.value (definitions f.blocks)
-    defs = ap definitions h.blocks ∙ blocks_define r f.blocks
+    defs = ap definitions h.blocks ∙ blocks_under r f.blocks
 
     numbers : block_numbers g.blocks ≡ map r.block (block_numbers f.blocks)
     numbers = ap block_numbers h.blocks ∙ blocks_number r f.blocks

@@ -33,8 +33,9 @@ use Rattle.ir_text.specs.TextDeclarations as text_declarations
 use Rattle.ir_text.specs.TextInstructions as text_instructions
 use Rattle.ir_text.specs.Text as text
 use Rattle.ir_core.proofs.Members.{each_left, each_right}
+use Rattle.inline_acceptance.proofs.KeptCounts.{lines_under, blocks_under}
 use Rattle.inline_numbering.specs.Renamed.{Renamed, NumberingKeepsText}
-use Rattle.inline_numbering.proofs.Same.{place_map, blocks_define, lines_define, blocks_number, blocks_in, same_is_renamed}
+use Rattle.inline_numbering.proofs.Same.{place_map, blocks_number, blocks_in, same_is_renamed}
 
 -- ---- lists
 
@@ -380,7 +381,7 @@ module _ (r : Renaming) (f g : Function) (n m : Numbering) (V B : ℕ → Type 0
       ∙ ap (λ (z : Text). text_instructions.block_reference n b.number ▹ text.block_parameters f n b.params ▹ colon ▹ line_end ▹ z) (ap (λ (k : ℕ). text.lines g m (next + k) (map (line_under r) b.lines)) (length_map r.value b.params) ∙ lines_same (next + length b.params) b.lines h.2)
 
   next_same : (next : ℕ) (b : Block) → text_instructions.next_after next (block_under r b) ≡ text_instructions.next_after next b
-  next_same next b = ap₂ (λ (x y : ℕ). next + x + y) (length_map r.value b.params) (ap length (lines_define r b.lines) ∙ length_map r.value (line_definitions b.lines))
+  next_same next b = ap₂ (λ (x y : ℕ). next + x + y) (length_map r.value b.params) (ap length (lines_under r b.lines) ∙ length_map r.value (line_definitions b.lines))
 
   blocks_more : (next : ℕ) (bs : List Block) → Each (λ b. B b.number × Each V b.params × Each (λ l. Each V l.results × Each V (values_used l.inst) × Each B (blocks_used l.inst)) b.lines) bs → text.more_blocks g m next (map (block_under r) bs) ≡ text.more_blocks f n next bs
   blocks_more next [] h = refl
@@ -401,7 +402,7 @@ head_text name sig slots sigs callees body =
 pub function_text : (r : Renaming) (f g : Function) → WellFormed f → WellFormed g → Renamed r f g → text.canonical_function g ≡ text.canonical_function f
 unfolding head_text
 function_text r f g wf wg h =
-    let defs : definitions g.blocks ≡ map r.value (definitions f.blocks) = ap definitions h.blocks ∙ blocks_define r f.blocks in
+    let defs : definitions g.blocks ≡ map r.value (definitions f.blocks) = ap definitions h.blocks ∙ blocks_under r f.blocks in
     let numbers : block_numbers g.blocks ≡ map r.block (block_numbers f.blocks) = ap block_numbers h.blocks ∙ blocks_number r f.blocks in
     let value : (v : ℕ) → In v (definitions f.blocks) → number_in (definitions g.blocks) (r.value v) ≡ number_in (definitions f.blocks) v = λ v i. ap (λ z. number_in z (r.value v)) defs ∙ place_map r.value (definitions f.blocks) v (subst Different defs wg.defined_once) i in
     let block : (b : ℕ) → In b (block_numbers f.blocks) → number_in (block_numbers g.blocks) (r.block b) ≡ number_in (block_numbers f.blocks) b = λ b i. ap (λ z. number_in z (r.block b)) numbers ∙ place_map r.block (block_numbers f.blocks) b (subst Different numbers wg.blocks) i in

@@ -1,6 +1,7 @@
 -- The types of a splice under other numbers, and the splice itself.
 use Rattle.std.proofs.Common.{◌≡◌, ℕ, suc, ◌+◌, ◌<◌, inl, inr, List, [], ◌∷◌, ◌++◌, map, length, Option, Some, None, refl, sym, ap, ap₂, ◌∙◌, subst, arith, length-append}
 use Rattle.std.proofs.lemmas.Bool.{cases_eq}
+use Rattle.std.proofs.lemmas.List.{map-append}
 use Rattle.ir_core.specs.declared.signatures.Ty.{Ty}
 use Rattle.ir_core.specs.declared.declarations.SlotDecl.{SlotDecl}
 use Rattle.ir_core.specs.Module.{Instruction, Plain, Branches, SequencePoint, Return, Call, ReturnCall, TryCall, Line, Block, Function}
@@ -8,18 +9,21 @@ use Rattle.ir_core.specs.Lookup.{find_block, type_in, type_of, line_definitions,
 use Rattle.ir_core.specs.Lists.{In, Each, Different}
 use Rattle.ir_core.specs.Sound.{IsSound, IsWhole}
 use Rattle.ir_core.specs.WellFormed.{declared, WellFormed}
-use Rattle.ir_core.proofs.Members.{in_left, in_right, in_cases}
+use Rattle.ir_core.proofs.Members.{in_left, in_right, in_cases, in_map}
 use Rattle.ir_core.proofs.Counting.{subset_length, whole_by_count}
+use Rattle.ir_core.proofs.Gets.{some_same}
+use Rattle.ir_core.proofs.ByNumber.{found_number}
 use Rattle.ir_semantics.specs.Renaming.{Renaming, instruction_under, line_under, block_under, typed_under}
 use Rattle.ir_semantics.specs.Splice.{Naming, Splicing, Kind, Within, Last, Tries, kind_of, with_type, caller_names, callee_names, typed_results, new_types_by, line_types, new_types, spliced_blocks, spliced}
-use Rattle.inline_outcomes.proofs.Local.{some_same}
+use Rattle.ir_semantics.proofs.SafetyPlaces.{has_type}
 use Rattle.inline_outcomes.proofs.Places.{find_hit, find_skip}
-use Rattle.inline_acceptance.proofs.KeptSite.{declared_type}
 use Rattle.inline_acceptance.proofs.KeptTypes.{type_hit, type_skip}
+use Rattle.inline_acceptance.proofs.KeptCounts.{blocks_under}
+use Rattle.inline_acceptance.proofs.KeptLists.{length_map}
 use Rattle.inline_numbering.specs.Renamed.{Renamed}
 use Rattle.inline_numbering.specs.Carried.{Carries, SiteUnder}
-use Rattle.inline_numbering.proofs.Same.{blocks_define, blocks_number}
-use Rattle.inline_numbering.proofs.Carried.{map_append, length_same, kind_under, kind_same, carried}
+use Rattle.inline_numbering.proofs.Same.{blocks_number}
+use Rattle.inline_numbering.proofs.Carried.{kind_under, kind_same, carried}
 use Rattle.inline_numbering.proofs.Sides.{all_sigs}
 
 -- ---- typed values in lists
@@ -63,11 +67,6 @@ one_type t v (Some ty) = refl
 
 -- ---- what is different after a map was different before
 
-pub in_map : (f : ℕ → ℕ) (v : ℕ) (xs : List ℕ) → In v xs → In (f v) (map f xs)
-in_map f v [] i = elim i [ ]
-in_map f v (x ∷ xs) (inl e) = inl (ap f e)
-in_map f v (x ∷ xs) (inr i) = inr (in_map f v xs i)
-
 pub same_before : (f : ℕ → ℕ) (xs : List ℕ) → Different (map f xs) → (x y : ℕ) → In x xs → In y xs → f x ≡ f y → x ≡ y
 same_before f [] d x y i j e = elim i [ ]
 same_before f (z ∷ xs) d x y (inl p) (inl q) e = p ∙ sym q
@@ -91,20 +90,16 @@ block_there at (b ∷ bs) k h v i =
       | inr e ↦ in_right v b.params (line_definitions b.lines ++ definitions bs) (in_right v (line_definitions b.lines) (definitions bs) (block_there at bs k (sym (find_skip at b bs e) ∙ h) v i))
     ]
 
-pub block_in : (at : ℕ) (bs : List Block) (k : Block) → find_block at bs ≡ Some k → In at (block_numbers bs)
-block_in at [] k h = cc
-block_in at (b ∷ bs) k h = elim (cases_eq b.number at) [ inl e ↦ inl (sym e) | inr e ↦ inr (block_in at bs k (sym (find_skip at b bs e) ∙ h)) ]
-
 -- ---- a whole function declares as many values as it defines
 
 count_same : (f : Function) → WellFormed f → length f.types ≡ length (definitions f.blocks)
 count_same f w =
     let fewer = subset_length (declared f) (definitions f.blocks) w.declared_once w.defined in
     let more = subset_length (definitions f.blocks) (declared f) w.defined_once w.definitions_declared in
-    omega (arith, fewer, more, length_same (λ (x : ℕ × Ty). x.0) f.types)
+    omega (arith, fewer, more, length_map (λ (x : ℕ × Ty). x.0) f.types)
 
 blocks_count : (r : Renaming) (f g : Function) → g.blocks ≡ map (block_under r) f.blocks → length (definitions g.blocks) ≡ length (definitions f.blocks)
-blocks_count r f g h = ap (λ bs. length (definitions bs)) h ∙ (ap length (blocks_define r f.blocks) ∙ length_same r.value (definitions f.blocks))
+blocks_count r f g h = ap (λ bs. length (definitions bs)) h ∙ (ap length (blocks_under r f.blocks) ∙ length_map r.value (definitions f.blocks))
 
 types_count : (r : Renaming) (f g : Function) → g.blocks ≡ map (block_under r) f.blocks → WellFormed f → WellFormed g → length g.types ≡ length f.types
 types_count r f g h wf wg = count_same g wg ∙ (blocks_count r f g h ∙ sym (count_same f wf))
@@ -135,7 +130,7 @@ module _ (t r s : Renaming) (n m : Naming) (b c g h : Function) (at : ℕ) (befo
   results_under : (x i : ℕ) (vs : List ℕ) → Keeps vs → map (typed_under t) (typed_results p x i vs) ≡ typed_results q (s.block x) i (map r.value vs)
   results_under x i [] e = refl
   results_under x i (v ∷ vs) e =
-      map_append (typed_under t) (with_type (n.new_value x i) (type_in b.types v)) (typed_results p x (suc i) vs)
+      map-append (typed_under t) (with_type (n.new_value x i) (type_in b.types v)) (typed_results p x (suc i) vs)
       ∙ ap₂ (λ (us ws : List (ℕ × Ty)). us ++ ws) (one_type t (n.new_value x i) (type_in b.types v) ∙ ap₂ with_type (k.new_value x i) (sym e.0)) (results_under x (suc i) vs e.1)
 
   by_kind : (z : Kind) (x : ℕ) (i : Instruction) → Keeps site.results → map (typed_under t) (new_types_by p x z i) ≡ new_types_by q (s.block x) (kind_under r z) (instruction_under s i)
@@ -152,13 +147,13 @@ module _ (t r s : Renaming) (n m : Naming) (b c g h : Function) (at : ℕ) (befo
   lines_under : (x : ℕ) (ls : List Line) → Keeps site.results → map (typed_under t) (line_types p x ls) ≡ line_types q (s.block x) (map (line_under s) ls)
   lines_under x [] e = refl
   lines_under x (l ∷ ls) e =
-      map_append (typed_under t) (new_types_by p x (kind_of site.inst) l.inst) (line_types p x ls)
+      map-append (typed_under t) (new_types_by p x (kind_of site.inst) l.inst) (line_types p x ls)
       ∙ ap₂ (λ (us ws : List (ℕ × Ty)). us ++ ws) (by_kind (kind_of site.inst) x l.inst e ∙ ap (λ z. new_types_by q (s.block x) z (line_under s l).inst) (sym (kind_same r site.inst))) (lines_under x ls e)
 
   news_under : (bs : List Block) → Keeps site.results → map (typed_under t) (new_types p bs) ≡ new_types q (map (block_under s) bs)
   news_under [] e = refl
   news_under (x ∷ bs) e =
-      map_append (typed_under t) (line_types p x.number x.lines) (new_types p bs)
+      map-append (typed_under t) (line_types p x.number x.lines) (new_types p bs)
       ∙ ap₂ (λ (us ws : List (ℕ × Ty)). us ++ ws) (lines_under x.number x.lines e) (news_under bs e)
 
   module _ (e : SiteUnder r s p c h) where
@@ -205,11 +200,11 @@ module _ (t r s : Renaming) (n m : Naming) (b c g h : Function) (at : ℕ) (befo
 
     pub types_kept : WellFormed (spliced p) → Different (declared (spliced q)) → (v : ℕ) → In v (definitions (spliced p).blocks) → type_of (spliced q) (t.value v) ≡ type_of (spliced p) v
     types_kept w d v i =
-        let there = declared_type (spliced p).types v (w.definitions_declared v i) in
+        let there = has_type (spliced p).types v (w.definitions_declared v i) in
         typed_once (spliced q).types d (t.value v) there.0 (moves v there.0 (typed_in (spliced p).types v there.0 there.1)) ∙ sym there.1
 
     apart : (x : ℕ) → In x (block_numbers b.blocks) → r.block x ≡ r.block at → x ≡ at
-    apart x i q = same_before r.block (block_numbers b.blocks) (subst Different (ap block_numbers e.caller.blocks ∙ blocks_number r b.blocks) e.caller_after_whole.blocks) x at i (block_in at b.blocks e.stands.block e.stands.block_found) q
+    apart x i q = same_before r.block (block_numbers b.blocks) (subst Different (ap block_numbers e.caller.blocks ∙ blocks_number r b.blocks) e.caller_after_whole.blocks) x at i (found_number at b.blocks e.stands.block e.stands.block_found) q
 
     blocks_kept : (spliced q).blocks ≡ map (block_under t) (spliced p).blocks
     blocks_kept = ap (spliced_blocks q) e.caller.blocks ∙ sym (carried t r s n m b c g h at before site behind k b.blocks apart)
@@ -232,9 +227,9 @@ module _ (t r s : Renaming) (n m : Naming) (b c g h : Function) (at : ℕ) (befo
     -- as many types
     count : length (spliced q).types ≡ length (spliced p).types
     count =
-        let callers : length caller_q ≡ length caller_p = length_same (typed_under (caller_names q)) c.types ∙ (types_count r b c e.caller.blocks e.caller_whole e.caller_after_whole ∙ sym (length_same (typed_under (caller_names p)) b.types)) in
-        let callees : length callee_q ≡ length callee_p = length_same (typed_under (callee_names q)) h.types ∙ (types_count s g h e.callee.blocks e.callee_whole e.callee_after_whole ∙ sym (length_same (typed_under (callee_names p)) g.types)) in
-        let news : length (new_types q h.blocks) ≡ length (new_types p g.blocks) = ap length (ap (new_types q) k.callee_blocks ∙ sym (news_under g.blocks (keeps site.results results_there))) ∙ length_same (typed_under t) (new_types p g.blocks) in
+        let callers : length caller_q ≡ length caller_p = length_map (typed_under (caller_names q)) c.types ∙ (types_count r b c e.caller.blocks e.caller_whole e.caller_after_whole ∙ sym (length_map (typed_under (caller_names p)) b.types)) in
+        let callees : length callee_q ≡ length callee_p = length_map (typed_under (callee_names q)) h.types ∙ (types_count s g h e.callee.blocks e.callee_whole e.callee_after_whole ∙ sym (length_map (typed_under (callee_names p)) g.types)) in
+        let news : length (new_types q h.blocks) ≡ length (new_types p g.blocks) = ap length (ap (new_types q) k.callee_blocks ∙ sym (news_under g.blocks (keeps site.results results_there))) ∙ length_map (typed_under t) (new_types p g.blocks) in
         length-append caller_q (callee_q ++ new_types q h.blocks)
         ∙ (ap₂ (λ x y. x + y) callers (length-append callee_q (new_types q h.blocks) ∙ (ap₂ (λ x y. x + y) callees news ∙ sym (length-append callee_p (new_types p g.blocks))))
         ∙ sym (length-append caller_p (callee_p ++ new_types p g.blocks)))

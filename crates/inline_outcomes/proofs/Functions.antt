@@ -10,9 +10,9 @@ use Rattle.ir_core.specs.Lists.{In}
 use Rattle.ir_semantics.specs.Names.{mentioned, names}
 use Rattle.ir_semantics.specs.Import.{with_item, with_items, callees_with, callees_after, same_callee, sigs_after}
 use Rattle.ir_semantics.specs.Splice.{replace}
-use Rattle.inline_outcomes.proofs.Local.{some_same}
-use Rattle.ir_core.proofs.Equal.{name_equal, equal_name}
-use Rattle.inline_outcomes.proofs.Ordering.{Within, in_order_same}
+use Rattle.ir_core.proofs.Equal.{equal_name, cases_name}
+use Rattle.ir_core.proofs.Gets.{some_same}
+use Rattle.func_addrs.proofs.Keeping.{Within, in_order_same}
 
 pub function_hit : (x : FuncName) (h : Function) (hs : Module) → h.name ≡ x → find_function x (h ∷ hs) ≡ Some h
 function_hit x h hs q = ap (λ c. if c then Some h else find_function x hs) (equal_name h.name x q)
@@ -20,18 +20,10 @@ function_hit x h hs q = ap (λ c. if c then Some h else find_function x hs) (equ
 pub function_skip : (x : FuncName) (h : Function) (hs : Module) → same_name h.name x ≡ false → find_function x (h ∷ hs) ≡ find_function x hs
 function_skip x h hs q = ap (λ c. if c then Some h else find_function x hs) q
 
--- a name is another one or not
-pub cases_named : (a b : FuncName) → (a ≡ b) ⊎ (same_name a b ≡ false)
-cases_named a b = go (same_name a b) refl
-  where
-    go : (c : Bool) → same_name a b ≡ c → (a ≡ b) ⊎ (same_name a b ≡ false)
-    go true h = inl (name_equal a b h)
-    go false h = inr h
-
 pub function_name : (x : FuncName) (m : Module) (f : Function) → find_function x m ≡ Some f → f.name ≡ x
 function_name x [] f h = cc
 function_name x (k ∷ m) f h =
-    elim (cases_named k.name x) [
+    elim (cases_name k.name x) [
       | inl q ↦ let e : k ≡ f = some_same (sym (function_hit x k m q) ∙ h) in ap (λ z. z.name) (sym e) ∙ q
       | inr q ↦ function_name x m f (sym (function_skip x k m q) ∙ h)
     ]
@@ -39,20 +31,20 @@ function_name x (k ∷ m) f h =
 pub replaced : (f' : Function) (m : Module) (f : Function) → find_function f'.name m ≡ Some f → find_function f'.name (replace f' m) ≡ Some f'
 replaced f' [] f h = cc
 replaced f' (k ∷ m) f h =
-    elim (cases_named k.name f'.name) [
+    elim (cases_name k.name f'.name) [
       | inl q ↦ ap (λ c. find_function f'.name (if c then f' ∷ m else k ∷ replace f' m)) (equal_name k.name f'.name q) ∙ function_hit f'.name f' m refl
       | inr q ↦ ap (λ c. find_function f'.name (if c then f' ∷ m else k ∷ replace f' m)) q ∙ function_skip f'.name k (replace f' m) q ∙ replaced f' m f (sym (function_skip f'.name k m q) ∙ h)
     ]
 
 not_same : {a b : FuncName} → (a ≡ b → ⊥) → same_name a b ≡ false
-not_same {a} {b} off = elim (cases_named a b) [ inl q ↦ absurd (off q) | inr q ↦ q ]
+not_same {a} {b} off = elim (cases_name a b) [ inl q ↦ absurd (off q) | inr q ↦ q ]
 
 pub others_stay : (f' : Function) (m : Module) (x : FuncName) → (x ≡ f'.name → ⊥) → find_function x (replace f' m) ≡ find_function x m
 others_stay f' [] x off = refl
 others_stay f' (k ∷ m) x off =
-    elim (cases_named k.name f'.name) [
+    elim (cases_name k.name f'.name) [
       | inl q ↦ ap (λ c. find_function x (if c then f' ∷ m else k ∷ replace f' m)) (equal_name k.name f'.name q) ∙ function_skip x f' m (not_same (λ p. off (sym p))) ∙ sym (function_skip x k m (not_same (λ p. off (sym p ∙ q))))
-      | inr q ↦ ap (λ c. find_function x (if c then f' ∷ m else k ∷ replace f' m)) q ∙ under (others_stay f' m x off) (cases_named k.name x)
+      | inr q ↦ ap (λ c. find_function x (if c then f' ∷ m else k ∷ replace f' m)) q ∙ under (others_stay f' m x off) (cases_name k.name x)
     ]
   where
     under : find_function x (replace f' m) ≡ find_function x m → (k.name ≡ x) ⊎ (same_name k.name x ≡ false) → find_function x (k ∷ replace f' m) ≡ find_function x (k ∷ m)
@@ -118,7 +110,7 @@ with_names f g (c ∷ cs) = ap (λ ns. c.name ∷ ns) (with_names f g cs)
 pub own_mentioned : (x : FuncName) (m : Module) (f : Function) → find_function x m ≡ Some f → (n : FuncName) → In n (own_names f) → In n (mentioned m)
 own_mentioned x [] f h n i = cc
 own_mentioned x (k ∷ m) f h n i =
-    elim (cases_named k.name x) [
+    elim (cases_name k.name x) [
       | inl q ↦ (let e : k ≡ f = some_same (sym (function_hit x k m q) ∙ h) in at_head (subst (λ z. In n (own_names z)) (sym e) i))
       | inr q ↦ inr (in_append_right n (map callee_name k.callees) (mentioned m) (own_mentioned x m f (sym (function_skip x k m q) ∙ h) n i))
     ]

@@ -6,7 +6,6 @@ pub mod Linking
 pub mod Local
 pub mod Merging
 pub mod Numbering
-pub mod Ordering
 pub mod Places
 pub mod Related
 pub mod Returning

@@ -16,15 +16,17 @@ use Rattle.ir_semantics.specs.Renaming.{Renaming, arg_under, block_under, branch
 use Rattle.ir_semantics.specs.Splice.{Splicing, Within, after_block, after_blocks, body, callee_names, caller_names, cut_block, kind_of, pair, fragment, replace, sides, spliced, spliced_blocks, triangle}
 use Rattle.ir_semantics.specs.Site.{Site}
 use Rattle.inline_outcomes.specs.Stands.{Stands}
-use Rattle.inline_outcomes.proofs.Local.{Fits, some_same}
+use Rattle.inline_outcomes.proofs.Local.{Fits}
 use Rattle.inline_outcomes.proofs.Frames.{Embeds}
 use Rattle.inline_outcomes.proofs.Related.{Distinct, RestF, RestG, RestOf}
 use Rattle.inline_outcomes.proofs.Stepping.{LinkOf, Linked, Starts, inlined, renamed}
 use Rattle.inline_outcomes.proofs.Runs.{SameRuns, same_runs}
-use Rattle.inline_outcomes.proofs.Places.{after_cut, append_none, append_some, f_found, find_hit, found_name, g_found, g_off, new_found, piece_rest}
-use Rattle.ir_core.proofs.Equal.{equal_name}
+use Rattle.inline_outcomes.proofs.Places.{after_cut, append_none, append_some, f_found, find_hit, g_found, g_off, new_found, piece_rest}
+use Rattle.ir_core.proofs.Equal.{equal_name, cases_name}
+use Rattle.ir_core.proofs.Gets.{some_same, get_below}
+use Rattle.ir_core.proofs.ByNumber.{found_is}
 use Rattle.inline_outcomes.proofs.Merging.{other_callee, other_sig, own_callee, own_sig}
-use Rattle.inline_outcomes.proofs.Functions.{cases_named, names_stay, others_stay, replaced}
+use Rattle.inline_outcomes.proofs.Functions.{names_stay, others_stay, replaced}
 
 abbrev pub same_numbers : Renaming
 same_numbers = record { value = λ v. v; block = λ b. b; slot = λ k. k; sig = λ s. s; callee = λ k. k }
@@ -88,17 +90,12 @@ instruction_same (ReturnCall t args) = ap₂ ReturnCall (called_same t) (values_
 instruction_same (TryCall t sg args normal table) =
     ap (λ z. TryCall z sg (map same_numbers.value args) (target_under same_numbers normal) (map (entry_under same_numbers) table)) (try_same t) ∙ ap (λ z. TryCall t sg z (target_under same_numbers normal) (map (entry_under same_numbers) table)) (values_same args) ∙ ap (λ z. TryCall t sg args z (map (entry_under same_numbers) table)) (target_same normal) ∙ ap (TryCall t sg args normal) (map_same (entry_under same_numbers) entry_same table)
 
-line_same : (i : Line) → line_under same_numbers i ≡ i
+pub line_same : (i : Line) → line_under same_numbers i ≡ i
 line_same i =
     ap (λ z. record i { inst = z; results = map same_numbers.value i.results; tags = map (tag_under same_numbers) i.tags }) (instruction_same i.inst) ∙ ap (λ z. record i { results = z; tags = map (tag_under same_numbers) i.tags }) (values_same i.results) ∙ ap (λ z. record i { tags = z }) (map_same (tag_under same_numbers) tag_same i.tags)
 
 pub lines_same : (ls : List Line) → ls ≡ map (line_under same_numbers) ls
 lines_same ls = sym (map_same (line_under same_numbers) line_same ls)
-
-pub get_below : {A : Type 0} (xs : List A) (k : ℕ) (a : A) → slice_get xs k ≡ Some a → k < length xs
-get_below [] k a h = cc
-get_below (x ∷ xs) zero a h = omega arith
-get_below (x ∷ xs) (suc k) a h = omega (arith, get_below xs k a h)
 
 same_embeds : (h : Function) → Embeds h h same_numbers (RestOf same_numbers)
 same_embeds h =
@@ -197,7 +194,7 @@ module _ (S : Splicing) (names : Distinct S.naming) (site : Stands S) where
           record { number = S.naming.callee_block k.number; params = map S.naming.callee_value k.params; lines = (fragment S k.number 0 k.lines).lines },
           in_out (S.naming.callee_block b) _ (λ c p. names.blocks c b p) (g_found S names S.callee.blocks b k q),
           refl,
-          piece_rest S names k.number 0 k.lines (λ i k' below h. in_out (S.naming.new_block k.number i) k' (λ c p. names.caller_new c k.number i p) (new_found S names S.callee.blocks k.number k (ap (λ z. find_block z S.callee.blocks) (found_name b S.callee.blocks k q) ∙ q) i k' h)),
+          piece_rest S names k.number 0 k.lines (λ i k' below h. in_out (S.naming.new_block k.number i) k' (λ c p. names.caller_new c k.number i p) (new_found S names S.callee.blocks k.number k (ap (λ z. find_block z S.callee.blocks) (found_is b S.callee.blocks k q) ∙ q) i k' h)),
         );
       }
 
@@ -224,7 +221,7 @@ module _ (M : Module) (S : Splicing) (names : Distinct S.naming) (site : Site M 
 
   funcs_linked : (name : FuncName) → LinkOf S (find_function name M) (find_function name (replace (spliced S) M))
   funcs_linked name =
-      elim (cases_named name S.caller.name) [
+      elim (cases_name name S.caller.name) [
         | inl q ↦ subst₂ (LinkOf S) (sym (ap (λ x. find_function x M) q ∙ site.caller_found)) (sym (ap (λ x. find_function x (replace (spliced S) M)) q ∙ replaced (spliced S) M S.caller site.caller_found)) (spliced S, refl, inlined refl refl)
         | inr q ↦ subst (LinkOf S (find_function name M)) (sym (others_stay (spliced S) M name (λ p. let e : false ≡ true = sym q ∙ equal_name name S.caller.name p in cc))) (itself (find_function name M))
       ]

@@ -14,12 +14,14 @@ use Rattle.ir_core.specs.declared.instructions.Arg.TheVariants as arg
 use Rattle.ir_core.specs.declared.instructions.BlockCall.{BlockCall}
 use Rattle.ir_core.specs.Module.{Simple, Nop, Const, Pure, PureImm, Load, Store, StackLoad, StackStore, FuncAddr, Trap, Trapz, Trapnz, Branch, Jump, Brif, BrTable, CallTarget, Direct, Indirect, Instruction, Plain, Branches, SequencePoint, Return, Call, ReturnCall, TryCall, Function, TryDirect, TryIndirect, TryTarget, call_target}
 use Rattle.ir_core.specs.Lookup.{and_then, width_of}
+use Rattle.ir_core.proofs.Gets.{some_same}
 use Rattle.ir_semantics.specs.Names.{address_of}
 use Rattle.ir_semantics.specs.Values.{Env, Slots, Memory, cons_some, all_of, put, bind, i64, bytes_in, number_of, bytes_of, bytes_from, put_byte, put_bytes, place_in, slot_place, memory_read, memory_write, address_at, by_endian, bytes_read, loaded, bytes_stored}
 use Rattle.ir_semantics.specs.Machine.{End, Going, Returned, Trapped, Threw, Unwritten, ScriptEnded, BadReply, Stuck}
 use Rattle.ir_semantics.specs.Effect.{Called, ByName, ByAddress, Effect, Go, Enter, Give, ShowTags, Do, Stop, need, arg_value, arg_values, go_to, choose, evaluated, simple, target_at, branch, called, calls, effect}
 use Rattle.ir_semantics.specs.Splice.{Splicing, try_target, named_sig}
 use Rattle.ir_semantics.specs.Renaming.{Renaming, arg_under, target_under, simple_under, branch_under, called_under, instruction_under, try_target_under}
+use Rattle.ir_semantics.proofs.SafetyTypes.{put_other, put_same}
 
 -- different numbers stay different
 abbrev pub Injective : (ℕ → ℕ) → Type 0
@@ -40,9 +42,6 @@ pub record SlotMaps (n : ℕ) (f : ℕ → ℕ) (s s' : Slots) : Type 0 where
 pub record SlotKeeps (f : ℕ → ℕ) (s s' : Slots) : Type 0 where
   pub at : (j o : ℕ) → ((k : ℕ) → f k ≡ j → ⊥) → s' j o ≡ s j o
 
-pub some_same : {A : Type 0} {x y : A} → Some x ≡ Some y → x ≡ y
-some_same e = cc
-
 -- ---- the call target of a `try_call`
 
 pub try_target_called : (r : Renaming) (t : TryTarget) (sig : ℕ) → call_target (try_target_under r t) (r.sig sig) ≡ called_under r (call_target t sig)
@@ -53,12 +52,6 @@ try_target_called r (TryIndirect a) sig = refl
 pub named_target : (S : Splicing) (t : CallTarget) → call_target (try_target t) (named_sig S t) ≡ t
 named_target S (Direct k) = refl
 named_target S (Indirect s a) = refl
-
-pub put_same : (e : Env) (v : ℕ) (x : DataValue) (w : ℕ) → w ≡ v → put e v x w ≡ Some x
-put_same e v x w h = ap (λ b. if b then Some x else e w) (eq-eqb w v h)
-
-pub put_other : (e : Env) (v : ℕ) (x : DataValue) (w : ℕ) → (w ≡ v → ⊥) → put e v x w ≡ e w
-put_other e v x w h = ap (λ b. if b then Some x else e w) (ne_eqb w v h)
 
 put_maps : (f : ℕ → ℕ) → Injective f → (e e' : Env) (v : ℕ) (x : DataValue) → Maps f e e' → Maps f (put e v x) (put e' (f v) x)
 put_maps f inj e e' v x m =

@@ -2,14 +2,15 @@
 -- is the same.
 use Rattle.std.proofs.Common.{◌≡◌, ℕ, zero, suc, List, [], ◌∷◌, Option, Some, None, Bool, true, false, ◌&&◌, refl, sym, ap, ◌∙◌, subst}
 use Rattle.std.specs.Prelude.{slice_get, if◌then◌else◌}
+use Rattle.std.proofs.lemmas.Bool.{and_parts, and_from}
 use Rattle.ir_core.specs.declared.declarations.Callee.{Callee}
 use Rattle.ir_core.specs.declared.signatures.Sig.{Sig}
 use Rattle.ir_core.specs.Module.{Function}
 use Rattle.ir_core.specs.Signatures.{same_sig}
 use Rattle.ir_core.specs.Lookup.{same_name}
 use Rattle.ir_semantics.specs.Import.{same_bool, with_item, with_items, first_place, new_place, same_sigs, same_callee, sigs_after, sig_after, callee_with, callees_with, callees_after, callee_after}
-use Rattle.inline_outcomes.proofs.Local.{some_same}
-use Rattle.ir_core.proofs.Equal.{both_true, true_both, name_equal, name_same, sig_equal, sig_same}
+use Rattle.ir_core.proofs.Equal.{name_equal, name_same, sig_equal, sig_same}
+use Rattle.ir_core.proofs.Gets.{some_same}
 
 -- an item of the list that is the same as x
 pub record Has {A : Type 0} (same : A → A → Bool) (ys : List A) (x : A) : Type 0 where
@@ -85,7 +86,7 @@ same_sigs_equal (Some r) s h = ap Some (sig_equal r s h)
 
 same_callee_self : (sigs : List Sig) (c : Callee) → same_callee sigs c c ≡ true
 same_callee_self sigs c =
-    true_both (same_name c.name c.name && same_bool c.colocated c.colocated) (same_sigs (slice_get sigs c.sig) (slice_get sigs c.sig)) (true_both (same_name c.name c.name) (same_bool c.colocated c.colocated) (name_same c.name) (same_bool_self c.colocated)) (same_sigs_self (slice_get sigs c.sig))
+    and_from (same_name c.name c.name && same_bool c.colocated c.colocated) (same_sigs (slice_get sigs c.sig) (slice_get sigs c.sig)) (and_from (same_name c.name c.name) (same_bool c.colocated c.colocated) (name_same c.name) (same_bool_self c.colocated)) (same_sigs_self (slice_get sigs c.sig))
 
 module _ (f g : Function) where
   pub own_sig : (k : ℕ) (s : Sig) → slice_get f.sigs k ≡ Some s → slice_get (sigs_after f g) k ≡ Some s
@@ -109,8 +110,8 @@ module _ (f g : Function) where
       let d = callee_with f g c in
       let there : slice_get (callees_with f g g.callees) k ≡ Some d = with_get g.callees k c h in
       let p = first_there (same_callee (sigs_after f g)) (callees_after f g) d (items_there (same_callee (sigs_after f g)) (same_callee_self (sigs_after f g)) f.callees (callees_with f g g.callees) k d there) in
-      let q = both_true (same_name p.0.name d.name && same_bool p.0.colocated d.colocated) (same_sigs (slice_get (sigs_after f g) p.0.sig) (slice_get (sigs_after f g) d.sig)) p.2 in
-      let r = both_true (same_name p.0.name d.name) (same_bool p.0.colocated d.colocated) q.0 in (
+      let q = and_parts (same_name p.0.name d.name && same_bool p.0.colocated d.colocated) (same_sigs (slice_get (sigs_after f g) p.0.sig) (slice_get (sigs_after f g) d.sig)) p.2 in
+      let r = and_parts (same_name p.0.name d.name) (same_bool p.0.colocated d.colocated) q.0 in (
         p.0,
         ap (λ o. slice_get (callees_after f g) (new_place (same_callee (sigs_after f g)) (callees_after f g) o)) there ∙ p.1,
         name_equal p.0.name d.name r.0,

@@ -22,16 +22,19 @@ use Rattle.ir_semantics.specs.Splice.{Splicing, sides}
 use Rattle.ir_semantics.specs.Canon.{canonical_names, canonical, canonical_module}
 use Rattle.ir_core.specs.Uses.{table_targets, branch_targets, targets, arg_values_used, targets_used, simple_used, branch_used, called_used, operands, values_used, blocks_used}
 use Rattle.ir_core.specs.WellFormed.{declared, LineWellFormed, BlockWellFormed, WellFormed}
+use Rattle.ir_core.proofs.Gets.{some_same, get_below}
+use Rattle.ir_core.proofs.Members.{in_left, in_right, each_by}
+use Rattle.ir_core.proofs.Equal.{cases_name}
 use Rattle.ir_semantics.specs.Same.{Safe, Written}
 use Rattle.inline_outcomes.specs.Laws.{RunsKept, NumberingKeepsRuns}
-use Rattle.inline_outcomes.proofs.Local.{Injective, some_same}
+use Rattle.inline_outcomes.proofs.Local.{Injective}
 use Rattle.inline_outcomes.proofs.Frames.{Embeds}
 use Rattle.inline_outcomes.proofs.Related.{RestOf}
 use Rattle.inline_outcomes.proofs.Stepping.{Starts, renamed, LinkOf, Linked}
 use Rattle.inline_outcomes.proofs.Places.{ren_find}
 use Rattle.inline_outcomes.proofs.Runs.{SameRuns, same_runs}
-use Rattle.inline_outcomes.proofs.Functions.{function_hit, function_skip, cases_named}
-use Rattle.inline_outcomes.proofs.Linking.{distinct_sides, get_below, same_numbers}
+use Rattle.inline_outcomes.proofs.Functions.{function_hit, function_skip}
+use Rattle.inline_outcomes.proofs.Linking.{distinct_sides, same_numbers}
 
 -- ---- composition
 
@@ -285,22 +288,9 @@ module _ (r u : Renaming) (V B : ℕ → Type 0) (value : (v : ℕ) → V v → 
 
 -- ---- a whole function uses what it defines
 
-each_in : (P : ℕ → Type 0) (xs : List ℕ) → ((v : ℕ) → In v xs → P v) → Each P xs
-each_in P [] h = tt
-each_in P (x ∷ xs) h = (h x (inl refl), each_in P xs (λ v i. h v (inr i)))
-
 each_to : (P Q : ℕ → Type 0) → ((v : ℕ) → P v → Q v) → (xs : List ℕ) → Each P xs → Each Q xs
 each_to P Q f [] h = tt
 each_to P Q f (x ∷ xs) h = (f x h.0, each_to P Q f xs h.1)
-
-in_left : (v : ℕ) (xs ys : List ℕ) → In v xs → In v (xs ++ ys)
-in_left v [] ys h = elim h [ ]
-in_left v (x ∷ xs) ys (inl q) = inl q
-in_left v (x ∷ xs) ys (inr q) = inr (in_left v xs ys q)
-
-in_right : (v : ℕ) (xs ys : List ℕ) → In v ys → In v (xs ++ ys)
-in_right v [] ys h = h
-in_right v (x ∷ xs) ys h = inr (in_right v xs ys h)
 
 module _ (f : Function) (whole : WellFormed f) where
   abbrev V : ℕ → Type 0
@@ -312,14 +302,14 @@ module _ (f : Function) (whole : WellFormed f) where
   lines_in : (ls : List Line) → ((v : ℕ) → In v (line_definitions ls) → In v (definitions f.blocks)) → Each (LineWellFormed f) ls → Each (λ l. Each (λ v. In v (definitions f.blocks)) l.results × Each (λ v. In v (definitions f.blocks)) (values_used l.inst) × Each (λ b. In b (block_numbers f.blocks)) (blocks_used l.inst)) ls
   lines_in [] h w = tt
   lines_in (l ∷ ls) h w = (
-    (each_in V l.results (λ v i. h v (in_left v l.results (line_definitions ls) i)), each_to (λ v. In v (declared f)) V whole.defined (values_used l.inst) w.0.values, w.0.blocks),
+    (each_by V l.results (λ v i. h v (in_left v l.results (line_definitions ls) i)), each_to (λ v. In v (declared f)) V whole.defined (values_used l.inst) w.0.values, w.0.blocks),
     lines_in ls (λ v i. h v (in_right v l.results (line_definitions ls) i)) w.1,
   )
 
   blocks_in : (bs : List Block) → ((v : ℕ) → In v (definitions bs) → In v (definitions f.blocks)) → ((b : ℕ) → In b (block_numbers bs) → In b (block_numbers f.blocks)) → Each (BlockWellFormed f) bs → Each (λ b. In b.number (block_numbers f.blocks) × Each (λ v. In v (definitions f.blocks)) b.params × Each (λ l. Each (λ v. In v (definitions f.blocks)) l.results × Each (λ v. In v (definitions f.blocks)) (values_used l.inst) × Each (λ b. In b (block_numbers f.blocks)) (blocks_used l.inst)) b.lines) bs
   blocks_in [] h k w = tt
   blocks_in (b ∷ bs) h k w = (
-    (k b.number (inl refl), each_in V b.params (λ v i. h v (in_left v b.params (line_definitions b.lines ++ definitions bs) i)), lines_in b.lines (λ v i. h v (in_right v b.params (line_definitions b.lines ++ definitions bs) (in_left v (line_definitions b.lines) (definitions bs) i))) w.0),
+    (k b.number (inl refl), each_by V b.params (λ v i. h v (in_left v b.params (line_definitions b.lines ++ definitions bs) i)), lines_in b.lines (λ v i. h v (in_right v b.params (line_definitions b.lines ++ definitions bs) (in_left v (line_definitions b.lines) (definitions bs) i))) w.0),
     blocks_in bs (λ v i. h v (in_right v b.params (line_definitions b.lines ++ definitions bs) (in_right v (line_definitions b.lines) (definitions bs) i))) (λ b i. k b (inr i)) w.1,
   )
 
@@ -328,7 +318,7 @@ module _ (f : Function) (whole : WellFormed f) where
 pub function_map : (h : Function → Function) → ((f : Function) → (h f).name ≡ f.name) → (x : FuncName) (m : Module) (f : Function) → find_function x m ≡ Some f → find_function x (map h m) ≡ Some (h f)
 function_map h keep x [] f q = cc
 function_map h keep x (k ∷ m) f q =
-    elim (cases_named k.name x) [
+    elim (cases_name k.name x) [
       | inl p ↦ function_hit x (h k) (map h m) (keep k ∙ p) ∙ ap (λ z. Some (h z)) (some_same (sym (function_hit x k m p) ∙ q))
       | inr p ↦ function_skip x (h k) (map h m) (ap (λ n. same_name n x) (keep k) ∙ p) ∙ function_map h keep x m f (sym (function_skip x k m p) ∙ q)
     ]
@@ -336,7 +326,7 @@ function_map h keep x (k ∷ m) f q =
 pub function_none : (h : Function → Function) → ((f : Function) → (h f).name ≡ f.name) → (x : FuncName) (m : Module) → find_function x m ≡ None → find_function x (map h m) ≡ None
 function_none h keep x [] q = refl
 function_none h keep x (k ∷ m) q =
-    elim (cases_named k.name x) [
+    elim (cases_name k.name x) [
       | inl p ↦ let e : Some k ≡ None = sym (function_hit x k m p) ∙ q in cc
       | inr p ↦ function_skip x (h k) (map h m) (ap (λ n. same_name n x) (keep k) ∙ p) ∙ function_none h keep x m (sym (function_skip x k m p) ∙ q)
     ]
@@ -355,7 +345,7 @@ names_kept m = ap in_order (mentioned_kept m)
 pub each_function : (m : Module) → Each WellFormed m → (x : FuncName) (f : Function) → find_function x m ≡ Some f → WellFormed f
 each_function [] w x f q = cc
 each_function (k ∷ m) w x f q =
-    elim (cases_named k.name x) [
+    elim (cases_name k.name x) [
       | inl p ↦ subst WellFormed (some_same (sym (function_hit x k m p) ∙ q)) w.0
       | inr p ↦ each_function m w.1 x f (sym (function_skip x k m p) ∙ q)
     ]

@@ -6,10 +6,11 @@ use Rattle.ir_core.specs.declared.instructions.BlockCall.{BlockCall}
 use Rattle.exn_tables.specs.declared.table.Entry.{Entry}
 use Rattle.ir_core.specs.Module.{Block, Branches, Call, Instruction, Line, Plain, Return, ReturnCall, SequencePoint, TryCall}
 use Rattle.ir_core.specs.Lookup.{find_block}
+use Rattle.ir_core.proofs.Gets.{some_same}
 use Rattle.ir_semantics.specs.Step.{found}
 use Rattle.ir_semantics.specs.Renaming.{Renaming, block_under, line_under}
 use Rattle.ir_semantics.specs.Splice.{Kind, Last, Fragment, Splicing, Tries, Within, after_block, after_blocks, body, caller_names, cut_block, kind_of, fragment, fragment_by, spliced, spliced_blocks, tries_fragment, within_fragment}
-use Rattle.inline_outcomes.proofs.Local.{Injective, some_same}
+use Rattle.inline_outcomes.proofs.Local.{Injective}
 use Rattle.inline_outcomes.proofs.Related.{Distinct, Head, RestF, RestG, TriesHead, WithinHead}
 
 -- the first block of a name
@@ -44,14 +45,6 @@ ren_find r inj (m ∷ bs) b k h =
 ren_off : (r : Renaming) (x : ℕ) → ((b : ℕ) → r.block b ≡ x → ⊥) → (bs : List Block) → find_block x (map (block_under r) bs) ≡ None
 ren_off r x off [] = refl
 ren_off r x off (m ∷ bs) = find_skip x (block_under r m) (map (block_under r) bs) (off m.number) ∙ ren_off r x off bs
-
-pub found_name : (x : ℕ) (bs : List Block) (k : Block) → find_block x bs ≡ Some k → k.number ≡ x
-found_name x [] k h = cc
-found_name x (m ∷ bs) k h =
-    elim (cases_eq m.number x) [
-      | inl q ↦ let e : m ≡ k = some_same (sym (find_hit x m bs q) ∙ h) in ap (λ z. z.number) (sym e) ∙ q
-      | inr q ↦ found_name x bs k (sym (find_skip x m bs q) ∙ h)
-    ]
 
 module _ (S : Splicing) (names : Distinct S.naming) where
   abbrev pc : ℕ → ℕ → List Line → Fragment

@@ -9,16 +9,18 @@ use Rattle.clk_num.specs.Operations.{DataValue}
 use Rattle.ir_core.specs.declared.instructions.Arg.TheVariants as arg
 use Rattle.ir_core.specs.Module.{Block, Branches, Call, Instruction, Line, Module, Plain, Return, ReturnCall, SequencePoint, TryCall}
 use Rattle.ir_core.specs.Lookup.{find_block}
+use Rattle.ir_core.proofs.Gets.{some_same}
 use Rattle.ir_semantics.specs.Values.{Env, Slots, all_of, bind, cons_some, i64, put}
 use Rattle.ir_semantics.specs.Machine.{Caught, Frame, Moment, On, Stuck, Wait, World}
 use Rattle.ir_semantics.specs.Effect.{Enter, arg_value, arg_values, go_to, need}
 use Rattle.ir_semantics.specs.Step.{Hit, Missed, Search, act, enter, enter_target, found, give_to, must, resume, search_in, step, step_at, table_of, throw, with_event}
 use Rattle.ir_semantics.specs.Renaming.{Renaming, entry_under, instruction_under, line_under, target_under}
 use Rattle.ir_semantics.specs.Splice.{Kind, Last, Splicing, Tries, Within, after_block, callee_names, caller_names, from, kind_of, new_results, or_ret, returned_arg, spliced, to_after, to_normal}
-use Rattle.inline_outcomes.proofs.Local.{Injective, Keeps, Maps, SlotKeeps, SlotMaps, all_maps, bind_maps, put_other, put_same, slots_keep, some_same}
+use Rattle.ir_semantics.proofs.SafetyTypes.{put_other, put_same, head_same}
+use Rattle.inline_outcomes.proofs.Local.{Injective, Keeps, Maps, SlotKeeps, SlotMaps, all_maps, bind_maps, slots_keep}
 use Rattle.inline_outcomes.proofs.Frames.{Again, Embeds, Follows, Local, enter_follow, give_follow, target_follow}
 use Rattle.inline_outcomes.proofs.Related.{Below, Distinct, Joined, NotLast, Plainly, RestF, RestG, RestOf, Role, Stack, TailRest, TriesHead, Waiting, Waits, WithinHead, alone, alone_top, caller, inside, inside_top, left, line_of, none, other, ren_of, rest_of, stands}
-use Rattle.inline_outcomes.proofs.Showing.{head_same, tail_same}
+use Rattle.inline_outcomes.proofs.Showing.{tail_same}
 
 -- searches
 

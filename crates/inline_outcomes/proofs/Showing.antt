@@ -1,6 +1,7 @@
 -- What is shown stays the same.
 use Rattle.std.proofs.Common.{◌≡◌, ℕ, ◌<◌, List, [], ◌∷◌, ◌++◌, length, map, Option, Some, None, refl, sym, ap, ◌∙◌, subst, append_assoc, append-nil}
 use Rattle.std.specs.Prelude.{slice_get}
+use Rattle.std.proofs.lemmas.List.{map-append}
 use Rattle.ir_core.specs.declared.declarations.SlotDecl.{SlotDecl}
 use Rattle.ir_core.specs.declared.instructions.BlockCall.{BlockCall}
 use Rattle.exn_tables.specs.declared.table.Entry.{Entry}
@@ -8,12 +9,14 @@ use Rattle.debug_tags.specs.declared.tags.Tag.{Tag}
 use Rattle.debug_tags.specs.declared.tags.Tag.TheVariants as tag
 use Rattle.ir_core.specs.Module.{Branches, Call, Function, Instruction, Line, Plain, Return, ReturnCall, SequencePoint, TryCall}
 use Rattle.ir_core.specs.Lookup.{and_then}
+use Rattle.ir_core.proofs.Gets.{some_same}
 use Rattle.ir_semantics.specs.Values.{bytes_from, cons_some, join}
 use Rattle.ir_semantics.specs.Machine.{Frame, Shown, User, Wait}
 use Rattle.ir_semantics.specs.Step.{numbers, shown, shown_bytes, shown_tag, shown_tags}
 use Rattle.ir_semantics.specs.Renaming.{Renaming, tag_under}
 use Rattle.ir_semantics.specs.Splice.{Kind, Last, Splicing, Tries, Within, callee_names, caller_names, spliced, tags_before}
-use Rattle.inline_outcomes.proofs.Local.{Fits, SlotMaps, bytes_maps, some_same}
+use Rattle.ir_semantics.proofs.SafetyTypes.{head_same}
+use Rattle.inline_outcomes.proofs.Local.{Fits, SlotMaps, bytes_maps}
 use Rattle.inline_outcomes.proofs.Related.{Below, Joined, RestG, Role, Tagged, TriesHead, Waiting, Waits, WithinHead, alone, caller, inside, left, line_of, none, other, stands}
 
 record Split (o p : Option (List Shown)) (sh : List Shown) : Type 0 where
@@ -70,10 +73,6 @@ numbers_shown r x (tag.User m ∷ ts) ns e = go (λ ms q. numbers_shown r x ts m
     go ih (Some ms) q e = ap (join (Some (User m ∷ []))) (ih ms q) ∙ ap (λ z. Some (map User z)) (some_same e)
 numbers_shown r x (tag.Slot k ∷ ts) ns e = cc
 
-map_append : {A B : Type 0} (f : A → B) (a b : List A) → map f (a ++ b) ≡ map f a ++ map f b
-map_append f [] b = refl
-map_append f (x ∷ a) b = ap (λ z. f x ∷ z) (map_append f a b)
-
 -- what is shown at a frame, from its parts
 shown_at : (y : Wait) (s : List Wait) (a c : List Shown) → shown s ≡ Some a → shown_tags y.frame y.line.tags ≡ Some c → shown (y ∷ s) ≡ Some (a ++ (map User y.frame.extra ++ c))
 shown_at y s a c h k = joined (shown s) (join (Some (map User y.frame.extra)) (shown_tags y.frame y.line.tags)) a (map User y.frame.extra ++ c) h (joined (Some (map User y.frame.extra)) (shown_tags y.frame y.line.tags) (map User y.frame.extra) c refl k)
@@ -100,9 +99,6 @@ waiting_tagged (Plain p0) h = elim h [ ]
 waiting_tagged (Branches c0) h = elim h [ ]
 waiting_tagged (Return a) h = elim h [ ]
 
-pub head_same : {A : Type 0} {x y : A} {xs ys : List A} → x ∷ xs ≡ y ∷ ys → x ≡ y
-head_same e = cc
-
 pub tail_same : {A : Type 0} {x y : A} {xs ys : List A} → x ∷ xs ≡ y ∷ ys → xs ≡ ys
 tail_same e = cc
 
@@ -125,7 +121,7 @@ slots_by F r x x' h m = subst (λ y. SlotMaps (length y.slots) r.slot x.slots x'
 
 -- the lists that meet in the cases
 regroup : (a c : List Shown) (d e : List ℕ) → a ++ (map User (d ++ e) ++ c) ≡ (a ++ map User d) ++ (map User e ++ c)
-regroup a c d e = rw (map_append User d e) (rw (append_assoc (map User d) (map User e) c) (sym (append_assoc a (map User d) (map User e ++ c))))
+regroup a c d e = rw (map-append User d e) (rw (append_assoc (map User d) (map User e) c) (sym (append_assoc a (map User d) (map User e ++ c))))
 
 module _ (S : Splicing) (fits_f : Fits S.caller (spliced S) (caller_names S)) (fits_g : Fits S.callee (spliced S) (callee_names S)) where
   within_tags : (inst : Instruction) (i : Line) (more : List Line → Type 0) (i' : Line) (is' : List Line) → i.inst ≡ inst → WithinHead S inst i more (i' ∷ is') → Tagged inst → i'.tags ≡ map (tag_under (caller_names S)) S.site.tags ++ map (tag_under (callee_names S)) i.tags
@@ -166,7 +162,7 @@ module _ (S : Splicing) (fits_f : Fits S.caller (spliced S) (caller_names S)) (f
       let t = tags_shown (callee_names S) y.frame y'.frame local.embeds.fits.size local.slots y.line.tags p.c p.tags in
       let u = tags_append y'.frame (map (tag_under (caller_names S)) S.site.tags) (map (tag_under (callee_names S)) y.line.tags) (map User ns) p.c (numbers_shown (caller_names S) y'.frame S.site.tags ns tags) t in
       let v : shown_tags y'.frame y'.line.tags ≡ Some (map User ns ++ p.c) = ap (λ z. shown_tags y'.frame z.tags) line ∙ ap (shown_tags y'.frame) (tagged_before y.line.inst _ _ tagged) ∙ u in
-      let w : (p.a ++ map User d) ++ (map User y'.frame.extra ++ (map User ns ++ p.c)) ≡ p.a ++ (map User (d ++ (y'.frame.extra ++ ns)) ++ p.c) = ap (λ z. (p.a ++ map User d) ++ z) (sym (append_assoc (map User y'.frame.extra) (map User ns) p.c) ∙ ap (λ z. z ++ p.c) (sym (map_append User y'.frame.extra ns))) ∙ sym (regroup p.a p.c d (y'.frame.extra ++ ns)) in
+      let w : (p.a ++ map User d) ++ (map User y'.frame.extra ++ (map User ns ++ p.c)) ≡ p.a ++ (map User (d ++ (y'.frame.extra ++ ns)) ++ p.c) = ap (λ z. (p.a ++ map User d) ++ z) (sym (append_assoc (map User y'.frame.extra) (map User ns) p.c) ∙ ap (λ z. z ++ p.c) (sym (map-append User y'.frame.extra ns))) ∙ sym (regroup p.a p.c d (y'.frame.extra ++ ns)) in
       shown_at y' s' (p.a ++ map User d) (map User ns ++ p.c) (ih p.a p.below) v ∙ ap Some (w ∙ ap (λ z. p.a ++ (map User z ++ p.c)) (sym extra) ∙ sym p.whole)
 
   pub inside_shown : (d : List ℕ) (k : Kind) (y z y' : Wait) (s s' : List Wait) → Joined S d k y.frame z y'.frame → RestG S k (y.line ∷ y.frame.rest) (y'.line ∷ y'.frame.rest) → Tagged y.line.inst → (sh : List Shown) → ((a : List Shown) → shown s ≡ Some a → shown s' ≡ Some (a ++ map User d)) → shown (y ∷ (z ∷ s)) ≡ Some sh → shown (y' ∷ s') ≡ Some sh

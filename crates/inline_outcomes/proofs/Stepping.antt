@@ -23,11 +23,13 @@ use Rattle.ir_semantics.specs.Runs.{shows}
 use Rattle.ir_semantics.specs.Renaming.{Renaming, called_under, entry_under, instruction_under, line_under, tag_under, target_under, try_target_under}
 use Rattle.ir_semantics.specs.Import.{sig_after}
 use Rattle.ir_semantics.specs.Splice.{Kind, Last, Splicing, Tries, Within, after_block, args_of, callee_line, callee_names, caller_names, first_number, from, jump_in, kind_of, line_with, named_sig, new_results, returned_arg, spliced, tags_before, to_after, to_normal, try_with, try_target}
+use Rattle.ir_semantics.proofs.SafetyTypes.{head_same}
 use Rattle.ir_core.specs.Uses.{callee_of}
-use Rattle.inline_outcomes.proofs.Local.{Alike, Fits, Free, Injective, Keeps, Maps, SameCallee, SlotMaps, all_maps, bind_maps, called_maps, effect_like, found_under, keeps_all, slots_keep, some_same, named_target, try_target_called}
+use Rattle.ir_core.proofs.Gets.{some_same}
+use Rattle.inline_outcomes.proofs.Local.{Alike, Fits, Free, Injective, Keeps, Maps, SameCallee, SlotMaps, all_maps, bind_maps, called_maps, effect_like, found_under, keeps_all, slots_keep, named_target, try_target_called}
 use Rattle.inline_outcomes.proofs.Frames.{Again, Embeds, Follows, Local, bind_follow, enter_follow, must_follow}
 use Rattle.inline_outcomes.proofs.Related.{Below, Distinct, Joined, NotLast, Plainly, RestF, RestG, RestOf, Role, Stack, Tagged, TailRest, TriesHead, Waiting, Waits, WithinHead, alone, alone_top, caller, inside, inside_top, left, line_of, other, ren_of, stands}
-use Rattle.inline_outcomes.proofs.Showing.{alone_shown, head_same, inside_shown, shown_below, tail_same, waiting_tagged}
+use Rattle.inline_outcomes.proofs.Showing.{alone_shown, inside_shown, shown_below, tail_same, waiting_tagged}
 use Rattle.inline_outcomes.proofs.Returning.{Foll, Pairs, all_vals, enter_is, give_after, give_returned, inside_again, inside_local, jump_is, resume_below, role_again, role_local, throw_below, waits_kept}
 use Rattle.inline_outcomes.proofs.Effects.{Comes_to, IsPoint, IsReturn, IsTail, comes_to}
 

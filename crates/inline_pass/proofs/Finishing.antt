@@ -1,6 +1,6 @@
 -- Finished bodies satisfy their equation: only the bodies of what a function calls count, and a callee in another piece
 -- reaches less.
-use Rattle.std.proofs.Common.{◌≡◌, ℕ, zero, suc, ◌<◌, inl, inr, List, [], ◌∷◌, ◌++◌, length, Option, Some, None, Bool, true, false, refl, sym, ap, ◌∙◌, subst, arith}
+use Rattle.std.proofs.Common.{◌≡◌, ℕ, zero, suc, ◌<◌, inl, inr, List, [], ◌∷◌, length, Option, Some, None, Bool, true, false, refl, sym, ap, ◌∙◌, subst, arith}
 use Rattle.std.specs.Prelude.{slice_get, if◌then◌else◌}
 use Rattle.std.proofs.lemmas.Bool.{cases_eq}
 use Rattle.ir_core.specs.declared.names.FuncName.{FuncName}
@@ -9,32 +9,26 @@ use Rattle.ir_core.specs.Module.{CallTarget, Direct, Indirect, call_target, Inst
 use Rattle.ir_core.specs.Lookup.{and_then, find_block, find_function}
 use Rattle.ir_core.specs.Lists.{In, Each}
 use Rattle.ir_semantics.specs.Splice.{sides, splice_with}
+use Rattle.ir_semantics.proofs.SafetyTypes.{then_some}
 use Rattle.ir_core.specs.Uses.{named_callee, callee_of}
 use Rattle.ir_core.specs.Uses.{called_callees, callees_used}
 use Rattle.ir_core.specs.WellFormed.{LineWellFormed, BlockWellFormed, WellFormed, DifferentNames}
+use Rattle.ir_core.proofs.Gets.{some_same}
+use Rattle.ir_core.proofs.Members.{in_left, in_right}
+use Rattle.ir_core.proofs.Equal.{cases_name}
 use Rattle.call_graph.specs.Reach.{called_name, or_nothing, names_in, called_names, calls_of, apart}
 use Rattle.call_graph.specs.Order.{names_of}
 use Rattle.call_graph.proofs.Ranks.{call_reaches, under_of, rank, rank_falls, rank_bound}
-use Rattle.inline_outcomes.proofs.Local.{some_same}
 use Rattle.inline_outcomes.proofs.Places.{find_hit, find_skip}
-use Rattle.inline_outcomes.proofs.Functions.{cases_named, function_hit, function_skip, function_name}
+use Rattle.inline_outcomes.proofs.Functions.{function_hit, function_skip, function_name}
 use Rattle.inline_pass.specs.Policy.{Policy, takes}
 use Rattle.inline_pass.specs.Sites.{Point, own_sites, point_behind, called}
 use Rattle.inline_pass.specs.Finished.{inline_by, finish_by, body_of, finished_in, finished}
 use Rattle.inline_pass.specs.FinishedLaws.{FinishedEquation}
-use Rattle.inline_pass.proofs.Passing.{found, then_some}
+use Rattle.inline_pass.proofs.Passing.{found}
 use Rattle.inline_pass.proofs.Tracking.{Names, name_in, track, splice_here}
 
 -- ---- a function's text calls the names that it calls
-
-in_left : {A : Type 0} (n : A) (xs ys : List A) → In n xs → In n (xs ++ ys)
-in_left n [] ys h = elim h [ ]
-in_left n (x ∷ xs) ys (inl q) = inl q
-in_left n (x ∷ xs) ys (inr q) = inr (in_left n xs ys q)
-
-in_right : {A : Type 0} (n : A) (xs ys : List A) → In n ys → In n (xs ++ ys)
-in_right n [] ys h = h
-in_right n (x ∷ xs) ys h = inr (in_right n xs ys h)
 
 each_get : (P : Line → Type 0) (ls : List Line) (i : ℕ) (l : Line) → slice_get ls i ≡ Some l → Each P ls → P l
 each_get P [] i l h e = cc
@@ -52,7 +46,7 @@ each_block P (b ∷ bs) n k h e =
 pub each_function : (P : Function → Type 0) (m : Module) (x : FuncName) (f : Function) → find_function x m ≡ Some f → Each P m → P f
 each_function P [] x f h e = cc
 each_function P (k ∷ m) x f h e =
-    elim (cases_named k.name x) [
+    elim (cases_name k.name x) [
       | inl q ↦ subst P (some_same (sym (function_hit x k m q) ∙ h)) e.0
       | inr q ↦ each_function P m x f (sym (function_skip x k m q) ∙ h) e.1
     ]
@@ -135,7 +129,7 @@ calls_is m f h y i = subst (λ o. In y (elim o as (λ z. List FuncName) [ None �
 
 pub name_of_found : (m : Module) (x : FuncName) (f : Function) → find_function x m ≡ Some f → In x (names_of m)
 name_of_found [] x f h = cc
-name_of_found (k ∷ m) x f h = elim (cases_named k.name x) [ inl q ↦ inl (sym q) | inr q ↦ inr (name_of_found m x f (sym (function_skip x k m q) ∙ h)) ]
+name_of_found (k ∷ m) x f h = elim (cases_name k.name x) [ inl q ↦ inl (sym q) | inr q ↦ inr (name_of_found m x f (sym (function_skip x k m q) ∙ h)) ]
 
 module _ (p : Policy) (m : Module) (whole : Each WellFormed m) where
   turns : (n : ℕ) (f : Function) → FuncName → Option Function
@@ -171,7 +165,7 @@ found_by_name [] d f i = elim i [ ]
 found_by_name (k ∷ m) d f (inl e) = function_hit f.name k m (ap (λ z. z.name) (sym e)) ∙ ap Some (sym e)
 found_by_name (k ∷ m) d f (inr i) =
     let ih = found_by_name m d.1 f i in
-    elim (cases_named k.name f.name) [
+    elim (cases_name k.name f.name) [
       | inl q ↦ let e : None ≡ Some f = sym d.0 ∙ ap (λ z. find_function z m) q ∙ ih in cc
       | inr q ↦ function_skip f.name k m q ∙ ih
     ]

@@ -9,18 +9,19 @@ use Rattle.ir_core.specs.Lists.{In, Each, Different}
 use Rattle.ir_core.specs.Edits.{lines_of}
 use Rattle.ir_core.specs.Uses.{named_callee, callee_of}
 use Rattle.ir_core.specs.WellFormed.{WellFormed}
+use Rattle.ir_core.proofs.Members.{in_map}
 use Rattle.ir_semantics.specs.Renaming.{Renaming, called_under, instruction_under, line_under, block_under}
 use Rattle.ir_semantics.specs.Splice.{sides}
-use Rattle.inline_outcomes.proofs.Local.{some_same, try_target_called}
+use Rattle.inline_outcomes.proofs.Local.{try_target_called}
 use Rattle.inline_numbering.specs.Renamed.{Renamed}
 use Rattle.inline_numbering.proofs.Same.{blocks_number, renamed_itself}
-use Rattle.inline_numbering.proofs.Typed.{in_map}
 use Rattle.inline_pass.specs.Policy.{takes}
 use Rattle.inline_pass.specs.Sites.{Point, is_site, sites_in, own_sites, point_behind, called}
 use Rattle.inline_pass.specs.Finished.{callee_at, inline_by, finish_by}
 use Rattle.inline_pass.specs.Inlined.{inlined_by, inlined_with}
 use Rattle.inline_pass.specs.Going.{Task, Ahead, Twins, Later, Going, Onward, before_block, before_line, behind_line, sites_left, stands, body_called, with_body, spliced_twins}
 use Rattle.inline_pass.proofs.Steps.{untouched, Refused, Inlines, Put, PutWithin}
+use Rattle.inline_pass.proofs.Tracking.{get_of_map}
 
 -- ---- lists
 
@@ -35,11 +36,6 @@ drop_next [] zero l ls e = cc
 drop_next [] (suc n) l ls e = cc
 drop_next (x ∷ xs) zero l ls e = cc
 drop_next (x ∷ xs) (suc n) l ls e = drop_next xs n l ls e
-
-get_of_map : (f : Line → Line) (ls : List Line) (j : ℕ) (l' : Line) → slice_get (map f ls) j ≡ Some l' → (l : Line) × (slice_get ls j ≡ Some l) × (f l ≡ l')
-get_of_map f [] j l' h = cc
-get_of_map f (x ∷ ls) zero l' h = (x, refl, some_same h)
-get_of_map f (x ∷ ls) (suc j) l' h = get_of_map f ls j l' h
 
 -- ---- a block of the definition's body, and its lines in the code's
 
@@ -334,7 +330,7 @@ first_lines [] hs h d = ap (λ c. if c then h.lines else lines_of h.number hs) (
 first_lines (x ∷ pre) hs h d =
     ap (λ c. if c then x.lines else lines_of h.number (pre ++ (h ∷ hs))) (ne_eqb x.number h.number (λ q. d.0 (subst (λ z. In z (block_numbers (pre ++ (h ∷ hs)))) (sym q) (numbers_after pre (h ∷ hs) h.number (inl refl))))) ∙ first_lines pre hs h d.1
 
-move_one : (pre hs : List Block) (h : Block) → pre ++ (h ∷ hs) ≡ (pre ++ (h ∷ [])) ++ hs
+pub move_one : (pre hs : List Block) (h : Block) → pre ++ (h ∷ hs) ≡ (pre ++ (h ∷ [])) ++ hs
 move_one pre hs h = sym (append_assoc pre (h ∷ []) hs)
 
 all_untouched : (f : Function) (at : ℕ) (pre owns : List Block) → f.blocks ≡ pre ++ owns → Different (block_numbers f.blocks) → (In at (block_numbers owns) → ⊥) → Each (Later (untouched f) at) owns

@@ -2,7 +2,7 @@
 -- module can be written.
 use Rattle.std.proofs.Common.{◌≡◌, ◌≤◌, ℕ, List, [], ◌∷◌, Option, Some, None, Bool, true, false, refl, sym, ap, ◌∙◌, subst, arith}
 use Rattle.std.specs.Prelude.{if◌then◌else◌, nat_le}
-use Rattle.std.proofs.lemmas.Bool.{leb-true}
+use Rattle.std.proofs.lemmas.Bool.{leb-true, and_parts}
 use Rattle.ir_core.specs.declared.names.FuncName.{FuncName}
 use Rattle.ir_core.specs.Module.{Function, Module}
 use Rattle.ir_core.specs.Lookup.{and_then, find_function}
@@ -10,9 +10,9 @@ use Rattle.ir_semantics.specs.Splice.{sides, spliced, splice_with, replace}
 use Rattle.ir_core.specs.Size.{size_of}
 use Rattle.ir_core.specs.WellFormed.{IsModule}
 use Rattle.ir_semantics.specs.Accepted.{Accepted}
+use Rattle.ir_semantics.proofs.SafetyTypes.{then_some}
 use Rattle.inline_acceptance.specs.Laws.{SpliceAccepted, SpliceWritable}
 use Rattle.ir_text.specs.Writable.{Writable}
-use Rattle.ir_core.proofs.Equal.{both_true}
 use Rattle.call_graph.specs.Reach.{apart}
 use Rattle.call_graph.specs.Order.{bottom_up}
 use Rattle.inline_outcomes.proofs.Functions.{function_name, replaced, others_stay}
@@ -20,7 +20,7 @@ use Rattle.inline_pass.specs.Policy.{Policy, takes}
 use Rattle.inline_pass.specs.Sites.{Point, own_sites, point_behind, called}
 use Rattle.inline_pass.specs.Finished.{inline_by, body_of, passed}
 use Rattle.inline_pass.specs.Pass.{finish, pass_by, pass}
-use Rattle.inline_pass.proofs.Passing.{Found, found, then_some, at_place, site_of, splice_is, spliced_name, replace_twice, replace_self, apart_self}
+use Rattle.inline_pass.proofs.Passing.{Found, found, at_place, site_of, splice_is, spliced_name, replace_twice, replace_self, apart_self}
 use Rattle.inline_pass.proofs.InOrder.{order_in_use}
 
 module _ (p : Policy) (P : Module → Type 0) (step : (c : Module) (b g : Function) (at i : ℕ) (x : FuncName) → find_function b.name c ≡ Some b → find_function x c ≡ Some g → (h : Found b at i x) → takes p g (splice_with sides b at i g) ≡ true → P c → P (replace (splice_with sides b at i g) c)) where
@@ -73,7 +73,7 @@ accepted_step : SpliceAccepted → (p : Policy) (c : Module) (b g : Function) (a
 accepted_step law p c b g at i x there gone h taken a = subst (λ z. AcceptedModule (replace z c)) (sym (splice_is b g at i x h)) (law c a.0 a.1 (at_place b g at i x h) refl (site_of c b g at i x there gone h))
 
 size_taken : (p : Policy) (g r : Function) → takes p g r ≡ true → size_of r ≤ p.caller_size
-size_taken p g r h = leb-true (size_of r) p.caller_size (both_true (nat_le (size_of g) p.callee_size) (nat_le (size_of r) p.caller_size) h).1
+size_taken p g r h = leb-true (size_of r) p.caller_size (and_parts (nat_le (size_of g) p.callee_size) (nat_le (size_of r) p.caller_size) h).1
 
 -- the pass of an accepted module is accepted, once a splice is
 pub pass_accepted : SpliceAccepted → (p : Policy) (order : List FuncName) (m : Module) → IsModule m → Accepted m → AcceptedModule (pass p order m)

@@ -8,14 +8,14 @@ use Rattle.ir_core.specs.Lookup.{and_then, same_name, find_block, find_function}
 use Rattle.ir_core.specs.Lists.{In}
 use Rattle.ir_semantics.specs.Splice.{sides, spliced, splice_with, replace}
 use Rattle.ir_core.specs.WellFormed.{WellFormed, DifferentNames, IsModule}
-use Rattle.ir_core.proofs.Equal.{equal_name}
+use Rattle.ir_core.proofs.Equal.{equal_name, cases_name}
+use Rattle.ir_core.proofs.Gets.{some_same}
 use Rattle.call_graph.specs.Reach.{called_names, calls_of, apart}
 use Rattle.call_graph.specs.Order.{names_of, stands, CalleesBefore, BottomUp, bottom_up}
 use Rattle.call_graph.proofs.Standing.{stands_of, not_standing}
 use Rattle.call_graph.proofs.Placing.{order_is_bottom_up}
 use Rattle.inline_outcomes.specs.Laws.{RunsKept}
-use Rattle.inline_outcomes.proofs.Local.{some_same}
-use Rattle.inline_outcomes.proofs.Functions.{cases_named, function_hit, function_skip, function_name}
+use Rattle.inline_outcomes.proofs.Functions.{function_hit, function_skip, function_name}
 use Rattle.inline_outcomes.proofs.Linking.{map_same}
 use Rattle.inline_pass.specs.Policy.{Policy, takes}
 use Rattle.inline_pass.specs.Sites.{Point, own_sites, point_behind, called}
@@ -94,7 +94,7 @@ finished_signed p m f = turns_signed _ p m f
 find_map : (φ : Function → Function) → ((f : Function) → (φ f).name ≡ f.name) → (y : FuncName) (m : Module) → find_function y (map φ m) ≡ and_then (find_function y m) (λ g. Some (φ g))
 find_map φ named y [] = refl
 find_map φ named y (k ∷ m) =
-    elim (cases_named k.name y) [
+    elim (cases_name k.name y) [
       | inl q ↦ function_hit y (φ k) (map φ m) (named k ∙ q) ∙ sym (ap (λ o. and_then o (λ g. Some (φ g))) (function_hit y k m q))
       | inr q ↦ function_skip y (φ k) (map φ m) (ap (λ z. same_name z y) (named k) ∙ q) ∙ find_map φ named y m ∙ sym (ap (λ o. and_then o (λ g. Some (φ g))) (function_skip y k m q))
     ]
@@ -103,7 +103,7 @@ find_map φ named y (k ∷ m) =
 same_map : (φ ψ : Function → Function) (x : FuncName) → ((k : Function) → same_name k.name x ≡ false → φ k ≡ ψ k) → (m : Module) → find_function x m ≡ None → map φ m ≡ map ψ m
 same_map φ ψ x same [] h = refl
 same_map φ ψ x same (k ∷ m) h =
-    elim (cases_named k.name x) [
+    elim (cases_name k.name x) [
       | inl q ↦ let e : Some k ≡ None = sym (function_hit x k m q) ∙ h in cc
       | inr q ↦ ap₂ (λ (a : Function) (as' : Module). a ∷ as') (same k q) (same_map φ ψ x same m (sym (function_skip x k m q) ∙ h))
     ]
@@ -111,7 +111,7 @@ same_map φ ψ x same (k ∷ m) h =
 replace_map : (φ ψ : Function → Function) (f : Function) → ((k : Function) → (φ k).name ≡ k.name) → ((k : Function) → same_name k.name f.name ≡ false → φ k ≡ ψ k) → (ψ f).name ≡ f.name → (m : Module) → DifferentNames m → find_function f.name m ≡ Some f → replace (ψ f) (map φ m) ≡ map ψ m
 replace_map φ ψ f named same name [] d h = cc
 replace_map φ ψ f named same name (k ∷ m) d h =
-    elim (cases_named k.name f.name) [
+    elim (cases_name k.name f.name) [
       | inl q ↦
           let e : k ≡ f = some_same (sym (function_hit f.name k m q) ∙ h) in
           replace_hit (ψ f) (φ k) (map φ m) (named k ∙ q ∙ sym name) ∙ ap₂ (λ (a : Function) (as' : Module). a ∷ as') (ap ψ (sym e)) (same_map φ ψ f.name same m (ap (λ z. find_function z m) (sym q) ∙ d.0))

@@ -8,6 +8,5 @@ pub mod Outcomes
 pub mod Passing
 pub mod Preserving
 pub mod Putting
-pub mod Renumbered
 pub mod Steps
 pub mod Tracking

@@ -3,6 +3,7 @@
 use Rattle.std.proofs.Common.{◌≡◌, ◌⊎◌, ℕ, zero, suc, ◌+◌, ◌*◌, ◌-◌, inl, inr, List, [], ◌∷◌, ◌++◌, map, take, drop, Option, Some, None, Bool, true, false, ◌&&◌, nat_lt, nat_eq, refl, sym, ap, ap₂, ◌∙◌, subst, eq-eqb, ne_eqb}
 use Rattle.std.specs.Prelude.{slice_get, if◌then◌else◌, nat_le}
 use Rattle.std.proofs.lemmas.Bool.{cases_eq}
+use Rattle.std.proofs.lemmas.List.{map-append}
 use Rattle.ir_core.specs.declared.names.FuncName.{FuncName}
 use Rattle.ir_core.specs.declared.declarations.Callee.{Callee}
 use Rattle.ir_core.specs.declared.signatures.Sig.{Sig}
@@ -17,7 +18,8 @@ use Rattle.ir_semantics.specs.Canon.{SameFunction}
 use Rattle.ir_semantics.specs.Import.{sigs_after, callees_with, callees_after, same_callee}
 use Rattle.ir_semantics.specs.Renaming.{Renaming, line_under, block_under}
 use Rattle.ir_semantics.specs.Splice.{Splicing, Kind, Within, Last, Tries, kind_of, after_block, after_blocks, body, caller_names, sides, spliced, splice_with}
-use Rattle.inline_outcomes.proofs.Local.{some_same}
+use Rattle.ir_semantics.proofs.SafetyPlaces.{function_in}
+use Rattle.ir_semantics.proofs.SafetyTypes.{then_some}
 use Rattle.inline_outcomes.specs.Stands.{Stands}
 use Rattle.inline_outcomes.proofs.Related.{Distinct}
 use Rattle.inline_outcomes.proofs.Linking.{distinct_sides, after_is}
@@ -26,16 +28,14 @@ use Rattle.inline_outcomes.proofs.Numbering.{function_map}
 use Rattle.inline_outcomes.proofs.Places.{find_hit, find_skip, append_none, g_off, after_cut, f_found}
 use Rattle.inline_acceptance.specs.Alone.{CallSite}
 use Rattle.inline_acceptance.proofs.Alone.{Free, free_of, free_same, splice_free}
-use Rattle.inline_acceptance.proofs.KeptFunctions.{in_get, get_in, in_items, in_with}
-use Rattle.inline_acceptance.proofs.KeptLists.{each_in}
-use Rattle.inline_acceptance.proofs.KeptModules.{find_function_in}
+use Rattle.inline_acceptance.proofs.KeptFunctions.{in_items, in_with}
 use Rattle.inline_numbering.specs.Renamed.{Renamed}
 use Rattle.inline_numbering.specs.Carried.{Carries, SiteUnder, splicing_under}
-use Rattle.inline_numbering.proofs.Carried.{kind_under, kind_same, map_append}
+use Rattle.inline_numbering.proofs.Carried.{kind_under, kind_same}
 use Rattle.inline_numbering.proofs.Same.{blocks_number, by_way, way_renamed, renamed_is_same, renamed_itself}
 use Rattle.inline_numbering.proofs.Sides.{joined, sides_carry}
 use Rattle.inline_numbering.proofs.Sizes.{size_renamed}
-use Rattle.inline_numbering.proofs.Typed.{same_before, block_in}
+use Rattle.inline_numbering.proofs.Typed.{same_before}
 use Rattle.inline_numbering.proofs.Places as points
 use Rattle.call_graph.specs.Reach.{apart}
 use Rattle.inline_pass.specs.Policy.{Policy, takes}
@@ -45,22 +45,17 @@ use Rattle.inline_pass.specs.Inlined.{inlined_by, inlined_with, inlined}
 use Rattle.inline_pass.specs.OtherBodies.{SameBody, FinishedRespectNumbers}
 use Rattle.inline_pass.proofs.Steps.{own_names}
 use Rattle.inline_pass.proofs.Going.{callee_stays}
-use Rattle.inline_pass.proofs.Passing.{Found, found, then_some, at_place, splice_is}
+use Rattle.inline_pass.proofs.Passing.{Found, found, at_place, splice_is}
 use Rattle.inline_pass.proofs.Tracking.{f_none, ren_off}
 use Rattle.inline_pass.proofs.Finishing.{finished_equation}
 use Rattle.inline_pass.proofs.InOrder.{finished_named, finished_signed}
 use Rattle.inline_pass.proofs.Preserving.{finished_accepted}
 use Rattle.ir_core.proofs.Cutting.{cut_list}
+use Rattle.ir_core.proofs.Gets.{some_same, in_get, get_in}
+use Rattle.ir_core.proofs.Members.{in_or_not, each_in}
+use Rattle.ir_core.proofs.ByNumber.{found_number}
 
 -- ---- blocks that are there or not
-
-in_cases_of : (v : ℕ) (xs : List ℕ) → In v xs ⊎ (In v xs → ⊥)
-in_cases_of v [] = inr (λ i. i)
-in_cases_of v (x ∷ xs) =
-    elim (cases_eq v x) [
-      | inl e ↦ inl (inl e)
-      | inr e ↦ elim (in_cases_of v xs) [ inl q ↦ inl (inr q) | inr q ↦ inr (λ i. elim i [ inl p ↦ e p | inr p ↦ q p ]) ]
-    ]
 
 no_block : (x : ℕ) (bs : List Block) → (In x (block_numbers bs) → ⊥) → find_block x bs ≡ None
 no_block x [] off = refl
@@ -80,9 +75,6 @@ not_in x (b ∷ bs) h i =
 record Beside (b c : Function) (r : Renaming) (q q' : Point) : Type 0 where
   line : q'.1 ≡ q.1
   block : (In q.0 (block_numbers b.blocks) × (r.block q.0 ≡ q'.0)) ⊎ ((In q.0 (block_numbers b.blocks) → ⊥) × (In q'.0 (block_numbers c.blocks) → ⊥))
-
-called_in : Function → ℕ → Block → Option FuncName
-called_in f i k = and_then (slice_get k.lines i) (λ l. and_then (callee_of l.inst) (λ j. and_then (slice_get f.callees j) (λ d. Some d.name)))
 
 module _ (b c : Function) (r : Renaming) (same : Renamed r b c) where
   at_line : (ls : List Line) (i : ℕ) → and_then (slice_get (map (line_under r) ls) i) (λ l. and_then (callee_of l.inst) (λ j. and_then (slice_get c.callees j) (λ d. Some d.name))) ≡ and_then (slice_get ls i) (λ l. and_then (callee_of l.inst) (λ j. and_then (slice_get b.callees j) (λ d. Some d.name)))
@@ -135,7 +127,7 @@ pub own_there : (S : Splicing) → Distinct S.naming → Stands S → (x : ℕ) 
 own_there S names stands x i =
     let k = block_found x S.caller.blocks i in
     let r = f_found S names S.caller.blocks stands.block stands.block_found stands.lines x k.0 k.1 in
-    block_in (S.naming.caller_block x) (spliced S).blocks r.0 r.1
+    found_number (S.naming.caller_block x) (spliced S).blocks r.0 r.1
   where
     block_found : (x : ℕ) (bs : List Block) → In x (block_numbers bs) → (k : Block) × (find_block x bs ≡ Some k)
     block_found x [] i = elim i [ ]
@@ -173,7 +165,7 @@ module _ (b c g h : Function) (r : Renaming) (rb : Renamed r b c) (fb : Free b) 
   carry = sides_carry r s sides b c g h rb rg fg.whole
 
   at_in : In at (block_numbers b.blocks)
-  at_in = block_in at b.blocks f.block f.found
+  at_in = found_number at b.blocks f.block f.found
 
   numbers : Different (map r.block (block_numbers b.blocks))
   numbers = differ b c r rb fc.whole.blocks
@@ -191,7 +183,7 @@ module _ (b c g h : Function) (r : Renaming) (rb : Renamed r b c) (fb : Free b) 
   stands_b = record { block = f.block; block_found = f.found; lines = cut }
 
   stands_c : Stands q
-  stands_c = record { block = block_under r f.block; block_found = other_found; lines = ap (map (line_under r)) cut ∙ map_append (line_under r) (take i f.block.lines) (f.line ∷ drop (suc i) f.block.lines) }
+  stands_c = record { block = block_under r f.block; block_found = other_found; lines = ap (map (line_under r)) cut ∙ map-append (line_under r) (take i f.block.lines) (f.line ∷ drop (suc i) f.block.lines) }
 
   pub site : SiteUnder r s p c h
   site = record { stands = stands_b; caller = rb; callee = rg; caller_whole = fb.whole; caller_after_whole = fc.whole; callee_whole = fg.whole; callee_after_whole = fh.whole }
@@ -239,7 +231,7 @@ module _ (b c g h : Function) (r : Renaming) (rb : Renamed r b c) (fb : Free b) 
   behind_body : Where 2 2
   behind_body =
       elim (within_or_not (kind_of f.line.inst)) [
-        | inl e ↦ inl (block_in 2 (spliced p).blocks (after_block p) (after_is p distinct_sides stands_b e), carry.after)
+        | inl e ↦ inl (found_number 2 (spliced p).blocks (after_block p) (after_is p distinct_sides stands_b e), carry.after)
         | inr not_it ↦ inr (
           not_in 2 (spliced p).blocks (after_none p distinct_sides f.block f.found not_it),
           not_in 2 (spliced q).blocks (after_none q distinct_sides (block_under r f.block) other_found (λ e. not_it (kind_back r (kind_of f.line.inst) (sym (kind_same r f.line.inst) ∙ e)))),
@@ -257,7 +249,7 @@ module _ (b c g h : Function) (r : Renaming) (rb : Renamed r b c) (fb : Free b) 
         | inr apart_from ↦ ne_eqb x' (r.block at) (λ e. apart_from (same_before r.block (block_numbers b.blocks) numbers x at j at_in (to ∙ e))) ∙ sym (ne_eqb x at apart_from)
       ]
   at_same x x' (inr (off, off')) =
-      ne_eqb x' (r.block at) (λ e. off' (subst (λ z. In z (block_numbers c.blocks)) (sym e) (block_in (r.block at) c.blocks (block_under r f.block) other_found))) ∙ sym (ne_eqb x at (λ e. off (subst (λ z. In z (block_numbers b.blocks)) (sym e) at_in)))
+      ne_eqb x' (r.block at) (λ e. off' (subst (λ z. In z (block_numbers c.blocks)) (sym e) (found_number (r.block at) c.blocks (block_under r f.block) other_found))) ∙ sym (ne_eqb x at (λ e. off (subst (λ z. In z (block_numbers b.blocks)) (sym e) at_in)))
 
   beside : (z z' : Point) → Beside b c r z z' → Beside (spliced p) (spliced q) t (point_behind at i z) (point_behind (r.block at) i z')
   beside z z' e = by (nat_eq z.0 at && nat_lt i z.1) (nat_eq z'.0 (r.block at) && nat_lt i z'.1) (ap₂ (λ u w. u && w) (at_same z.0 z'.0 e.block) (ap (nat_lt i) e.line))
@@ -339,7 +331,7 @@ module _ (policy : Policy) (bodies others : FuncName → Option Function) (alike
         here = places_are s (inl refl)
 
         to : r.block at ≡ at'
-        to = elim here.block [ inl e ↦ e.1 | inr e ↦ absurd (e.0 (block_in at b.blocks f.block f.found)) ]
+        to = elim here.block [ inl e ↦ e.1 | inr e ↦ absurd (e.0 (found_number at b.blocks f.block f.found)) ]
 
         abbrev b1 : Function
         b1 = splice_with sides b at i g
@@ -424,7 +416,7 @@ module _ (p : Policy) (m : Module) (is : IsModule m) (ok : Accepted m) (f : Func
   pub good : (x : FuncName) (g : Function) → bodies x ≡ Some g → Free g × ((d : Callee) → In d g.callees → (g1 : Function) → bodies d.name ≡ Some g1 → slice_get g.sigs d.sig ≡ Some g1.sig)
   good x g e =
       let u = body_is x g e in
-      let i : In g (passed p m) = find_function_in x (passed p m) g (passed_is x u.0 u.1 ∙ ap (λ z. Some z) (sym u.2)) in
+      let i : In g (passed p m) = function_in x (passed p m) g (passed_is x u.0 u.1 ∙ ap (λ z. Some z) (sym u.2)) in
       let accepted = kept.1 g i in (
         free_of (passed p m) g (each_in WellFormed (passed p m) kept.0.whole g i) accepted,
         λ d j g1 e1.
@@ -446,7 +438,7 @@ module _ (p : Policy) (m : Module) (is : IsModule m) (ok : Accepted m) (f : Func
       ok f there (item.Callee k.0) signature_mismatch d k.1 u1.0 u1.1 ∙ ap (λ z. Some z) (sym (ap (λ z. z.sig) u1.2 ∙ finished_signed p m u1.0))
 
   beside_itself : (z : Point) → Beside f f own_names z z
-  beside_itself z = record { line = refl; block = elim (in_cases_of z.0 (block_numbers f.blocks)) [ inl i ↦ inl (i, refl) | inr off ↦ inr (off, off) ] }
+  beside_itself z = record { line = refl; block = elim (in_or_not z.0 (block_numbers f.blocks)) [ inl i ↦ inl (i, refl) | inr off ↦ inr (off, off) ] }
 
   respect : (others : FuncName → Option Function) → ((x : FuncName) → SameBody (bodies x) (others x)) → SameFunction (finished p m f) (finish_by others p f) × (inlined_with others p f ≡ inlined p m f)
   respect others alike =

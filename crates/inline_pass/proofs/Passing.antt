@@ -12,11 +12,11 @@ use Rattle.ir_core.specs.WellFormed.{IsModule}
 use Rattle.ir_semantics.specs.Accepted.{Accepted}
 use Rattle.ir_semantics.specs.Same.{Same}
 use Rattle.ir_semantics.specs.NeverStuck.{NeverStuck}
+use Rattle.ir_semantics.proofs.SafetyTypes.{then_some}
 use Rattle.call_graph.specs.Reach.{reaches, one_piece, apart}
 use Rattle.inline_outcomes.specs.Laws.{RunsKept}
-use Rattle.inline_outcomes.proofs.Local.{some_same}
-use Rattle.ir_core.proofs.Equal.{equal_name}
-use Rattle.inline_outcomes.proofs.Functions.{function_hit, function_skip, function_name, cases_named, replaced, others_stay}
+use Rattle.ir_core.proofs.Equal.{equal_name, cases_name}
+use Rattle.inline_outcomes.proofs.Functions.{function_hit, function_skip, function_name, replaced, others_stay}
 use Rattle.inline_outcomes.proofs.Linking.{distinct_sides, splice_runs}
 use Rattle.inline_outcomes.proofs.Numbering.{runs_kept, kept_on}
 use Rattle.inline_outcomes.proofs.Keeping.{same_of}
@@ -25,11 +25,7 @@ use Rattle.inline_pass.specs.Sites.{Point, own_sites, point_behind, called}
 use Rattle.inline_pass.specs.Finished.{inline_by, body_of}
 use Rattle.inline_pass.specs.Pass.{finish, pass_by, pass}
 use Rattle.ir_core.proofs.Cutting.{cut_list}
-
--- what an optional step found
-pub then_some : {A B : Type 0} (o : Option A) (go : A → Option B) (b : B) → and_then o go ≡ Some b → (a : A) × (o ≡ Some a) × (go a ≡ Some b)
-then_some None go b h = cc
-then_some (Some a) go b h = (a, refl, h)
+use Rattle.ir_core.proofs.Gets.{some_same}
 
 -- the point of a call
 pub record Found (b : Function) (at i : ℕ) (x : FuncName) : Type 0 where
@@ -54,9 +50,6 @@ found b at i x h =
 -- the splice there
 abbrev pub at_place : (b g : Function) (at i : ℕ) (x : FuncName) → Found b at i x → Splicing
 at_place b g at i x h = record { naming = sides; caller = b; callee = g; at = at; before = take i h.block.lines; site = h.line; behind = drop (suc i) h.block.lines }
-
-pub place_naming : (b g : Function) (at i : ℕ) (x : FuncName) (h : Found b at i x) → (at_place b g at i x h).naming ≡ sides
-place_naming b g at i x h = refl
 
 pub site_of : (c : Module) (b g : Function) (at i : ℕ) (x : FuncName) → find_function b.name c ≡ Some b → find_function x c ≡ Some g → (h : Found b at i x) → Site c (at_place b g at i x h)
 site_of c b g at i x there gone h =
@@ -95,7 +88,7 @@ replace_skip b j js q = ap (λ c. if c then b ∷ js else j ∷ replace b js) q
 pub replace_twice : (a b : Function) (m : Module) → a.name ≡ b.name → replace b (replace a m) ≡ replace b m
 replace_twice a b [] h = refl
 replace_twice a b (k ∷ m) h =
-    elim (cases_named k.name a.name) [
+    elim (cases_name k.name a.name) [
       | inl q ↦ ap (replace b) (replace_hit a k m q) ∙ replace_hit b a m h ∙ sym (replace_hit b k m (q ∙ h))
       | inr q ↦ ap (replace b) (replace_skip a k m q) ∙ replace_skip b k (replace a m) (ap (same_name k.name) (sym h) ∙ q) ∙ ap (λ z. k ∷ z) (replace_twice a b m h) ∙ sym (replace_skip b k m (ap (same_name k.name) (sym h) ∙ q))
     ]
@@ -103,7 +96,7 @@ replace_twice a b (k ∷ m) h =
 pub replace_self : (f : Function) (m : Module) → find_function f.name m ≡ Some f → replace f m ≡ m
 replace_self f [] h = refl
 replace_self f (k ∷ m) h =
-    elim (cases_named k.name f.name) [
+    elim (cases_name k.name f.name) [
       | inl q ↦ replace_hit f k m q ∙ ap (λ z. z ∷ m) (some_same (sym h ∙ function_hit f.name k m q))
       | inr q ↦ replace_skip f k m q ∙ ap (λ z. k ∷ z) (replace_self f m (sym (function_skip f.name k m q) ∙ h))
     ]

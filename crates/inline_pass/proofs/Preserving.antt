@@ -4,7 +4,6 @@ use Rattle.ir_core.specs.declared.names.FuncName.{FuncName}
 use Rattle.ir_core.specs.Module.{Module}
 use Rattle.ir_core.specs.WellFormed.{IsModule}
 use Rattle.ir_semantics.specs.Accepted.{Accepted}
-use Rattle.ir_semantics.specs.Canon.{SameUpToNumbering}
 use Rattle.ir_text.specs.Writable.{Writable}
 use Rattle.inline_acceptance.proofs.KeptModules.{splice_accepted}
 use Rattle.inline_acceptance.proofs.KeptWritable.{splice_writable}
@@ -19,16 +18,8 @@ use Rattle.inline_pass.proofs.Holding as holding
 pub pass_accepted : (p : Policy) (order : List FuncName) (m : Module) → IsModule m → Accepted m → IsModule (pass p order m) × Accepted (pass p order m)
 pass_accepted = holding.pass_accepted splice_accepted
 
-pub renumbered_pass_accepted : (p : Policy) (order : List FuncName) (m r : Module) → IsModule m → Accepted m → SameUpToNumbering (pass p order m) r → IsModule r × Accepted r
-renumbered_pass_accepted p order m r whole accepted same =
-    let a = pass_accepted p order m whole accepted in
-    numbering_accepted (pass p order m) r same a.0 a.1
-
 pub pass_writable : (p : Policy) → p.caller_size ≤ 262144 → (order : List FuncName) (m : Module) → IsModule m → Accepted m → Writable m → Writable (pass p order m)
 pass_writable = holding.pass_writable splice_accepted splice_writable
-
-pub renumbered_pass_writable : (p : Policy) → p.caller_size ≤ 262144 → (order : List FuncName) (m r : Module) → IsModule m → Accepted m → Writable m → SameUpToNumbering (pass p order m) r → Writable r
-renumbered_pass_writable p limit order m r whole accepted written same = numbering_writable (pass p order m) r same (pass_writable p limit order m whole accepted written)
 
 pub finished_accepted : FinishedAccepted
 finished_accepted = holding.finished_accepted splice_accepted

@@ -10,27 +10,26 @@ use Rattle.ir_core.specs.Lists.{In, Different}
 use Rattle.ir_core.specs.Lookup.{block_numbers, find_block}
 use Rattle.ir_core.specs.Sound.{IsSound}
 use Rattle.ir_core.specs.WellFormed.{WellFormed, IsModule}
-use Rattle.ir_core.proofs.Members.{in_left, in_right}
+use Rattle.ir_core.proofs.Members.{in_left, in_right, each_in}
 use Rattle.ir_core.proofs.Wholeness.{whole_of}
+use Rattle.ir_core.proofs.Gets.{some_same, get_in}
+use Rattle.ir_core.proofs.ByNumber.{found_number}
 use Rattle.ir_semantics.specs.Accepted.{Accepted}
 use Rattle.ir_semantics.specs.Canon.{SameFunction}
 use Rattle.ir_semantics.specs.Renaming.{Renaming, line_under, block_under}
 use Rattle.ir_semantics.specs.Splice.{Naming, Splicing, Within, kind_of, after_block, after_blocks, body, cut_block, caller_names, sides, spliced, spliced_blocks}
+use Rattle.ir_semantics.proofs.SafetyPlaces.{function_in}
+use Rattle.ir_semantics.proofs.SafetyTypes.{then_some}
 use Rattle.inline_outcomes.specs.Stands.{Stands}
-use Rattle.inline_outcomes.proofs.Local.{some_same}
 use Rattle.inline_outcomes.proofs.Linking.{same_numbers, lines_same, distinct_sides, after_is}
 use Rattle.inline_outcomes.proofs.Merging.{own_callee}
 use Rattle.inline_outcomes.proofs.Places.{find_hit, find_skip}
 use Rattle.inline_acceptance.proofs.Alone.{Free, free_same}
-use Rattle.inline_acceptance.proofs.KeptFunctions.{get_in}
-use Rattle.inline_acceptance.proofs.KeptLists.{each_in}
-use Rattle.inline_acceptance.proofs.KeptModules.{find_function_in}
 use Rattle.inline_numbering.specs.Renamed.{Renamed}
 use Rattle.inline_numbering.specs.Carried.{Carries, SiteUnder, splicing_under}
 use Rattle.inline_numbering.proofs.Carried.{kind_same}
 use Rattle.inline_numbering.proofs.Same.{by_way, way_renamed, renamed_is_same}
 use Rattle.inline_numbering.proofs.Sides.{joined, sides_carry}
-use Rattle.inline_numbering.proofs.Typed.{block_in}
 use Rattle.inline_numbering.proofs.Places as points
 use Rattle.inline_pass.specs.Sites.{Point, called}
 use Rattle.inline_pass.specs.Policy.{Policy}
@@ -41,7 +40,7 @@ use Rattle.inline_pass.proofs.Steps.{Inlines, Put, PutWithin}
 use Rattle.inline_pass.proofs.Finishing.{found_by_name, finished_equation}
 use Rattle.inline_pass.proofs.Preserving.{finished_accepted}
 use Rattle.inline_pass.proofs.Going.{here_is, get_first}
-use Rattle.inline_pass.proofs.Passing.{Found, found, then_some, at_place, splice_is}
+use Rattle.inline_pass.proofs.Passing.{Found, found, at_place, splice_is}
 use Rattle.inline_pass.proofs.Others as others
 
 -- numbers that leave those of the caller c as they are
@@ -269,13 +268,13 @@ module _ (task : Task) (ahead : Ahead) (l : Line) (twins : Twins) (point : Point
   kind_is e = others.kind_back r (kind_of f.line.inst) (sym (kind_same r f.line.inst) ∙ (ap (λ z. kind_of z.inst) line_is ∙ e))
 
   place_in : In point.0 (block_numbers c.blocks)
-  place_in = subst (λ z. In z (block_numbers c.blocks)) at_is (block_in (r.block at) c.blocks (block_under r f.block) there)
+  place_in = subst (λ z. In z (block_numbers c.blocks)) at_is (found_number (r.block at) c.blocks (block_under r f.block) there)
 
   put_within : kind_of l.inst ≡ Within → PutWithin twins new point n.after
   put_within e =
       record {
         put = put;
-        behind = subst (λ z. In 2 (block_numbers z.blocks)) (sym b_is) (block_in 2 (spliced p).blocks (after_block p) (after_is p distinct_sides stands_p (kind_is e)));
+        behind = subst (λ z. In 2 (block_numbers z.blocks)) (sym b_is) (found_number 2 (spliced p).blocks (after_block p) (after_is p distinct_sides stands_p (kind_is e)));
         is = carry.after;
         text = behind_there q keeps e place_in whole_q.blocks;
         fresh = keeps.fresh;
@@ -305,7 +304,7 @@ finished_fit p m is ok f there = (
 pub done_is_finished : (p : Policy) (m : Module) → IsModule m → Accepted m → (f : Function) → In f m → (twins : Twins) (count : ℕ) → Done (finishing p m f) twins count → WellFormed twins.code → SameFunction (finished p m f) twins.code × (count ≡ inlined p m f)
 done_is_finished p m is ok f there twins count done whole =
     let kept = finished_accepted p m is ok in
-    let here : In (finished p m f) (passed p m) = find_function_in f.name (passed p m) (finished p m f) (others.passed_is p m is ok f there f.name f (found_by_name m is.names f there)) in
+    let here : In (finished p m f) (passed p m) = function_in f.name (passed p m) (finished p m f) (others.passed_is p m is ok f there f.name f (found_by_name m is.names f there)) in
     let w : WellFormed (finished p m f) = each_in WellFormed (passed p m) kept.0.whole (finished p m f) here in
     let same : Renamed twins.names (finished p m f) twins.code = subst (λ z. Renamed twins.names z twins.code) (sym (finished_equation p m is f there)) done.same in
     ((w, whole, sym (renamed_is_same twins.names (finished p m f) twins.code w whole same)), done.counted)

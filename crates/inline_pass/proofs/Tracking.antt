@@ -1,7 +1,7 @@
 -- A call of the caller's own text calls the same after a splice, wherever the splice is.
 use Rattle.std.proofs.Common.{◌≡◌, ℕ, zero, suc, ◌+◌, ◌-◌, ◌<◌, ◌⊎◌, inl, inr, List, [], ◌∷◌, ◌++◌, map, take, drop, Option, Some, None, Bool, true, false, ◌&&◌, nat_eq, nat_lt, refl, sym, ap, ◌∙◌, subst, arith, le-ltb}
 use Rattle.std.specs.Prelude.{slice_get, if◌then◌else◌}
-use Rattle.std.proofs.lemmas.Bool.{cases_eq, cases_lt}
+use Rattle.std.proofs.lemmas.Bool.{cases_eq, cases_lt, and_parts}
 use Rattle.ir_core.specs.declared.names.FuncName.{FuncName}
 use Rattle.ir_core.specs.declared.declarations.Callee.{Callee}
 use Rattle.ir_core.specs.Module.{CallTarget, Direct, Indirect, call_target, Instruction, Plain, Branches, SequencePoint, Return, Call, ReturnCall, TryCall, Line, Block, Function}
@@ -10,8 +10,8 @@ use Rattle.ir_core.specs.Lists.{In}
 use Rattle.ir_semantics.specs.Renaming.{block_under, called_under, instruction_under, line_under}
 use Rattle.ir_semantics.specs.Splice.{Splicing, Kind, Within, Last, Tries, kind_of, body, jump_in, cut_block, after_block, after_blocks, caller_names, spliced, spliced_blocks, sides, splice_with}
 use Rattle.ir_core.specs.Uses.{named_callee, callee_of}
-use Rattle.ir_core.proofs.Equal.{both_true, number_equal}
-use Rattle.inline_outcomes.proofs.Local.{some_same, try_target_called}
+use Rattle.ir_core.proofs.Equal.{number_equal}
+use Rattle.inline_outcomes.proofs.Local.{try_target_called}
 use Rattle.inline_outcomes.proofs.Related.{Distinct, RestF}
 use Rattle.inline_outcomes.proofs.Places.{find_hit, find_skip, append_none, g_off, after_off, after_cut, f_found}
 use Rattle.inline_outcomes.proofs.Merging.{own_callee}
@@ -19,6 +19,7 @@ use Rattle.inline_outcomes.proofs.Linking.{distinct_sides}
 use Rattle.inline_pass.specs.Sites.{Point, point_behind, called}
 use Rattle.inline_pass.proofs.Passing.{found}
 use Rattle.ir_core.proofs.Cutting.{cut_list}
+use Rattle.ir_core.proofs.Gets.{some_same}
 
 -- a call at the point is of a declared callee whose name is among these
 pub record Names (names : List FuncName) (b : Function) (q : Point) : Type 0 where
@@ -33,7 +34,7 @@ name_in names b q n y h =
 
 -- lists of lines
 
-get_of_map : (f : Line → Line) (ls : List Line) (j : ℕ) (l' : Line) → slice_get (map f ls) j ≡ Some l' → (l : Line) × (slice_get ls j ≡ Some l) × (f l ≡ l')
+pub get_of_map : (f : Line → Line) (ls : List Line) (j : ℕ) (l' : Line) → slice_get (map f ls) j ≡ Some l' → (l : Line) × (slice_get ls j ≡ Some l) × (f l ≡ l')
 get_of_map f [] j l' h = cc
 get_of_map f (x ∷ ls) zero l' h = (x, refl, some_same h)
 get_of_map f (x ∷ ls) (suc j) l' h = get_of_map f ls j l' h
@@ -170,6 +171,6 @@ module _ (b g : Function) (at i : ℕ) (k0 : Block) (l0 : Line) (there : find_bl
     where
       go : (c : Bool) → (nat_eq q.0 at && nat_lt i q.1) ≡ c → Names names (spliced here) (if c then (sides.after, q.1 - (i + 1)) else (sides.caller_block q.0, q.1))
       go true h =
-          let p = both_true (nat_eq q.0 at) (nat_lt i q.1) h in
+          let p = and_parts (nat_eq q.0 at) (nat_lt i q.1) h in
           elim (cases_lt i q.1) [ inl lt ↦ at_after names q n (number_equal q.0 at p.0) lt | inr le ↦ absurd (let z : false ≡ true = sym (le-ltb i q.1 le) ∙ p.1 in cc) ]
       go false h = at_own names q n

@@ -1,8 +1,7 @@
 -- What is done at a line.
-use Rattle.std.proofs.Common.{◌≡◌, ℕ, suc, zero, ◌+◌, ◌<◌, ◌≤◌, ◌≢◌, List, [], ◌∷◌, Option, Some, None, refl, arith, ap, ◌∙◌, sym, false}
+use Rattle.std.proofs.Common.{◌≡◌, ℕ, ◌+◌, ◌<◌, ◌≤◌, List, [], ◌∷◌, Option, Some, None, refl, ap, ◌∙◌, sym, false}
 use Rattle.std.proofs.Common.{◌++◌, map, length, slice_get, get_or, take, drop, append-nil, append_assoc}
 use Rattle.std.proofs.lemmas.List.{reverse-append, take_more}
-use Rattle.std.proofs.Math.Seq.{take-length}
 use Rattle.std.proofs.lemmas.List.{take-append-drop}
 use Rattle.std.proofs.lemmas.Option.{slice_get_past, slice_get-get_or}
 use Rattle.std.specs.Option.{option_map}
@@ -18,7 +17,6 @@ use Rattle.ir_core.specs.Module.{Function, Module}
 use Rattle.ir_semantics.specs.Values.{i64, join}
 use Rattle.ir_semantics.specs.Machine.{Wait, World, Moment, Caught, Shown, User}
 use Rattle.ir_semantics.specs.Step as step
-use Rattle.ir_semantics.specs.Effect.{Effect, choose}
 use Rattle.interp.specs.State.{function_at, wait_of, waits_of}
 use Rattle.interp.specs.declared.state.Wait.{Wait as CodeWait}
 use Rattle.interp.proofs.Entering.{at_past, at_found}
@@ -31,14 +29,6 @@ no_result (Some ts) e h = cc h
 pub no_row : (op : Op) (xs : List DataValue) → false ≡ is_some (row op (widths xs)) → NoRow ≡ operation op xs
 unfolding operation
 no_row op xs h = sym (no_result (row op (widths xs)) (meaning op xs) (sym h))
-
-pub choose_first : (n : ℕ) (a b : Effect) → n ≢ 0 → a ≡ choose n a b
-choose_first zero a b h = absurd (h refl)
-choose_first (suc n) a b h = refl
-
-pub choose_second : (n : ℕ) (a b : Effect) → n ≡ 0 → b ≡ choose n a b
-choose_second zero a b h = refl
-choose_second (suc n) a b h = absurd (omega arith)
 
 -- ---- exceptions
 
@@ -73,15 +63,6 @@ size_some m at k f ds d x e is h ex = ap (λ (g : Function). option_map (λ (d :
 
 -- ---- what is shown
 
-pub join_none : {A : Type 0} (o : Option (List A)) → join o None ≡ None
-join_none None = refl
-join_none (Some xs) = refl
-
-pub join_join : {A : Type 0} (xs : List A) (o p : Option (List A)) → join (join (Some xs) o) p ≡ join (Some xs) (join o p)
-join_join xs None p = refl
-join_join xs (Some ys) None = refl
-join_join xs (Some ys) (Some zs) = ap Some (append_assoc xs ys zs)
-
 -- the frames below and one more
 shown_push : (m : Module) (ys : List CodeWait) (y : CodeWait) → step.shown (waits_of m (ys ++ y ∷ [])) ≡ join (step.shown (waits_of m ys)) (join (Some (map User (wait_of m y).frame.extra)) (step.shown_tags (wait_of m y).frame (wait_of m y).line.tags))
 shown_push m ys y = ap step.shown (waits_push m ys y)
@@ -100,7 +81,3 @@ shown_lacks m ys (z ∷ zs) e =
 pub shown_stop : (m : Module) (ys : List CodeWait) (i : ℕ) (x : Wait) → None ≡ step.shown (waits_of m (take i ys)) → None ≡ step.shown (x ∷ waits_of m ys)
 shown_stop m ys i x e =
     ap (λ o. join o (join (Some (map User x.frame.extra)) (step.shown_tags x.frame x.line.tags))) (shown_lacks m (take i ys) (drop i ys) e ∙ ap (λ t. step.shown (waits_of m t)) (take-append-drop i ys))
-
-pub shown_top : (m : Module) (ys : List CodeWait) (i : ℕ) (x : Wait) (out : List Shown) (new : Option (List Shown)) → i ≡ length ys → Some out ≡ step.shown (waits_of m (take i ys)) → new ≡ join (Some out) (join (Some (map User x.frame.extra)) (step.shown_tags x.frame x.line.tags)) → new ≡ step.shown (x ∷ waits_of m ys)
-shown_top m ys i x out new ei inv e =
-    e ∙ ap (λ o. join o (join (Some (map User x.frame.extra)) (step.shown_tags x.frame x.line.tags))) (inv ∙ ap (λ t. step.shown (waits_of m t)) (ap (λ k. take k ys) ei ∙ take-length ys))

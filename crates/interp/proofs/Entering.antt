@@ -13,7 +13,7 @@ use Rattle.ir_core.specs.Edits.{params_of, lines_of, first_number}
 use Rattle.ir_core.specs.Viewed.{line_of}
 use Rattle.ir_core.proofs.Counting.{all_in}
 use Rattle.ir_semantics.specs.Values.{Env, Slots, bind, no_values, unwritten}
-use Rattle.ir_semantics.specs.Machine.{Frame, Wait, World, Moment, On, Over, Stuck}
+use Rattle.ir_semantics.specs.Machine.{Frame, Wait, World, Moment, On, Stuck}
 use Rattle.ir_semantics.specs.Step.{must, enter, enter_target, begin, frame_at}
 use Rattle.ir_semantics.specs.Effect.{target_at, go_to, arg_values, need, Enter}
 use Rattle.interp.specs.State.{function_at, nobody, some_if, on_if, frame_of, waits_of, env_of, done}
@@ -67,17 +67,9 @@ entered m at b f ps ls e i ep el =
     ∙ (ap (λ t. Some (record { number = b; params = t; lines = lines_of b f.blocks })) (sym ep)
     ∙ ap (λ t. Some (record { number = b; params = ps; lines = t })) (sym el)))
 
-pub enter_none : (x : Frame) (b : ℕ) (vs : List DataValue) → find_block b x.func.blocks ≡ None → (s : List Wait) (w : World) → Over w Stuck ≡ enter x b vs s w
-enter_none x b vs h s w = ap (λ o. must w o Stuck (λ block. must w (bind block.params vs x.env) Stuck (λ e. On (record x { rest = block.lines; env = e }) s w))) (sym h)
-
 bound : (x : Frame) (ls : List Line) (v : Bool) (e : Env) (o : Option Env) → some_if v e ≡ o → (s : List Wait) (w : World) → on_if v (record x { rest = ls; env = e }) s w ≡ must w o Stuck (λ e'. On (record x { rest = ls; env = e' }) s w)
 bound x ls true e o h s w = ap (λ t. must w t Stuck (λ e'. On (record x { rest = ls; env = e' }) s w)) h
 bound x ls false e o h s w = ap (λ t. must w t Stuck (λ e'. On (record x { rest = ls; env = e' }) s w)) h
-
-pub enter_at : (x : Frame) (b : ℕ) (k : Block) (vs : List DataValue) (ok v : Bool) (e : Env) → ok ≡ v → find_block b x.func.blocks ≡ Some k → some_if ok e ≡ bind k.params vs x.env → (s : List Wait) (w : World) → on_if v (record x { rest = k.lines; env = e }) s w ≡ enter x b vs s w
-enter_at x b k vs ok v e okv h bs s w =
-    bound x k.lines v e (bind k.params vs x.env) (ap (λ t. some_if t e) (sym okv) ∙ bs) s w
-    ∙ ap (λ o. must w o Stuck (λ block. must w (bind block.params vs x.env) Stuck (λ e. On (record x { rest = block.lines; env = e }) s w))) (sym h)
 
 pub on_is : (b v : Bool) (x : Frame) (s : List Wait) (w : World) (m : Moment) → b ≡ v → on_if b x s w ≡ m → on_if v x s w ≡ m
 on_is b v x s w m e h = ap (λ c. on_if c x s w) (sym e) ∙ h
@@ -146,13 +138,6 @@ begin_first m at b f ps ls args extra sl ok v e is first ps_is ls_is sl_is okv b
 
 pub begin_past : (m : Module) (at : ℕ) (args : List DataValue) (extra : List ℕ) → length m ≤ at → None ≡ begin (function_at m at) args extra
 begin_past m at args extra h = ap (λ f. begin f args extra) (sym (at_past m at h))
-
-begin_none : (f : Function) (bs : List Block) (args : List DataValue) (extra : List ℕ) → None ≡ first_number bs → None ≡ frame_at f args extra bs
-begin_none f [] args extra h = refl
-begin_none f (k ∷ bs) args extra h = cc h
-
-pub begin_empty : (m : Module) (at : ℕ) (f : Function) (args : List DataValue) (extra : List ℕ) → slice_get m at ≡ Some f → None ≡ first_number f.blocks → None ≡ begin (function_at m at) args extra
-begin_empty m at f args extra is h = begin_none f f.blocks args extra h ∙ ap (λ g. begin g args extra) (sym (at_found m at f is))
 
 -- the same as code finds it
 pub begun : (m : Module) (at b : ℕ) (f : Function) (ps : List ℕ) (ls : List Line) (args : List DataValue) (extra : List ℕ) (ok v : Bool) (e : Env) (cells : Registers) → slice_get m at ≡ Some f → Some b ≡ first_number f.blocks → ps ≡ params_of b f.blocks → ls ≡ lines_of b f.blocks → ok ≡ v → env_of cells ≡ no_values → some_if ok e ≡ bind ps args (env_of cells) → some_if v (record { func = function_at m at; rest = ls; env = e; slots = unwritten; extra = extra }) ≡ begin (function_at m at) args extra

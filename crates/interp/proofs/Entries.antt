@@ -1,5 +1,5 @@
 -- Numbers that are values of a function's parameters are an entry call of it.
-use Rattle.std.proofs.Common.{◌≡◌, ◌^◌, ◌<◌, ℤ, pos, negsuc, List, [], ◌∷◌, Option, Some, None, Bool, true, false, if◌then◌else◌, refl, arith, subst}
+use Rattle.std.proofs.Common.{◌≡◌, ◌^◌, ◌<◌, ℤ, pos, negsuc, List, [], ◌∷◌, Some, None, Bool, true, false, if◌then◌else◌, refl, arith, subst}
 use Rattle.std.proofs.Math.Nat.{mod-lt}
 use Rattle.std.proofs.lemmas.Nat.{pow_pos}
 use Rattle.clk_num.specs.declared.width.Width.{Width}
@@ -9,9 +9,10 @@ use Rattle.clk_num.specs.Operations.{DataValue}
 use Rattle.ir_core.specs.declared.signatures.Ty.{Ty}
 use Rattle.ir_core.specs.Module.{Function}
 use Rattle.ir_core.specs.Lookup.{find_function, param_types, width_of}
-use Rattle.ir_semantics.specs.Values.{cons_some, value_for, values_for}
+use Rattle.ir_core.proofs.Gets.{some_same}
+use Rattle.ir_semantics.specs.Values.{value_for, values_for}
 use Rattle.ir_semantics.specs.Runs.{HasType, HaveTypes}
-use Rattle.ir_semantics.proofs.SafetyTypes.{some_same, then_some}
+use Rattle.ir_semantics.proofs.SafetyTypes.{then_some, both_some}
 use Rattle.interp.specs.Entries.{NumbersEnter}
 
 wrapped_below : (w : Width) (z : ℤ) → wrapped (bits_of w) z < 2 ^ bits_of w
@@ -25,11 +26,6 @@ has_type t z x h = go (fits (bits_of (width_of t)) z) h
     go : (c : Bool) → (if c then Some (record { width = width_of t; value = wrapped (bits_of (width_of t)) z }) else None) ≡ Some x → HasType t x
     go true q = subst (HasType t) (some_same q) (refl, wrapped_below (width_of t) z)
     go false q = cc
-
-both_some : {A : Type 0} (o : Option A) (p : Option (List A)) (ys : List A) → cons_some o p ≡ Some ys → (a : A) × (as' : List A) × (o ≡ Some a) × (p ≡ Some as') × (a ∷ as' ≡ ys)
-both_some None p ys h = cc
-both_some (Some a) None ys h = cc
-both_some (Some a) (Some as') ys h = (a, as', refl, refl, some_same h)
 
 have_types : (ts : List Ty) (zs : List ℤ) (xs : List DataValue) → values_for ts zs ≡ Some xs → HaveTypes ts xs
 have_types [] [] xs h = subst (HaveTypes []) (some_same h) tt

@@ -14,7 +14,7 @@ use Rattle.ir_core.specs.declared.instructions.Access.{Access}
 use Rattle.ir_core.specs.declared.instructions.Access.TheVariants.{Uload, Sload}
 use Rattle.ir_core.specs.declared.instructions.Flags.{Flags}
 use Rattle.ir_core.specs.declared.instructions.InstData.{InstData}
-use Rattle.ir_core.specs.Module.{Line, Load, Module}
+use Rattle.ir_core.specs.Module.{Load, Module}
 use Rattle.ir_core.specs.Lookup.{width_of}
 use Rattle.ir_semantics.specs.TypeRules.{is_narrow}
 use Rattle.ir_semantics.specs.Values.{number_of, by_endian, memory_read, address_at, bytes_read, loaded}
@@ -23,7 +23,6 @@ use Rattle.ir_semantics.specs.Effect.{Go, need, evaluated}
 use Rattle.clk_num.specs.declared.op.TrapCode.TheVariants.{HeapOob}
 use Rattle.byte_store.specs.Bytes.{number_by}
 use Rattle.byte_store.specs.Cells.{bytes_at}
-use Rattle.interp.specs.Lines.{line_fits, lines_fit}
 use Rattle.interp.specs.State.{env_of, done, simply}
 use Rattle.interp.specs.declared.state.Frame.{Frame}
 use Rattle.interp.specs.declared.state.Wait.{Wait}
@@ -34,12 +33,6 @@ both false b h = absurd (cc h)
 
 is_true : (b : Bool) → IsTrue b → b ≡ true
 is_true b h = h
-
-pub first_fits : (l : Line) (ls : List Line) → IsTrue (lines_fit (l ∷ ls)) → IsTrue (line_fits l)
-first_fits l ls h = (both (line_fits l) (lines_fit ls) h).0
-
-pub rest_fits : (l : Line) (ls : List Line) → IsTrue (lines_fit (l ∷ ls)) → IsTrue (lines_fit ls)
-rest_fits l ls h = (both (line_fits l) (lines_fit ls) h).1
 
 -- ---- narrow loads
 

@@ -1,29 +1,15 @@
 -- Numbers as values of types, and what a host writes.
-use Rattle.std.proofs.Common.{◌≡◌, ◌≢◌, ℕ, suc, ◌+◌, ◌<◌, List, [], ◌∷◌, ◌++◌, length, drop, Option, Some, None, Bool, true, false, if◌then◌else◌, get_or, refl, arith, ap, ◌∙◌, sym, drop-cons, add-one, append-nil, ℤ}
-use Rattle.std.specs.Prelude.{is_some, IfSome}
+use Rattle.std.proofs.Common.{◌≡◌, ◌≢◌, ℕ, suc, ◌+◌, ◌<◌, List, [], ◌∷◌, ◌++◌, length, drop, Option, Some, None, get_or, refl, arith, ap, ◌∙◌, sym, drop-cons, add-one, append-nil, ℤ}
 use Rattle.std.specs.Option.{option_map}
 use Rattle.std.proofs.Math.Seq.{drop-length}
 use Rattle.clk_num.specs.declared.bits.Bits.{Bits}
-use Rattle.clk_num.specs.declared.width.Width.{Width}
-use Rattle.clk_num.specs.Width.{bits_of}
-use Rattle.clk_num.specs.Numbers.{fits, wrapped}
 use Rattle.clk_num.specs.Operations.{DataValue}
 use Rattle.clk_num.specs.Views.{data_of, data_of_all}
-use Rattle.ir_core.specs.declared.signatures.Ty.{Ty}
 use Rattle.ir_core.specs.declared.signatures.Param.{Param}
 use Rattle.ir_core.specs.declared.declarations.SlotDecl.{SlotDecl}
-use Rattle.ir_core.specs.Lookup.{param_types, width_of, and_then}
+use Rattle.ir_core.specs.Lookup.{param_types, and_then}
 use Rattle.ir_semantics.specs.Values.{cons_some, join, value_for, values_for, place_in}
 use Rattle.interp.proofs.Reading.{next_some, next_none, more}
-
-fit_in : (w : Width) (z : ℤ) (o : Option Bits) (b : Bool) → is_some o ≡ b → IfSome o (λ x. x.width ≡ w) → IfSome o (λ x. x.value ≡ wrapped (bits_of w) z) → option_map data_of o ≡ (if b then Some (record { width = w; value = wrapped (bits_of w) z }) else None)
-fit_in w z None true h ew ev = cc h
-fit_in w z None false h ew ev = refl
-fit_in w z (Some x) true h ew ev = ap (λ t. Some (record { width = t; value = x.value })) ew ∙ ap (λ n. Some (record { width = w; value = n })) ev
-fit_in w z (Some x) false h ew ev = cc h
-
-pub fit_is : (t : Ty) (w : Width) (z : ℤ) (o : Option Bits) → w ≡ width_of t → is_some o ≡ fits (bits_of w) z → IfSome o (λ x. x.width ≡ w) → IfSome o (λ x. x.value ≡ wrapped (bits_of w) z) → option_map data_of o ≡ value_for t z
-fit_is t w z o e h ew ev = fit_in w z o (fits (bits_of w) z) h ew ev ∙ ap (λ v. if fits (bits_of v) z then Some (record { width = v; value = wrapped (bits_of v) z }) else None) e
 
 cons_none : {A : Type 0} (o : Option A) → cons_some o None ≡ None
 cons_none None = refl
@@ -48,16 +34,8 @@ values_stop ps zs i dp dz out h q e =
 pub values_end : (ps : List Param) (zs : List ℤ) (i : ℕ) (out : List DataValue) → i ≡ length ps → length ps ≡ length zs → Some out ≡ join (Some out) (values_for (param_types (drop i ps)) (drop i zs))
 values_end ps zs i out e q = sym (rw (e, drop-length ps, q, drop-length zs) (ap Some (append-nil out)))
 
-pub values_start : (o : Option (List DataValue)) → join (Some []) o ≡ o
-values_start None = refl
-values_start (Some vs) = refl
-
 -- ---- places in slots
 
 pub no_place : (o : Option SlotDecl) (z : ℤ) (n : ℕ) → option_map (λ (d : SlotDecl). d.size) o ≡ None → None ≡ and_then o (λ d. place_in d.size z n)
 no_place None z n h = refl
 no_place (Some d) z n h = cc h
-
-pub the_place : (o : Option SlotDecl) (z : ℤ) (n s : ℕ) → option_map (λ (d : SlotDecl). d.size) o ≡ Some s → place_in s z n ≡ and_then o (λ d. place_in d.size z n)
-the_place None z n s h = cc h
-the_place (Some d) z n s h = let e : d.size ≡ s = cc h in ap (λ k. place_in k z n) (sym e)

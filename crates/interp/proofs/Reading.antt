@@ -19,19 +19,8 @@ pub more : (out : List Bits) (x : Bits) → data_of_all (out ++ x ∷ []) ≡ da
 more [] x = refl
 more (y ∷ ys) x = ap (λ t. data_of y ∷ t) (more ys x)
 
-pub all_step : {A : Type 0} (get : A → Option DataValue) (as' : List A) (i : ℕ) (d : A) (out : List Bits) (x : Bits) → i < length as' → Some (data_of x) ≡ get (get_or as' i d) → join (Some (data_of_all (out ++ x ∷ []))) (all_of get (drop (i + 1) as')) ≡ join (Some (data_of_all out)) (all_of get (drop i as'))
-all_step get as' i d out x h e =
-    rw (drop-cons as' i d h, ← e, add-one i, more out x) (sym (next_some (data_of_all out) (data_of x) (all_of get (drop (suc i) as'))))
-
-pub all_stop : {A : Type 0} (get : A → Option DataValue) (as' : List A) (i : ℕ) (d : A) (out : List DataValue) → i < length as' → None ≡ get (get_or as' i d) → join (Some out) (all_of get (drop i as')) ≡ None
-all_stop get as' i d out h e = rw (drop-cons as' i d h, ← e) (next_none out (all_of get (drop (suc i) as')))
-
 pub all_end : {A : Type 0} (get : A → Option DataValue) (as' : List A) (i : ℕ) (out : List DataValue) → i ≡ length as' → join (Some out) (all_of get (drop i as')) ≡ Some out
 all_end get as' i out e = rw (e, drop-length as') (ap Some (append-nil out))
-
-pub all_start : {B : Type 0} (o : Option (List B)) → join (Some []) o ≡ o
-all_start None = refl
-all_start (Some ys) = refl
 
 pub bind_apart : (ns : List ℕ) (xs : List Bits) (e : Env) → length ns ≢ length xs → bind ns (data_of_all xs) e ≡ None
 bind_apart [] [] e h = absurd (h refl)
@@ -41,9 +30,6 @@ bind_apart (n ∷ ns) (x ∷ xs) e h = bind_apart ns xs (put e n (data_of x)) (�
 
 pub bind_step : (ns : List ℕ) (xs : List Bits) (i dn : ℕ) (d : Bits) (e : Env) → i < length ns → length ns ≡ length xs → bind (drop (i + 1) ns) (data_of_all (drop (i + 1) xs)) (put e (get_or ns i dn) (data_of (get_or xs i d))) ≡ bind (drop i ns) (data_of_all (drop i xs)) e
 bind_step ns xs i dn d e h q = let k : i < length xs = omega arith in rw (drop-cons ns i dn h, drop-cons xs i d k, add-one i) refl
-
-pub bind_end : (ns : List ℕ) (xs : List Bits) (i : ℕ) (e : Env) → i ≡ length ns → length ns ≡ length xs → bind (drop i ns) (data_of_all (drop i xs)) e ≡ Some e
-bind_end ns xs i e p q = rw (p, drop-length ns, q, drop-length xs) refl
 
 -- the same as code finds it
 pub bind_next : (ns : List ℕ) (xs : List Bits) (i v dn : ℕ) (x d : Bits) (e : Env) → i < length ns → length ns ≡ length xs → v ≡ get_or ns i dn → x ≡ get_or xs i d → bind (drop (i + 1) ns) (data_of_all (drop (i + 1) xs)) (put e v (data_of x)) ≡ bind (drop i ns) (data_of_all (drop i xs)) e

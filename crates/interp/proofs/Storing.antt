@@ -1,5 +1,5 @@
 -- Writes to slots and to memory.
-use Rattle.std.proofs.Common.{◌≡◌, ℕ, suc, ◌+◌, ◌<◌, ◌≤◌, ℤ, List, [], ◌∷◌, ◌++◌, length, take, drop, set, Some, None, Bool, true, false, nat_lt, ◌&&◌, get_or, drop-cons, add-one, refl, arith, ap, ◌∙◌, sym}
+use Rattle.std.proofs.Common.{◌≡◌, ℕ, suc, ◌+◌, ◌<◌, ◌≤◌, ℤ, List, [], ◌∷◌, ◌++◌, length, take, drop, set, Some, None, true, false, nat_lt, ◌&&◌, get_or, drop-cons, add-one, refl, arith, ap, ◌∙◌, sym}
 use Rattle.std.specs.Prelude.{Result, Ok, Err, OnOk, OnErr}
 use Rattle.clk_num.specs.Operations.{DataValue}
 use Rattle.ir_core.specs.declared.instructions.InstData.{InstData}
@@ -12,6 +12,7 @@ use Rattle.byte_store.proofs.Bytes.{write_in, bytes_length}
 use Rattle.std.proofs.lemmas.List.{take-set, drop-set, take-append-drop}
 use Rattle.std.proofs.Math.Seq.{drop-length}
 use Rattle.std.proofs.Math.Nat.{mod-eq_of_lt}
+use Rattle.std.proofs.lemmas.Bool.{and_parts}
 use Rattle.ir_semantics.specs.Step.{writes_fit, written}
 use Rattle.interp.specs.State.{function_at, env_of, done, simply}
 use Rattle.interp.specs.declared.state.Frame.{Frame}
@@ -43,15 +44,11 @@ wrote (Err u) m m' a b h k lt small =
     let e : None ≡ Some (take a m ++ (bytes_of 1 b ++ drop (a + 1) m)) = k ∙ sym (write_in m a 1 (bytes_of 1 b) (bytes_length 1 b) le) in
     absurd (cc e)
 
-both : (a b : Bool) → (a && b) ≡ true → (a ≡ true) × (b ≡ true)
-both true b h = (refl, h)
-both false b h = absurd (cc h)
-
 -- the writes from a place on lie in the memory, and one is made
 pub inside_next : (ws : List (ℕ × ℕ)) (i n : ℕ) (d : ℕ × ℕ) → i < length ws → writes_fit (drop i ws) n ≡ true → (nat_lt (get_or ws i d).0 n ≡ true) × (writes_fit (drop (i + 1) ws) n ≡ true)
 inside_next ws i n d h e =
     let f : writes_fit (get_or ws i d ∷ drop (suc i) ws) n ≡ true = ap (λ t. writes_fit t n) (sym (drop-cons ws i d h)) ∙ e in
-    let p : (nat_lt (get_or ws i d).0 n ≡ true) × (writes_fit (drop (suc i) ws) n ≡ true) = both (nat_lt (get_or ws i d).0 n) (writes_fit (drop (suc i) ws) n) f in
+    let p : (nat_lt (get_or ws i d).0 n ≡ true) × (writes_fit (drop (suc i) ws) n ≡ true) = and_parts (nat_lt (get_or ws i d).0 n) (writes_fit (drop (suc i) ws) n) f in
     (p.0, ap (λ k. writes_fit (drop k ws) n) (add-one i) ∙ p.1)
 
 written_cons : (a : ℕ × ℕ) (as' : List (ℕ × ℕ)) (m : List ℕ) → written (a ∷ as') m ≡ written as' (set m a.0 a.1)

@@ -1,5 +1,5 @@
 -- What calls find by an address.
-use Rattle.std.proofs.Common.{◌≡◌, ℕ, zero, suc, ◌+◌, ◌-◌, ◌<◌, ◌≤◌, List, [], ◌∷◌, ◌++◌, Option, Some, None, Bool, true, false, refl, sym, ap, ◌∙◌, arith, length, get_or, slice_get, map, take, if◌then◌else◌, ◌&&◌, add-one}
+use Rattle.std.proofs.Common.{◌≡◌, ℕ, zero, suc, ◌+◌, ◌-◌, ◌<◌, ◌≤◌, List, [], ◌∷◌, ◌++◌, Option, Some, None, Bool, refl, sym, ap, ◌∙◌, arith, length, get_or, slice_get, map, take, if◌then◌else◌, add-one}
 use Rattle.std.specs.Prelude.{MatchOption}
 use Rattle.std.proofs.lemmas.List.{length-map, map-append, take_more}
 use Rattle.std.proofs.lemmas.Option.{slice_get_past, slice_get-get_or}
@@ -9,12 +9,11 @@ use Rattle.ir_core.specs.declared.signatures.Sig.{Sig}
 use Rattle.ir_core.specs.Module.{Function, Module}
 use Rattle.ir_core.specs.Lookup.{and_then, find_function}
 use Rattle.ir_core.specs.Named.{place_of}
-use Rattle.ir_core.specs.declared.signatures.Param.{Param}
-use Rattle.ir_core.specs.Signatures.{same_param, same_params, same_sig}
+use Rattle.ir_core.specs.Signatures.{same_sig}
 use Rattle.ir_core.proofs.Indexing.{place_found}
 use Rattle.ir_semantics.specs.Names.{names, address_of, name_at}
 use Rattle.ir_semantics.specs.Effect.{ByAddress}
-use Rattle.ir_semantics.specs.Step.{Found, Inside, Outside, Nowhere, Missing, or_missing, by_address, at_name, found}
+use Rattle.ir_semantics.specs.Step.{Inside, Outside, Nowhere, or_missing, by_address, at_name, found}
 use Rattle.func_addrs.specs.declared.mentions.Mention.{Mention}
 use Rattle.func_addrs.specs.Mentions.{names_of}
 use Rattle.func_addrs.proofs.Mentioning.{names_push}
@@ -103,20 +102,7 @@ pub sig_some : (m : Module) (at s n : ℕ) (f : Function) (ss : List Sig) (sig d
 sig_some m at s n f ss sig d e es en h eg =
     sym (ap (λ (g : Function). slice_get g.sigs s) (at_found m at f e) ∙ (ap (λ xs. slice_get xs s) (sym es) ∙ (ap (slice_get ss) (sym en) ∙ (slice_get-get_or ss n d h ∙ ap Some (sym eg)))))
 
-pub params_apart : (as' bs : List Param) → (length as' ≡ length bs → ⊥) → false ≡ same_params as' bs
-params_apart [] [] ne = absurd (ne refl)
-params_apart [] (b ∷ bs) ne = refl
-params_apart (a ∷ as') [] ne = refl
-params_apart (a ∷ as') (b ∷ bs) ne = by (same_param a b) (params_apart as' bs (λ e. ne (let x : length as' ≡ length bs = e in omega arith)))
-  where
-    by : (z : Bool) → false ≡ same_params as' bs → false ≡ (z && same_params as' bs)
-    by true h = h
-    by false h = refl
-
 -- ---- names
-
-names_length : (m : Module) (ms : List Mention) → names_of ms ≡ names m → length ms ≡ length (names m)
-names_length m ms e = sym (length-map ms (λ (x : Mention). x.name.now)) ∙ ap length e
 
 name_there : (ms : List Mention) (ns : List FuncName) (k : ℕ) (x d : Mention) → names_of ms ≡ ns → k < length ms → x ≡ get_or ms k d → slice_get ns k ≡ Some x.name.now
 name_there ms ns k x d e h ex =
@@ -169,21 +155,9 @@ inside_there m (y ∷ ms) ps k o p at e ep h eq es =
     let x = get_or (y ∷ ms) k y in
     place_within m x.name.now at (sym (place_there m (names m) ps k x.name.now o ep (name_there (y ∷ ms) (names m) k x y e h refl)) ∙ (sym eq ∙ es))
 
-pub places_length : (m : Module) (ms : List Mention) (ps : List (Option ℕ)) → names_of ms ≡ names m → ps ≡ map (λ (y : FuncName). place_of y m) (names m) → length ps ≡ length ms
-places_length m ms ps e ep = ap length ep ∙ (length-map (names m) (λ (y : FuncName). place_of y m) ∙ sym (names_length m ms e))
-
 -- ---- the whole
-
-pub found_missing : (m : Module) (f : Function) (s a : ℕ) → None ≡ slice_get f.sigs s → Missing ≡ found m f (ByAddress s a)
-found_missing m f s a e = ap (λ o. or_missing o (λ sig. at_name m (name_at (names m) a) sig)) e
 
 pub found_nowhere : (m : Module) (f : Function) (s a : ℕ) (ns : List FuncName) (sig : Sig) → ns ≡ names m → Some sig ≡ slice_get f.sigs s → name_at ns a ≡ None → Nowhere ≡ found m f (ByAddress s a)
 found_nowhere m f s a ns sig en e h =
     sym (ap (λ o. at_name m o sig) (ap (λ xs. name_at xs a) (sym en) ∙ h))
     ∙ ap (λ o. or_missing o (λ sig. at_name m (name_at (names m) a) sig)) e
-
-pub found_name : (m : Module) (f : Function) (s a k : ℕ) (ns : List FuncName) (sig : Sig) (t : Found) → ns ≡ names m → Some sig ≡ slice_get f.sigs s → name_at ns a ≡ slice_get ns k → t ≡ at_name m (slice_get (names m) k) sig → t ≡ found m f (ByAddress s a)
-found_name m f s a k ns sig t en e h et =
-    et
-    ∙ (ap (λ o. at_name m o sig) (ap (λ xs. slice_get xs k) (sym en) ∙ (sym h ∙ ap (λ xs. name_at xs a) en))
-    ∙ ap (λ o. or_missing o (λ sig. at_name m (name_at (names m) a) sig)) e)

@@ -5,17 +5,15 @@ use Rattle.clk_num.specs.declared.bits.Bits.{Bits}
 use Rattle.clk_num.specs.Views.{data_of_all}
 use Rattle.ir_core.specs.declared.names.FuncName.{FuncName}
 use Rattle.ir_core.specs.declared.signatures.Param.{Param}
-use Rattle.ir_core.specs.Module.{Line, Function, Module}
+use Rattle.ir_core.specs.Module.{Function, Module}
 use Rattle.ir_core.specs.Lookup.{and_then, find_function, param_types}
-use Rattle.ir_core.specs.Viewed.{line_of}
 use Rattle.ir_core.specs.WellFormed.{IsModule}
 use Rattle.ir_semantics.specs.Accepted.{Accepted}
 use Rattle.ir_semantics.specs.Values.{Memory, values_for}
 use Rattle.ir_semantics.specs.Machine.{Event, Frame, Wait, World, End, Going, Stuck, Moment, On, Over}
-use Rattle.ir_semantics.specs.Step.{must, begin, step, step_at}
+use Rattle.ir_semantics.specs.Step.{must, begin, step}
 use Rattle.ir_semantics.specs.Runs.{Outcome, run, first, shows, outcome}
 use Rattle.ir_semantics.proofs.SafetyRuns.{accepted_never_sticks}
-use Rattle.interp.specs.declared.state.Frame.{Frame as CodeFrame}
 use Rattle.interp.specs.declared.state.Stop.{Stop}
 use Rattle.interp.specs.declared.state.World.{World as CodeWorld}
 use Rattle.interp.specs.declared.outcome.Outcome.{Outcome as CodeOutcome}
@@ -25,18 +23,9 @@ use Rattle.host_script.specs.declared.script.Script.{Script}
 use Rattle.host_script.specs.Script.{reply_of}
 use Rattle.interp_run.specs.Answers.{first_world}
 use Rattle.interp.specs.Entries.{entry_values}
-use Rattle.interp.specs.State.{found_at, frame_of, stop_of, world_of}
+use Rattle.interp.specs.State.{found_at, stop_of, world_of}
 use Rattle.interp.proofs.Entering.{at_found}
 use Rattle.interp.proofs.Entries.{numbers_enter}
-
--- ---- one step
-
--- no instruction is left
-pub step_none : (m : Module) (x : CodeFrame) (s : List Wait) (w : World) → x.rest.now ≡ [] → Over w Stuck ≡ step m (frame_of m x) s w
-step_none m x s w e = ap (λ ls. go (map line_of ls)) (sym e)
-  where
-    go : List Line → Moment
-    go ls = step_at m (frame_of m x) ls s w
 
 -- ---- so many steps
 
@@ -58,9 +47,6 @@ run_stops m n k x s w v e total h q t = sym (run_over m (n - (k + 1)) v e) ∙ r
 
 pub run_ends : (m : Module) (n k : ℕ) (x : Frame) (s : List Wait) (w : World) (total : Outcome) → k ≡ n → run m (n - k) (On x s w) ≡ total → shows w Going ≡ total
 run_ends m n k x s w total e t = let z : n - k ≡ 0 = omega arith in sym (ap (λ i. run m i (On x s w)) z) ∙ t
-
-pub run_begins : (m : Module) (n : ℕ) (x : Frame) (s : List Wait) (w : World) → s ≡ [] → run m (n - 0) (On x s w) ≡ run m n (On x [] w)
-run_begins m n x s w e = let z : n - 0 ≡ n = omega arith in ap (λ i. run m i (On x s w)) z ∙ ap (λ t. run m n (On x t w)) e
 
 -- ---- the first frame
 

@@ -3,20 +3,19 @@ use Rattle.std.proofs.Common.{◌≡◌, inl, inr, ℕ, List, [], ◌∷◌, ◌
 use Rattle.std.specs.Prelude.{if◌then◌else◌}
 use Rattle.ir_core.specs.Module.{Function, Module}
 use Rattle.ir_core.specs.Lists.{In, Each}
+use Rattle.ir_core.proofs.Gets.{some_same, get_in}
+use Rattle.ir_core.proofs.Members.{each_in}
 use Rattle.ir_semantics.specs.Accepted.{Rule, not_available}
 use Rattle.ir_check.specs.Faults.{Check, tried, first_rules, last_rules, checks, FirstBad, this, later, Passed}
 use Rattle.ir_check.specs.Twins.{passes, first_failing, always_available}
 use Rattle.ir_check.specs.Laws as law
-use Rattle.ir_check.proofs.Firsts.{get_in, each_at, checks_of, tried_by, accepted_of, of_accepted}
+use Rattle.ir_check.proofs.Firsts.{checks_of, tried_by, accepted_of, of_accepted}
 use Rattle.ir_check.proofs.Tests.{Twin, kept_is}
 
 pub rules_are_tests : law.RulesAreTests
 rules_are_tests available m f place r h =
     let t = kept_is available m f place r (λ q b i v. record { yes = (h q b i v).0; back = (h q b i v).1 }) in
     (t.yes, t.back)
-
-some_same : {A : Type 0} {a b : A} → Some a ≡ Some b → a ≡ b
-some_same q = cc
 
 finds : (t : Check → Bool) (Good : Check → Type 0) (xs : List Check) → ((c : Check) → In c xs → Twin (t c) (Good c)) → (c : Check) → first_failing t xs ≡ Some c → FirstBad Good xs c
 finds t Good [] h c q = cc
@@ -60,4 +59,4 @@ early m c q =
     (c.func, longer (Passed m) (tried first_rules 0 m) (tried last_rules 0 m) c (finds (passes always_available m) (Passed m) (tried first_rules 0 m) twin c q))
   where
     twin : (d : Check) → In d (tried first_rules 0 m) → Twin (passes always_available m d) (Passed m d)
-    twin d i = kept_is always_available m d.func d.place d.rule (λ e. absurd (each_at (λ (r : Rule). r ≡ not_available → ⊥) first_rules not_last d.rule (tried_by first_rules 0 m d i) e))
+    twin d i = kept_is always_available m d.func d.place d.rule (λ e. absurd (each_in (λ (r : Rule). r ≡ not_available → ⊥) first_rules not_last d.rule (tried_by first_rules 0 m d i) e))

@@ -1,5 +1,5 @@
 -- The first fault: it is one, it is a fault, and there is none exactly where the module is accepted.
-use Rattle.std.proofs.Common.{◌≡◌, ◌⊎◌, inl, inr, ℕ, zero, suc, ◌+◌, List, [], ◌∷◌, ◌++◌, map, Some, refl, sym, ap, ◌∙◌, subst, arith}
+use Rattle.std.proofs.Common.{◌≡◌, ◌⊎◌, inl, inr, ℕ, zero, suc, ◌+◌, List, [], ◌∷◌, map, Some, refl, sym, ap, ◌∙◌, subst, arith}
 use Rattle.std.specs.Prelude.{slice_get, nat_eq, if◌then◌else◌, Bool, true, false}
 use Rattle.ir_core.specs.declared.declarations.Callee.{Callee}
 use Rattle.ir_core.specs.declared.places.Item.{Item}
@@ -9,43 +9,10 @@ use Rattle.ir_core.specs.Lookup.{find_block}
 use Rattle.ir_core.specs.Lists.{In, Each}
 use Rattle.ir_semantics.specs.Accepted.{Rule, no_terminator, entry_target, count_mismatch, type_mismatch, convention, signature_mismatch, slot_range, tag_place, not_available, Holds, RulesHold, Accepted}
 use Rattle.ir_core.proofs.Equal.{number_equal}
-use Rattle.used_values.proofs.Using.{each_of}
+use Rattle.ir_core.proofs.Gets.{some_same, get_in}
+use Rattle.ir_core.proofs.Members.{in_left, in_right, each_by, each_in, in_cases, in_map, map_in}
 use Rattle.ir_check.specs.Faults.{callee_items, line_items, block_items, items, Check, check, tried_at, tried, first_rules, last_rules, checks, FirstBad, this, later, Passed}
 use Rattle.ir_check.specs.Laws.{AtMostOne, FaultIsReal, AcceptedHasNone, AllPassed, AcceptedOrFault}
-
--- ---- lists
-
-some_same : {A : Type 0} {a b : A} → Some a ≡ Some b → a ≡ b
-some_same h = cc
-
-front : {A : Type 0} (x : A) (xs ys : List A) → In x xs → In x (xs ++ ys)
-front x [] ys h = elim h [ ]
-front x (a ∷ xs) ys (inl q) = inl q
-front x (a ∷ xs) ys (inr i) = inr (front x xs ys i)
-
-back : {A : Type 0} (x : A) (xs ys : List A) → In x ys → In x (xs ++ ys)
-back x [] ys h = h
-back x (a ∷ xs) ys h = inr (back x xs ys h)
-
-pub sides : {A : Type 0} (x : A) (xs ys : List A) → In x (xs ++ ys) → In x xs ⊎ In x ys
-sides x [] ys h = inr h
-sides x (a ∷ xs) ys (inl q) = inl (inl q)
-sides x (a ∷ xs) ys (inr i) = elim (sides x xs ys i) [ inl j ↦ inl (inr j) | inr j ↦ inr j ]
-
-pub mapped : {A B : Type 0} (f : A → B) (x : A) (xs : List A) → In x xs → In (f x) (map f xs)
-mapped f x [] h = elim h [ ]
-mapped f x (a ∷ xs) (inl q) = inl (ap f q)
-mapped f x (a ∷ xs) (inr i) = inr (mapped f x xs i)
-
-from_map : {A B : Type 0} (f : A → B) (y : B) (xs : List A) → In y (map f xs) → (x : A) × In x xs × (y ≡ f x)
-from_map f y [] h = elim h [ ]
-from_map f y (a ∷ xs) (inl q) = (a, inl refl, q)
-from_map f y (a ∷ xs) (inr i) = let t = from_map f y xs i in (t.0, inr t.1, t.2)
-
-pub each_at : {A : Type 0} (P : A → Type 0) (xs : List A) → Each P xs → (x : A) → In x xs → P x
-each_at P [] e x h = elim h [ ]
-each_at P (a ∷ xs) e x (inl q) = subst P (sym q) e.0
-each_at P (a ∷ xs) e x (inr i) = each_at P xs e.1 x i
 
 -- ---- the first that is not good
 
@@ -81,13 +48,13 @@ zero_and n = omega arith
 
 tried_at_has : (rules : List Rule) (n : ℕ) (f : Function) (place : Item) (rule : Rule) (places : List Item) → In place places → In rule rules → In (check n f place rule) (tried_at rules n f places)
 tried_at_has rules n f place rule [] i r = elim i [ ]
-tried_at_has rules n f place rule (p ∷ ps) (inl q) r = front (check n f place rule) (map (check n f p) rules) (tried_at rules n f ps) (subst (λ z. In (check n f place rule) (map (check n f z) rules)) q (mapped (check n f place) rule rules r))
-tried_at_has rules n f place rule (p ∷ ps) (inr i) r = back (check n f place rule) (map (check n f p) rules) (tried_at rules n f ps) (tried_at_has rules n f place rule ps i r)
+tried_at_has rules n f place rule (p ∷ ps) (inl q) r = in_left (check n f place rule) (map (check n f p) rules) (tried_at rules n f ps) (subst (λ z. In (check n f place rule) (map (check n f z) rules)) q (in_map (check n f place) rule rules r))
+tried_at_has rules n f place rule (p ∷ ps) (inr i) r = in_right (check n f place rule) (map (check n f p) rules) (tried_at rules n f ps) (tried_at_has rules n f place rule ps i r)
 
 tried_has : (rules : List Rule) (n : ℕ) (fs : List Function) (f : Function) (place : Item) (rule : Rule) → In f fs → In place (items f) → In rule rules → (k : ℕ) × In (check k f place rule) (tried rules n fs)
 tried_has rules n [] f place rule i p r = elim i [ ]
-tried_has rules n (g ∷ fs) f place rule (inl q) p r = (n, front (check n f place rule) (tried_at rules n g (items g)) (tried rules (suc n) fs) (subst (λ z. In (check n f place rule) (tried_at rules n z (items z))) q (tried_at_has rules n f place rule (items f) p r)))
-tried_has rules n (g ∷ fs) f place rule (inr i) p r = let t = tried_has rules (suc n) fs f place rule i p r in (t.0, back (check t.0 f place rule) (tried_at rules n g (items g)) (tried rules (suc n) fs) t.1)
+tried_has rules n (g ∷ fs) f place rule (inl q) p r = (n, in_left (check n f place rule) (tried_at rules n g (items g)) (tried rules (suc n) fs) (subst (λ z. In (check n f place rule) (tried_at rules n z (items z))) q (tried_at_has rules n f place rule (items f) p r)))
+tried_has rules n (g ∷ fs) f place rule (inr i) p r = let t = tried_has rules (suc n) fs f place rule i p r in (t.0, in_right (check t.0 f place rule) (tried_at rules n g (items g)) (tried rules (suc n) fs) t.1)
 
 -- each rule is tried
 first_or_last : (rule : Rule) → In rule first_rules ⊎ In rule last_rules
@@ -104,15 +71,15 @@ first_or_last not_available = inr (inl refl)
 checks_have : (m : Module) (f : Function) (place : Item) (rule : Rule) → In f m → In place (items f) → (k : ℕ) × In (check k f place rule) (checks m)
 checks_have m f place rule i p =
     elim (first_or_last rule) [
-      | inl r ↦ let t = tried_has first_rules 0 m f place rule i p r in (t.0, front (check t.0 f place rule) (tried first_rules 0 m) (tried last_rules 0 m) t.1)
-      | inr r ↦ let t = tried_has last_rules 0 m f place rule i p r in (t.0, back (check t.0 f place rule) (tried first_rules 0 m) (tried last_rules 0 m) t.1)
+      | inl r ↦ let t = tried_has first_rules 0 m f place rule i p r in (t.0, in_left (check t.0 f place rule) (tried first_rules 0 m) (tried last_rules 0 m) t.1)
+      | inr r ↦ let t = tried_has last_rules 0 m f place rule i p r in (t.0, in_right (check t.0 f place rule) (tried first_rules 0 m) (tried last_rules 0 m) t.1)
     ]
 
 pub tried_at_of : (rules : List Rule) (n : ℕ) (f : Function) (places : List Item) (c : Check) → In c (tried_at rules n f places) → (c.func ≡ f) × (c.number ≡ n) × In c.rule rules
 tried_at_of rules n f [] c i = elim i [ ]
 tried_at_of rules n f (p ∷ ps) c i =
-    elim (sides c (map (check n f p) rules) (tried_at rules n f ps) i) [
-      | inl j ↦ let t = from_map (check n f p) c rules j in (ap (λ (z : Check). z.func) t.2, ap (λ (z : Check). z.number) t.2, subst (λ z. In z rules) (sym (ap (λ (z : Check). z.rule) t.2)) t.1)
+    elim (in_cases c (map (check n f p) rules) (tried_at rules n f ps) i) [
+      | inl j ↦ let t = map_in (check n f p) c rules j in (ap (λ (z : Check). z.func) t.2, ap (λ (z : Check). z.number) t.2, subst (λ z. In z rules) (sym (ap (λ (z : Check). z.rule) t.2)) t.1)
       | inr j ↦ tried_at_of rules n f ps c j
     ]
 
@@ -120,7 +87,7 @@ tried_at_of rules n f (p ∷ ps) c i =
 tried_of : (rules : List Rule) (n : ℕ) (fs : List Function) (m : Module) → ((k : ℕ) (f : Function) → slice_get fs k ≡ Some f → slice_get m (k + n) ≡ Some f) → (c : Check) → In c (tried rules n fs) → slice_get m c.number ≡ Some c.func
 tried_of rules n [] m h c i = elim i [ ]
 tried_of rules n (g ∷ fs) m h c i =
-    elim (sides c (tried_at rules n g (items g)) (tried rules (suc n) fs) i) [
+    elim (in_cases c (tried_at rules n g (items g)) (tried rules (suc n) fs) i) [
       | inl j ↦ let p = tried_at_of rules n g (items g) c j in ap (slice_get m) (p.1 ∙ sym (zero_and n)) ∙ h 0 g refl ∙ ap Some (sym p.0)
       | inr j ↦ tried_of rules (suc n) fs m (λ k f q. ap (slice_get m) (moved k n) ∙ h (suc k) f q) c j
     ]
@@ -130,7 +97,7 @@ tried_of rules n (g ∷ fs) m h c i =
 
 pub checks_of : (m : Module) (c : Check) → In c (checks m) → slice_get m c.number ≡ Some c.func
 checks_of m c i =
-    elim (sides c (tried first_rules 0 m) (tried last_rules 0 m) i) [
+    elim (in_cases c (tried first_rules 0 m) (tried last_rules 0 m) i) [
       | inl j ↦ tried_of first_rules 0 m m (λ k f q. ap (slice_get m) (none k) ∙ q) c j
       | inr j ↦ tried_of last_rules 0 m m (λ k f q. ap (slice_get m) (none k) ∙ q) c j
     ]
@@ -138,18 +105,13 @@ checks_of m c i =
     none : (k : ℕ) → k + 0 ≡ k
     none k = omega arith
 
-pub get_in : {A : Type 0} (xs : List A) (k : ℕ) (a : A) → slice_get xs k ≡ Some a → In a xs
-get_in [] k a h = cc
-get_in (x ∷ xs) zero a h = inl (sym (some_same h))
-get_in (x ∷ xs) (suc k) a h = inr (get_in xs k a h)
-
 -- ---- the parts of a function
 
 -- by which rules
 pub tried_by : (rules : List Rule) (n : ℕ) (fs : List Function) (c : Check) → In c (tried rules n fs) → In c.rule rules
 tried_by rules n [] c i = elim i [ ]
 tried_by rules n (g ∷ fs) c i =
-    elim (sides c (tried_at rules n g (items g)) (tried rules (suc n) fs) i) [
+    elim (in_cases c (tried_at rules n g (items g)) (tried rules (suc n) fs) i) [
       | inl j ↦ (tried_at_of rules n g (items g) c j).2
       | inr j ↦ tried_by rules (suc n) fs c j
     ]
@@ -183,15 +145,15 @@ block_there n [] b h = cc
 block_there n (c ∷ bs) b h =
     elim (found n c bs b h) [
       | inl p ↦ inl (ap item.Block (sym p.0))
-      | inr k ↦ inr (back (item.Block n) (line_items c.number 0 c.lines) (block_items bs) (block_there n bs b k))
+      | inr k ↦ inr (in_right (item.Block n) (line_items c.number 0 c.lines) (block_items bs) (block_there n bs b k))
     ]
 
 inst_there : (n i : ℕ) (bs : List Block) (b : Block) (l : Line) → find_block n bs ≡ Some b → slice_get b.lines i ≡ Some l → In (item.Inst (record { block = n; index = i })) (block_items bs)
 inst_there n i [] b l h g = cc
 inst_there n i (c ∷ bs) b l h g =
     elim (found n c bs b h) [
-      | inl p ↦ inr (front (item.Inst (record { block = n; index = i })) (line_items c.number 0 c.lines) (block_items bs) (here p.0 (ap (λ (z : Block). slice_get z.lines i) p.1 ∙ g)))
-      | inr k ↦ inr (back (item.Inst (record { block = n; index = i })) (line_items c.number 0 c.lines) (block_items bs) (inst_there n i bs b l k g))
+      | inl p ↦ inr (in_left (item.Inst (record { block = n; index = i })) (line_items c.number 0 c.lines) (block_items bs) (here p.0 (ap (λ (z : Block). slice_get z.lines i) p.1 ∙ g)))
+      | inr k ↦ inr (in_right (item.Inst (record { block = n; index = i })) (line_items c.number 0 c.lines) (block_items bs) (inst_there n i bs b l k g))
     ]
   where
     none : (k : ℕ) → k + 0 ≡ k
@@ -210,16 +172,16 @@ rules_at m f callees passed (item.Block b) rule = λ c g. passed (item.Block b) 
 rules_at m f callees passed (item.Inst p) rule = λ c l h g. passed (item.Inst p) rule (inst_there p.block p.index f.blocks c l h g) c l h g
 
 pub accepted_of : (m : Module) → Each (Passed m) (checks m) → Accepted m
-accepted_of m e f i = rules_at m f callees (λ place rule p. passed place rule (back place (callee_items 0 f.callees) (block_items f.blocks) p))
+accepted_of m e f i = rules_at m f callees (λ place rule p. passed place rule (in_right place (callee_items 0 f.callees) (block_items f.blocks) p))
   where
     passed : (place : Item) (rule : Rule) → In place (items f) → Holds m f place rule
-    passed place rule p = let t = checks_have m f place rule i p in each_at (Passed m) (checks m) e (check t.0 f place rule) t.1
+    passed place rule p = let t = checks_have m f place rule i p in each_in (Passed m) (checks m) e (check t.0 f place rule) t.1
 
     none : (k : ℕ) → k + 0 ≡ k
     none k = omega arith
 
     callees : (k : ℕ) (rule : Rule) → Holds m f (item.Callee k) rule
-    callees k rule = λ c g. passed (item.Callee k) rule (front (item.Callee k) (callee_items 0 f.callees) (block_items f.blocks) (subst (λ z. In (item.Callee z) (callee_items 0 f.callees)) (none k) (callee_there f.callees 0 k c g))) c g
+    callees k rule = λ c g. passed (item.Callee k) rule (in_left (item.Callee k) (callee_items 0 f.callees) (block_items f.blocks) (subst (λ z. In (item.Callee z) (callee_items 0 f.callees)) (none k) (callee_there f.callees 0 k c g))) c g
 
 -- a function's own rules: in the empty module each callee declaration keeps its rule, since it names no function there
 pub own_rules : (f : Function) (n : ℕ) → Each (Passed []) (tried_at first_rules n f (block_items f.blocks)) → Each (Passed []) (tried_at last_rules n f (items f)) → RulesHold [] f
@@ -239,12 +201,12 @@ own_rules f n early late = rules_at [] f callees passed
     passed : (place : Item) (rule : Rule) → In place (block_items f.blocks) → Holds [] f place rule
     passed place rule p =
         elim (first_or_last rule) [
-          | inl r ↦ each_at (Passed []) (tried_at first_rules n f (block_items f.blocks)) early (check n f place rule) (tried_at_has first_rules n f place rule (block_items f.blocks) p r)
-          | inr r ↦ each_at (Passed []) (tried_at last_rules n f (items f)) late (check n f place rule) (tried_at_has last_rules n f place rule (items f) (back place (callee_items 0 f.callees) (block_items f.blocks) p) r)
+          | inl r ↦ each_in (Passed []) (tried_at first_rules n f (block_items f.blocks)) early (check n f place rule) (tried_at_has first_rules n f place rule (block_items f.blocks) p r)
+          | inr r ↦ each_in (Passed []) (tried_at last_rules n f (items f)) late (check n f place rule) (tried_at_has last_rules n f place rule (items f) (in_right place (callee_items 0 f.callees) (block_items f.blocks) p) r)
         ]
 
 pub of_accepted : (m : Module) → Accepted m → Each (Passed m) (checks m)
-of_accepted m ok = each_of (Passed m) (checks m) (λ c i. ok c.func (get_in m c.number c.func (checks_of m c i)) c.place c.rule)
+of_accepted m ok = each_by (Passed m) (checks m) (λ c i. ok c.func (get_in m c.number c.func (checks_of m c i)) c.place c.rule)
 
 pub all_passed : AllPassed
 all_passed m = (accepted_of m, of_accepted m)
@@ -259,7 +221,7 @@ fault_is_real m n place rule h = (h.0, checks_of m (check n h.0 place rule) (bad
 
 pub accepted_has_none : AcceptedHasNone
 accepted_has_none m n place rule ok h =
-    is_bad (Passed m) (checks m) (check n h.0 place rule) h.1 (each_at (Passed m) (checks m) (of_accepted m ok) (check n h.0 place rule) (bad_in (Passed m) (checks m) (check n h.0 place rule) h.1))
+    is_bad (Passed m) (checks m) (check n h.0 place rule) h.1 (each_in (Passed m) (checks m) (of_accepted m ok) (check n h.0 place rule) (bad_in (Passed m) (checks m) (check n h.0 place rule) h.1))
 
 pub accepted_or_fault : AcceptedOrFault
 accepted_or_fault m known =

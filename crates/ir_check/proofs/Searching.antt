@@ -16,14 +16,16 @@ use Rattle.ir_core.specs.Lists.{In, Each, Different, Below}
 use Rattle.ir_core.specs.Sound.{IsSound, CalleeInRange, BlockInRange, LineInRange, counts_of, instruction_count}
 use Rattle.ir_core.specs.Uses.{targets, values_used}
 use Rattle.ir_core.specs.Viewed.{line_of, instruction_of}
+use Rattle.ir_core.proofs.Gets.{some_same, next_left, get_in}
+use Rattle.ir_core.proofs.Members.{each_by, each_in}
+use Rattle.ir_core.proofs.ByNumber.{in_find}
 use Rattle.ir_semantics.specs.Available.{Available, terminates}
 use Rattle.ir_semantics.specs.Accepted.{Rule, no_terminator, entry_target, count_mismatch, type_mismatch, convention, signature_mismatch, slot_range, tag_place, not_available, Holds, UsesAvailable}
 use Rattle.ir_semantics.specs.Splice.{first_number}
-use Rattle.ir_semantics.proofs.SafetyPlaces.{each_in, get_in, block_in}
+use Rattle.ir_semantics.proofs.SafetyPlaces.{block_in}
 use Rattle.avail_flow.proofs.Blocks.{number_found, found_parts}
 use Rattle.avail_flow.proofs.Edging.{line_at}
-use Rattle.avail_flow.proofs.Listing.{left_at, left_past}
-use Rattle.used_values.proofs.Using.{each_of}
+use Rattle.avail_flow.proofs.Listing.{left_past}
 use Rattle.ir_check.specs.declared.faults.Fault.{Fault}
 use Rattle.ir_check.specs.declared.kinds.CheckKind.{CheckKind}
 use Rattle.ir_check.specs.declared.kinds.CheckKind.TheVariants as kind
@@ -32,9 +34,7 @@ use Rattle.ir_check.specs.Found.{Finds, FindsAny, block_at, block_parts}
 use Rattle.ir_check.specs.Kinds.{rule_of, rule_named, failing_rule, line_keeps}
 use Rattle.ir_check.specs.Twins.{kept, filled, empty, implies, is_first, kept_at_line, kept_at_block, kept_at_callee, always_available, ends_by, ends_rightly, if_some, leaves}
 use Rattle.ir_check.proofs.ByTests.{longer, not_last}
-use Rattle.ir_check.proofs.Firsts.{each_at}
 use Rattle.ir_check.proofs.Tests.{Twin, kept_is}
-use Rattle.ir_check.proofs.Walking.{in_find}
 
 -- ---- what is left
 
@@ -82,9 +82,6 @@ abbrev pub fault_at : ℕ → Item → Option CheckKind → Option Fault
 fault_at n place None = None
 fault_at n place (Some k) = Some (record { kind = k; func = n; item = place })
 
-some_same : {A : Type 0} {a b : A} → Some a ≡ Some b → a ≡ b
-some_same q = cc
-
 pub finds_rule : (m : Module) (f : Function) (n : ℕ) (place : Item) (t : Rule → Bool) (rules : List Rule) → ((r : Rule) → In r rules → Twin (t r) (Holds m f place r)) → (k : Option CheckKind) → rule_named k ≡ failing_rule t rules → Finds m f (map (check n f place) rules) (fault_at n place k)
 finds_rule m f n place t [] h None q = tt
 finds_rule m f n place t [] h (Some k) q = absurd cc
@@ -101,7 +98,7 @@ twin_by b d P q w = record { yes = λ h. w.yes (sym q ∙ h); back = λ p. q ∙
 
 -- a rule of the first is not availability
 early_is : (m : Module) (f : Function) (place : Item) (r : Rule) → In r first_rules → Twin (kept always_available m f place r) (Holds m f place r)
-early_is m f place r i = kept_is always_available m f place r (λ e. absurd (each_at (λ (s : Rule). s ≡ not_available → ⊥) first_rules not_last r i e))
+early_is m f place r i = kept_is always_available m f place r (λ e. absurd (each_in (λ (s : Rule). s ≡ not_available → ⊥) first_rules not_last r i e))
 
 -- ---- a line
 
@@ -165,7 +162,7 @@ module _ (f : Function) (b i : ℕ) (l : Line) (w : Stands f b i l) where
   line_same first k q size signature_mismatch j = refl
   line_same first k q size slot_range j = refl
   line_same first k q size tag_place j = refl
-  line_same first k q size not_available j = absurd (each_at (λ (s : Rule). s ≡ not_available → ⊥) first_rules not_last not_available j refl)
+  line_same first k q size not_available j = absurd (each_in (λ (s : Rule). s ≡ not_available → ⊥) first_rules not_last not_available j refl)
 
   -- what is found at a line
   pub line_finds : (m : Module) (n first k : ℕ) → first ≡ first_number f.blocks → k ≡ length (lines_of b f.blocks) → (o : Option CheckKind) → rule_named o ≡ failing_rule (line_keeps f first (nat_eq (i + 1) k) l) first_rules → Finds m f (map (check n f (item.Inst (record { block = b; index = i }))) first_rules) (fault_at n (item.Inst (record { block = b; index = i })) o)
@@ -188,7 +185,7 @@ module _ (f : Function) (b i : ℕ) (l : Line) (w : Stands f b i l) where
 -- the checks of what is left of a block's lines begin with those of the line
 pub lines_left : (rules : List Rule) (n : ℕ) (f : Function) (b : ℕ) (ls : List Line) (i : ℕ) (l : Line) → slice_get ls i ≡ Some l → tried_at rules n f (line_items b i (drop i ls)) ≡ map (check n f (item.Inst (record { block = b; index = i }))) rules ++ tried_at rules n f (line_items b (i + 1) (drop (i + 1) ls))
 lines_left rules n f b ls i l at =
-    ap (λ (z : List Line). tried_at rules n f (line_items b i z)) (left_at ls i l at)
+    ap (λ (z : List Line). tried_at rules n f (line_items b i z)) (next_left ls i l at)
     ∙ ap (λ (k : ℕ). map (check n f (item.Inst (record { block = b; index = i }))) rules ++ tried_at rules n f (line_items b k (drop (i + 1) ls))) (sym (add-one i))
 
 pub lines_past : (rules : List Rule) (n : ℕ) (f : Function) (b : ℕ) (ls : List Line) (i : ℕ) → length ls ≤ i → tried_at rules n f (line_items b i (drop i ls)) ≡ []
@@ -344,7 +341,7 @@ module _ (f : Function) (s : IsSound f) (rules : List Rule) (n : ℕ) where
   blocks_begin numbers q m = subst (λ (z : List ℕ). Rest m AllBlocks (BlocksFrom z)) (sym q) (subst (λ (z : List Item). Rest m AllBlocks (tried_at rules n f z)) (numbered f s) (whole_rest m AllBlocks))
 
   pub blocks_there : (numbers : List ℕ) → numbers ≡ block_numbers f.blocks → Each (λ k. In k (block_numbers f.blocks)) numbers
-  blocks_there numbers q = subst (λ (z : List ℕ). Each (λ k. In k (block_numbers f.blocks)) z) (sym q) (each_of (λ k. In k (block_numbers f.blocks)) (block_numbers f.blocks) (λ k i. i))
+  blocks_there numbers q = subst (λ (z : List ℕ). Each (λ k. In k (block_numbers f.blocks)) z) (sym q) (each_by (λ k. In k (block_numbers f.blocks)) (block_numbers f.blocks) (λ k i. i))
 
   pub blocks_done : (numbers : List ℕ) → numbers ≡ [] → ((m : Module) → Rest m AllBlocks (BlocksFrom numbers)) → (m : Module) → Each (Passed m) AllBlocks
   blocks_done numbers q left m = rest_none m AllBlocks (BlocksFrom numbers) (ap (λ (z : List ℕ). BlocksFrom z) q) (left m)
@@ -372,7 +369,7 @@ callee_finds m f n k c at o e =
 
 pub callees_left : (rules : List Rule) (n : ℕ) (f : Function) (cs : List Callee) (i : ℕ) (c : Callee) → slice_get cs i ≡ Some c → tried_at rules n f (callee_items i (drop i cs)) ≡ map (check n f (item.Callee i)) rules ++ tried_at rules n f (callee_items (i + 1) (drop (i + 1) cs))
 callees_left rules n f cs i c at =
-    ap (λ (z : List Callee). tried_at rules n f (callee_items i z)) (left_at cs i c at)
+    ap (λ (z : List Callee). tried_at rules n f (callee_items i z)) (next_left cs i c at)
     ∙ ap (λ (k : ℕ). map (check n f (item.Callee i)) rules ++ tried_at rules n f (callee_items k (drop (i + 1) cs))) (sym (add-one i))
 
 pub callees_past : (rules : List Rule) (n : ℕ) (f : Function) (cs : List Callee) (i : ℕ) → length cs ≤ i → tried_at rules n f (callee_items i (drop i cs)) ≡ []
@@ -408,7 +405,7 @@ module _ (m : Module) (f : Function) (s : IsSound f) (n : ℕ) (cs : List Callee
 -- ---- functions
 
 pub functions_left : (rules : List Rule) (m : Module) (i : ℕ) (f : Function) → slice_get m i ≡ Some f → tried rules i (drop i m) ≡ tried_at rules i f (items f) ++ tried rules (i + 1) (drop (i + 1) m)
-functions_left rules m i f at = ap (tried rules i) (left_at m i f at) ∙ ap (λ (k : ℕ). tried_at rules i f (items f) ++ tried rules k (drop (i + 1) m)) (sym (add-one i))
+functions_left rules m i f at = ap (tried rules i) (next_left m i f at) ∙ ap (λ (k : ℕ). tried_at rules i f (items f) ++ tried rules k (drop (i + 1) m)) (sym (add-one i))
 
 pub functions_past : (rules : List Rule) (m : Module) (i : ℕ) → length m ≤ i → tried rules i (drop i m) ≡ []
 functions_past rules m i high = ap (tried rules i) (left_past m i (slice_get_past m i high))

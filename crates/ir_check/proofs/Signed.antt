@@ -9,8 +9,8 @@ use Rattle.ir_core.specs.Module.{Function}
 use Rattle.ir_core.specs.Lookup.{find_function, param_types}
 use Rattle.ir_core.specs.Signatures.{same_type, same_sig}
 use Rattle.ir_core.proofs.Equal.{sig_same}
+use Rattle.ir_core.proofs.Gets.{get_some}
 use Rattle.sig_numbers.specs.Tables.{return_alike}
-use Rattle.sig_numbers.proofs.Tabled.{item_there}
 use Rattle.ir_check.specs.Twins.{same_option, same_list, some_and, if_some, declared, have_types}
 
 pub named_twice : (sigs : List Sig) (n : ℕ) → true ≡ same_option same_sig (slice_get sigs n) (slice_get sigs n)
@@ -23,16 +23,16 @@ named_twice sigs n = by (slice_get sigs n)
 -- two signatures of a function, of which the second is found as `o`
 pub named_alike : (f g : Function) → g ≡ f → (k n : ℕ) → k < length f.sigs → n < length f.sigs → (r : Bool) → ((s t : Sig) → slice_get g.sigs k ≡ Some s → slice_get g.sigs n ≡ Some t → r ≡ same_sig s t) → (o : Option Sig) → o ≡ slice_get f.sigs n → r ≡ same_option same_sig (slice_get f.sigs k) o
 named_alike f g same k n low high r told o e =
-    let a = item_there f.sigs k low in
-    let b = item_there f.sigs n high in
+    let a = get_some f.sigs k low in
+    let b = get_some f.sigs n high in
     told a.0 b.0 (ap (λ (z : Function). slice_get z.sigs k) same ∙ a.1) (ap (λ (z : Function). slice_get z.sigs n) same ∙ b.1)
     ∙ sym (ap₂ (λ (x y : Option Sig). same_option same_sig x y) a.1 (e ∙ b.1))
 
 -- a declaration in the function at n, where the callee stands at i
 pub declared_alike : (m now : List Function) → now ≡ m → (n : ℕ) (f : Function) → slice_get m n ≡ Some f → (c : Callee) → c.sig < length f.sigs → (i : ℕ) → i < length m → find_function c.name m ≡ slice_get m i → (r : Bool) → ((f g : Function) (s : Sig) → slice_get now n ≡ Some f → slice_get now i ≡ Some g → slice_get f.sigs c.sig ≡ Some s → r ≡ same_sig s g.sig) → r ≡ declared m f c
 declared_alike m now same n f at c inside i low found r told =
-    let g = item_there m i low in
-    let s = item_there f.sigs c.sig inside in
+    let g = get_some m i low in
+    let s = get_some f.sigs c.sig inside in
     told f g.0 s.0 (ap (λ (z : List Function). slice_get z n) same ∙ at) (ap (λ (z : List Function). slice_get z i) same ∙ g.1) s.1
     ∙ sym (ap (λ (o : Option Function). if_some o (λ (h : Function). same_option same_sig (slice_get f.sigs c.sig) (Some h.sig))) (found ∙ g.1) ∙ ap (λ (o : Option Sig). same_option same_sig o (Some g.0.sig)) s.1)
 

@@ -9,11 +9,12 @@ use Rattle.clk_num.specs.declared.width.Width.{Width}
 use Rattle.clk_num.specs.declared.width.Width.TheVariants.{W8, W16, W32, W64, W128}
 use Rattle.clk_num.specs.declared.op.Op.{Op}
 use Rattle.clk_num.specs.Rows.{row}
+use Rattle.clk_num.proofs.RowLemmas.{same_width}
 use Rattle.ir_core.specs.declared.signatures.Ty.{Ty}
 use Rattle.ir_core.specs.declared.signatures.Ty.TheVariants as ty
 use Rattle.ir_core.specs.declared.signatures.Sig.{Sig}
 use Rattle.ir_core.specs.declared.signatures.Conv.{Conv}
-use Rattle.ir_core.specs.declared.signatures.Conv.TheVariants.{Fast, Cold, Tail, SystemV, WindowsFastcall, AppleAarch64, Probestack, Winch}
+use Rattle.ir_core.specs.declared.signatures.Conv.TheVariants.{Tail}
 use Rattle.ir_core.specs.declared.declarations.Callee.{Callee}
 use Rattle.ir_core.specs.declared.instructions.Arg.{Arg}
 use Rattle.ir_core.specs.declared.instructions.Arg.TheVariants as arg
@@ -35,7 +36,9 @@ use Rattle.ir_semantics.specs.EndRules as end_rules
 use Rattle.ir_semantics.specs.SlotRules as slot_rules
 use Rattle.ir_semantics.specs.TypeRules as type_rules
 use Rattle.ir_semantics.specs.Accepted as rule
-use Rattle.ir_core.proofs.Equal.{number_equal, sig_equal, sig_same}
+use Rattle.ir_semantics.proofs.SafetyTypes.{head_same, tail_same}
+use Rattle.ir_core.proofs.Equal.{number_equal, sig_equal, sig_same, type_equal, conv_equal, conv_same}
+use Rattle.ir_core.proofs.Gets.{some_same}
 use Rattle.ir_check.specs.Twins as test
 
 -- the test is true exactly where P holds
@@ -106,36 +109,19 @@ numbers a b = record { yes = number_equal a b; back = eq-eqb a b }
 less : (a b : ℕ) → Twin (nat_lt a b) (a < b)
 less a b = record { yes = ltb-true a b; back = lt-ltb a b }
 
-some_same : {A : Type 0} {a b : A} → Some a ≡ Some b → a ≡ b
-some_same q = cc
-
 options : {A : Type 0} (t : A → A → Bool) → ((a b : A) → Twin (t a b) (a ≡ b)) → (o p : Option A) → Twin (test.same_option t o p) (o ≡ p)
 options t h None None = record { yes = λ k. refl; back = λ k. refl }
 options t h (Some a) (Some b) = record { yes = λ k. ap Some ((h a b).yes k); back = λ q. (h a b).back (some_same q) }
 options t h None (Some b) = never (λ q. cc)
 options t h (Some a) None = never (λ q. cc)
 
-first_same : {A : Type 0} {a b : A} {xs ys : List A} → (a ∷ xs) ≡ (b ∷ ys) → a ≡ b
-first_same q = cc
-
-rest_same : {A : Type 0} {a b : A} {xs ys : List A} → (a ∷ xs) ≡ (b ∷ ys) → xs ≡ ys
-rest_same q = cc
-
 lists : {A : Type 0} (t : A → A → Bool) → ((a b : A) → Twin (t a b) (a ≡ b)) → (xs ys : List A) → Twin (test.same_list t xs ys) (xs ≡ ys)
 lists t h [] [] = record { yes = λ k. refl; back = λ k. refl }
 lists t h (a ∷ xs) (b ∷ ys) =
     let p = both (h a b) (lists t h xs ys) in
-    record { yes = λ k. ap₂ (λ z zs. z ∷ zs) (p.yes k).0 (p.yes k).1; back = λ q. p.back (first_same q, rest_same q) }
+    record { yes = λ k. ap₂ (λ z zs. z ∷ zs) (p.yes k).0 (p.yes k).1; back = λ q. p.back (head_same q, tail_same q) }
 lists t h [] (b ∷ ys) = never (λ q. cc)
 lists t h (a ∷ xs) [] = never (λ q. cc)
-
-width_equal : (a b : Width) → same a b ≡ true → a ≡ b
-width_equal W8 W8 h = refl
-width_equal W16 W16 h = refl
-width_equal W32 W32 h = refl
-width_equal W64 W64 h = refl
-width_equal W128 W128 h = refl
-width_equal _ _ h = cc
 
 width_same : (a : Width) → same a a ≡ true
 width_same W8 = refl
@@ -145,39 +131,10 @@ width_same W64 = refl
 width_same W128 = refl
 
 widths : (a b : Width) → Twin (same a b) (a ≡ b)
-widths a b = record { yes = width_equal a b; back = λ q. subst (λ z. same a z ≡ true) q (width_same a) }
-
-type_equal : (a b : Ty) → same_type a b ≡ true → a ≡ b
-type_equal ty.I8 ty.I8 h = refl
-type_equal ty.I16 ty.I16 h = refl
-type_equal ty.I32 ty.I32 h = refl
-type_equal ty.I64 ty.I64 h = refl
-type_equal ty.I128 ty.I128 h = refl
-type_equal _ _ h = cc
+widths a b = record { yes = same_width a b; back = λ q. subst (λ z. same a z ≡ true) q (width_same a) }
 
 one_type : (a b : Ty) → Twin (same_type a b) (a ≡ b)
 one_type a b = record { yes = type_equal a b; back = λ q. subst (λ z. same_type a z ≡ true) q (width_same (width_of a)) }
-
-conv_equal : (a b : Conv) → same_conv a b ≡ true → a ≡ b
-conv_equal Fast Fast h = refl
-conv_equal Cold Cold h = refl
-conv_equal Tail Tail h = refl
-conv_equal SystemV SystemV h = refl
-conv_equal WindowsFastcall WindowsFastcall h = refl
-conv_equal AppleAarch64 AppleAarch64 h = refl
-conv_equal Probestack Probestack h = refl
-conv_equal Winch Winch h = refl
-conv_equal _ _ h = cc
-
-conv_same : (a : Conv) → same_conv a a ≡ true
-conv_same Fast = refl
-conv_same Cold = refl
-conv_same Tail = refl
-conv_same SystemV = refl
-conv_same WindowsFastcall = refl
-conv_same AppleAarch64 = refl
-conv_same Probestack = refl
-conv_same Winch = refl
 
 convs : (a b : Conv) → Twin (same_conv a b) (a ≡ b)
 convs a b = record { yes = conv_equal a b; back = λ q. subst (λ z. same_conv a z ≡ true) q (conv_same a) }

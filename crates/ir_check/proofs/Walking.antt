@@ -1,13 +1,9 @@
 -- Tests over the text itself.
-use Rattle.std.proofs.Common.{◌≡◌, inl, inr, List, [], ◌∷◌, ◌++◌, Some, Bool, true, false, refl, sym, ap, ◌∙◌, subst, ne_eqb}
+use Rattle.std.proofs.Common.{◌≡◌, [], ◌∷◌, ◌++◌, Some, Bool, true, false, refl, ap, ◌∙◌}
 use Rattle.std.specs.Prelude.{if◌then◌else◌, slice_get}
-use Rattle.ir_core.specs.Module.{Block}
-use Rattle.ir_core.specs.Lookup.{find_block, block_numbers}
-use Rattle.ir_core.specs.Lists.{In, Different}
-use Rattle.ir_semantics.proofs.SafetyPlaces.{find_first}
+use Rattle.ir_core.proofs.ByNumber.{in_find}
 use Rattle.ir_check.specs.Twins.{if_some, kept_at_line, kept_at_block, kept_at_callee, first_failing, or_else}
 use Rattle.ir_check.specs.Laws as law
-use Rattle.ir_check.proofs.Firsts.{mapped}
 
 pub in_parts : law.InParts
 in_parts t [] ys = refl
@@ -16,12 +12,6 @@ in_parts t (c ∷ xs) ys = go (t c) (in_parts t xs ys)
     go : (z : Bool) → first_failing t (xs ++ ys) ≡ or_else (first_failing t xs) (first_failing t ys) → (if z then first_failing t (xs ++ ys) else Some c) ≡ or_else (if z then first_failing t xs else Some c) (first_failing t ys)
     go true h = h
     go false h = refl
-
-pub in_find : (b : Block) (bs : List Block) → Different (block_numbers bs) → In b bs → find_block b.number bs ≡ Some b
-in_find b [] d i = elim i [ ]
-in_find b (c ∷ bs) d (inl q) = subst (λ z. find_block b.number (z ∷ bs) ≡ Some b) q (find_first b bs)
-in_find b (c ∷ bs) d (inr i) =
-    ap (λ z. if z then Some c else find_block b.number bs) (ne_eqb c.number b.number (λ e. d.0 (subst (λ z. In z (block_numbers bs)) (sym e) (mapped (λ (k : Block). k.number) b bs i)))) ∙ in_find b bs d.1 i
 
 pub at_callee : law.AtCallee
 at_callee available m f k c r h = ap (λ o. if_some o (λ d. kept_at_callee available m f d r)) h

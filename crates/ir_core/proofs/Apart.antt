@@ -1,5 +1,5 @@
 -- The functions of a list, one after the other, each of another name than those before it.
-use Rattle.std.proofs.Common.{◌≡◌, ℕ, zero, suc, ◌<◌, ◌+◌, List, [], ◌∷◌, ◌++◌, map, take, length, get_or, true, false, cond, Option, Some, None, refl, sym, ap, subst, ◌∙◌}
+use Rattle.std.proofs.Common.{◌≡◌, ℕ, zero, suc, ◌<◌, ◌+◌, List, [], ◌∷◌, ◌++◌, map, take, length, get_or, true, false, cond, Option, Some, None, refl, sym, ap, ◌∙◌}
 use Rattle.std.specs.Prelude.{is_some, slice_get}
 use Rattle.std.proofs.lemmas.List.{map_more}
 use Rattle.ir_core.specs.declared.names.FuncName.{FuncName}
@@ -36,14 +36,9 @@ met_again xs k x e met d =
 pub one_more : (xs : List Body) (k : ℕ) (x : Body) → k < length xs → x ≡ get_or xs k x → functions_in (take (k + 1) xs) ≡ functions_in (take k xs) ++ (x.function ∷ [])
 one_more xs k x l e = map_more function_in xs k x l ∙ ap (λ z. functions_in (take k xs) ++ (function_in z ∷ [])) (sym e)
 
-pub each_at : {A : Type 0} (P : A → Type 0) (xs : List A) (k : ℕ) (x : A) → Each P xs → slice_get xs k ≡ Some x → P x
-each_at P [] k x h e = cc
-each_at P (y ∷ xs) zero x h e = let q : y ≡ x = cc in subst P q h.0
-each_at P (y ∷ xs) (suc k) x h e = each_at P xs k x h.1 e
-
-pub each_in : {A B : Type 0} (P : B → Type 0) (f : A → B) (xs : List A) → Each (λ a. P (f a)) xs → Each P (map f xs)
-each_in P f [] h = tt
-each_in P f (x ∷ xs) h = (h.0, each_in P f xs h.1)
+pub each_mapped : {A B : Type 0} (P : B → Type 0) (f : A → B) (xs : List A) → Each (λ a. P (f a)) xs → Each P (map f xs)
+each_mapped P f [] h = tt
+each_mapped P f (x ∷ xs) h = (h.0, each_mapped P f xs h.1)
 
 -- what is found nowhere
 pub not_met : (n : FuncName) (fs : List Function) (o : Option ℕ) → o ≡ place_of n fs → is_some o ≡ false → find_function n fs ≡ None

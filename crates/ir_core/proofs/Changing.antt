@@ -4,6 +4,7 @@ use Rattle.std.specs.Prelude.{slice_get, if◌then◌else◌, Result, IsOk, is_o
 use Rattle.std.proofs.lemmas.Bool.{cases_eq}
 use Rattle.std.proofs.Math.ListN.{set}
 use Rattle.std.proofs.lemmas.Option.{slice_get_within, slice_get_read}
+use Rattle.std.proofs.lemmas.List.{map-append}
 use Rattle.ir_core.specs.Module.{Block, Line}
 use Rattle.ir_core.specs.Lookup.{block_numbers}
 use Rattle.ir_core.specs.declared.instructions.InstData.{InstData}
@@ -13,7 +14,7 @@ use Rattle.ir_core.specs.Lists.{In, Different}
 use Rattle.ir_core.specs.Viewed.{line_of}
 use Rattle.ir_core.specs.Edits.{Body, at_block, put_param, put_line, but_last, change_last, with_lines, lines_of, params_of, first_number, number_after}
 use Rattle.ir_core.specs.Layout.{walk, Linked, nexts, range, params_at, lines_at, block_by, block_at, order, Apart, Laid, IsLaidOut, body_of, last_of}
-use Rattle.ir_core.proofs.Ranges.{sub_push, sub_end, sub_set_out, sub_set_end, sub_last, sub_take, sub_drop, map_take, map_drop, map_append}
+use Rattle.ir_core.proofs.Ranges.{sub_push, sub_end, sub_set_out, sub_set_end, sub_last, sub_take, sub_drop, map_take, map_drop}
 use Rattle.ir_core.proofs.Order.{linked_below, get_set_same, get_set_other}
 use Rattle.ir_core.proofs.Laying.{names_blocks, length_nexts, nexts_set, nexts_get, set_same, length_set, blocks_at}
 
@@ -127,7 +128,7 @@ module _ (xs : List InstData) (ks : List BlockData) (o last : Option ℕ) (a : �
     pub gap_blocks : map (block_at (set xs (k.start + k.len) x) (set ks a gap_k)) (order (set ks a gap_k) o) ≡ at_block a (put_line (line_of x)) (map (block_at xs ks) (order ks o))
     gap_blocks =
         changed_blocks xs (set xs (k.start + k.len) x) ks o last a k gap_k laid old refl (omega (arith, length_set xs (k.start + k.len) x)) (omega (arith, room)) (omega (arith, laid.within a k old, length_set xs (k.start + k.len) x)) gap_apart (put_line (line_of x)) (others_set (k.start + k.len) (omega arith) (omega (arith, room)))
-        (ap (lines_put xs a k) (ap (λ n. map line_of (take n (drop k.start (set xs (k.start + k.len) x)))) (one k.len) ∙ (ap (map line_of) (sub_set_end xs x k.start k.len (k.start + k.len) refl (omega (arith, room, laid.within a k old))) ∙ map_append line_of (take k.len (drop k.start xs)) (x ∷ []))))
+        (ap (lines_put xs a k) (ap (λ n. map line_of (take n (drop k.start (set xs (k.start + k.len) x)))) (one k.len) ∙ (ap (map line_of) (sub_set_end xs x k.start k.len (k.start + k.len) refl (omega (arith, room, laid.within a k old))) ∙ map-append line_of (take k.len (drop k.start xs)) (x ∷ []))))
 
   -- at the end of the arena
   module _ (full : k.len ≡ k.cap) (at_end : k.start + k.cap ≡ length xs) where
@@ -146,7 +147,7 @@ module _ (xs : List InstData) (ks : List BlockData) (o last : Option ℕ) (a : �
     pub end_blocks : map (block_at (xs ++ (x ∷ [])) (set ks a end_k)) (order (set ks a end_k) o) ≡ at_block a (put_line (line_of x)) (map (block_at xs ks) (order ks o))
     end_blocks =
         changed_blocks xs (xs ++ (x ∷ [])) ks o last a k end_k laid old refl (omega (arith, long)) (omega (arith, full)) (omega (arith, at_end, long)) end_apart (put_line (line_of x)) others_push
-        (ap (lines_put xs a k) (ap (λ n. map line_of (take n (drop k.start (xs ++ (x ∷ []))))) (one k.len) ∙ (ap (map line_of) (sub_end xs x k.start k.len (omega (arith, full, at_end))) ∙ map_append line_of (take k.len (drop k.start xs)) (x ∷ []))))
+        (ap (lines_put xs a k) (ap (λ n. map line_of (take n (drop k.start (xs ++ (x ∷ []))))) (one k.len) ∙ (ap (map line_of) (sub_end xs x k.start k.len (omega (arith, full, at_end))) ∙ map-append line_of (take k.len (drop k.start xs)) (x ∷ []))))
 
   -- the first of a block
   module _ (empty : k.cap ≡ 0) (k' : BlockData) (next : k'.next ≡ k.next) (params : k'.params ≡ k.params) (start : k'.start ≡ length xs) (len : k'.len ≡ 1) (cap : k'.cap ≡ 1) where
@@ -184,7 +185,7 @@ module _ (xs : List InstData) (ks : List BlockData) (o last : Option ℕ) (a : �
     pub less_blocks : map (block_at xs ks) (order ks o) ≡ at_block a (put_line (line_of x)) (map (block_at (set xs (k.start + (k.len - 1)) dead) (set ks a less_k)) (order (set ks a less_k) o))
     less_blocks =
         restored_blocks xs (set xs (k.start + (k.len - 1)) dead) ks o last a k less_k laid old refl (omega (arith, length_set xs (k.start + (k.len - 1)) dead)) (omega (arith, laid.short a k old)) (omega (arith, laid.within a k old, length_set xs (k.start + (k.len - 1)) dead)) less_apart (put_line (line_of x)) less_others
-        (ap (lines_put xs a k) (ap (λ n. map line_of (take n (drop k.start xs))) (less k.len some) ∙ (ap (map line_of) (sub_last xs x k.start (k.len - 1) (k.start + (k.len - 1)) refl at) ∙ (map_append line_of (take (k.len - 1) (drop k.start xs)) (x ∷ []) ∙ ap (λ r. r ++ (line_of x ∷ [])) (sym (range_set xs (k.start + (k.len - 1)) dead less_k (inr (omega arith))))))))
+        (ap (lines_put xs a k) (ap (λ n. map line_of (take n (drop k.start xs))) (less k.len some) ∙ (ap (map line_of) (sub_last xs x k.start (k.len - 1) (k.start + (k.len - 1)) refl at) ∙ (map-append line_of (take (k.len - 1) (drop k.start xs)) (x ∷ []) ∙ ap (λ r. r ++ (line_of x ∷ [])) (sym (range_set xs (k.start + (k.len - 1)) dead less_k (inr (omega arith))))))))
 
 -- another instruction in the place of the last
 module _ (xs : List InstData) (ks : List BlockData) (o last : Option ℕ) (a : ℕ) (k : BlockData) (x y : InstData) (laid : Laid xs ks o last) (old : slice_get ks a ≡ Some k) (some : 0 < k.len) (at : slice_get xs (k.start + (k.len - 1)) ≡ Some y) where
@@ -199,8 +200,8 @@ module _ (xs : List InstData) (ks : List BlockData) (o last : Option ℕ) (a : �
 
   last_inside : range (set xs (k.start + (k.len - 1)) x) k ≡ but_last (range xs k) ++ (line_of x ∷ [])
   last_inside =
-      let before : range xs k ≡ map line_of (take (k.len - 1) (drop k.start xs)) ++ (line_of y ∷ []) = ap (λ n. map line_of (take n (drop k.start xs))) (less k.len some) ∙ (ap (map line_of) (sub_last xs y k.start (k.len - 1) (k.start + (k.len - 1)) refl at) ∙ map_append line_of (take (k.len - 1) (drop k.start xs)) (y ∷ [])) in
-      ap (λ n. map line_of (take n (drop k.start (set xs (k.start + (k.len - 1)) x)))) (less k.len some) ∙ (ap (map line_of) (sub_set_end xs x k.start (k.len - 1) (k.start + (k.len - 1)) refl (slice_get_within xs (k.start + (k.len - 1)) y at)) ∙ (map_append line_of (take (k.len - 1) (drop k.start xs)) (x ∷ []) ∙ ap (λ z. z ++ (line_of x ∷ [])) (sym (ap but_last before ∙ but_last_end (map line_of (take (k.len - 1) (drop k.start xs))) (line_of y)))))
+      let before : range xs k ≡ map line_of (take (k.len - 1) (drop k.start xs)) ++ (line_of y ∷ []) = ap (λ n. map line_of (take n (drop k.start xs))) (less k.len some) ∙ (ap (map line_of) (sub_last xs y k.start (k.len - 1) (k.start + (k.len - 1)) refl at) ∙ map-append line_of (take (k.len - 1) (drop k.start xs)) (y ∷ [])) in
+      ap (λ n. map line_of (take n (drop k.start (set xs (k.start + (k.len - 1)) x)))) (less k.len some) ∙ (ap (map line_of) (sub_set_end xs x k.start (k.len - 1) (k.start + (k.len - 1)) refl (slice_get_within xs (k.start + (k.len - 1)) y at)) ∙ (map-append line_of (take (k.len - 1) (drop k.start xs)) (x ∷ []) ∙ ap (λ z. z ++ (line_of x ∷ [])) (sym (ap but_last before ∙ but_last_end (map line_of (take (k.len - 1) (drop k.start xs))) (line_of y)))))
 
   pub last_blocks : map (block_at (set xs (k.start + (k.len - 1)) x) ks) (order ks o) ≡ at_block a (change_last (line_of x)) (map (block_at xs ks) (order ks o))
   last_blocks = ap (λ z. map (block_at (set xs (k.start + (k.len - 1)) x) z) (order z o)) (sym (set_same ks a k old)) ∙ changed_blocks xs (set xs (k.start + (k.len - 1)) x) ks o last a k k laid old refl (omega (arith, length_set xs (k.start + (k.len - 1)) x)) (laid.short a k old) (omega (arith, laid.within a k old, length_set xs (k.start + (k.len - 1)) x)) last_apart (change_last (line_of x)) last_others (ap (lines_put xs a k) last_inside)
@@ -290,17 +291,6 @@ range_more xs ys k h = ap (map line_of) (go xs k.start k.len h)
     go [] s (suc n) h = absurd (omega (arith, h))
     go (y ∷ l) zero (suc n) h = ap (λ r. y ∷ r) (go l zero n (omega (arith, h)))
     go (y ∷ l) (suc s) (suc n) h = go l s (suc n) (omega (arith, h))
-
-pub range_tail : (xs ys : List InstData) (k : BlockData) → k.start ≡ length xs → k.len ≡ length ys → range (xs ++ ys) k ≡ map line_of ys
-range_tail xs ys k s n = ap₂ (λ a b. map line_of (take a (drop b (xs ++ ys)))) n s ∙ ap (map line_of) (go xs)
-  where
-    all : (l : List InstData) → take (length l) l ≡ l
-    all [] = refl
-    all (y ∷ l) = ap (λ r. y ∷ r) (all l)
-
-    go : (l : List InstData) → take (length ys) (drop (length l) (l ++ ys)) ≡ ys
-    go [] = all ys
-    go (y ∷ l) = go l
 
 pub if_ok : {T E X : Type 0} (r : Result T E) (a b : X) → IsOk r → (if is_ok r then a else b) ≡ a
 if_ok r a b h = ap (λ c. if c then a else b) h

@@ -1,11 +1,11 @@
 -- How many values are defined, and when all are.
-use Rattle.std.proofs.Common.{◌≡◌, ℕ, zero, suc, ◌<◌, ◌≤◌, ◌⊎◌, inl, inr, List, [], ◌∷◌, ◌++◌, length, refl, sym, ap, subst, arith, length-append}
+use Rattle.std.proofs.Common.{◌≡◌, ℕ, zero, suc, ◌<◌, ◌≤◌, inl, inr, List, [], ◌∷◌, ◌++◌, length, refl, sym, ap, subst, arith, length-append}
 use Rattle.std.proofs.lemmas.Bool.{cases_eq}
 use Rattle.ir_core.specs.Module.{Block, Line, Function}
 use Rattle.ir_core.specs.Lookup.{definitions, line_definitions}
 use Rattle.ir_core.specs.Lists.{In, Different, Below, Each}
 use Rattle.ir_core.specs.Sound.{Counts, counts_of, LineInRange, BlockInRange, IsSound, IsWhole}
-use Rattle.ir_core.proofs.Members.{in_left, in_right, in_cases, below_join, below_in}
+use Rattle.ir_core.proofs.Members.{in_left, in_right, in_cases, below_join, below_in, in_or_not}
 
 record Parted (y : ℕ) (xs : List ℕ) : Type 0 where
   before : List ℕ
@@ -59,15 +59,7 @@ unfolding upto
 different_upto zero = tt
 different_upto (suc n) = ((λ i. omega (arith, upto_in n n i)), different_upto n)
 
-in_cases_of : (v : ℕ) (xs : List ℕ) → In v xs ⊎ (In v xs → ⊥)
-in_cases_of v [] = inr (λ i. i)
-in_cases_of v (x ∷ xs) =
-    elim (cases_eq v x) [
-      | inl e ↦ inl (inl e)
-      | inr e ↦ elim (in_cases_of v xs) [ inl q ↦ inl (inr q) | inr q ↦ inr (λ i. elim i [ inl p ↦ e p | inr p ↦ q p ]) ]
-    ]
-
-lines_below : (n : Counts) (ls : List Line) → Each (LineInRange n) ls → Below n.values (line_definitions ls)
+pub lines_below : (n : Counts) (ls : List Line) → Each (LineInRange n) ls → Below n.values (line_definitions ls)
 lines_below n [] h = tt
 lines_below n (l ∷ ls) h = below_join n.values l.results (line_definitions ls) h.0.results (lines_below n ls h.1)
 
@@ -82,7 +74,7 @@ defined_bound f s = omega (arith, length_upto (length f.types), subset_length (d
 -- different numbers below n, as many as n, are all of those below n
 pub all_in : (n : ℕ) (ns : List ℕ) → Different ns → Below n ns → length ns ≡ n → (v : ℕ) → v < n → In v ns
 all_in n ns d range e v h =
-    elim (in_cases_of v ns) [
+    elim (in_or_not v ns) [
       | inl q ↦ q
       | inr q ↦
           let most : length (v ∷ ns) ≤ length (upto n) =

@@ -1,5 +1,5 @@
 -- The first function whose name has a hash, and one more function.
-use Rattle.std.proofs.Common.{inl, inr, ◌≡◌, ℕ, zero, suc, ◌+◌, ◌-◌, ◌<◌, ◌≤◌, List, [], ◌∷◌, ◌++◌, map, length, get_or, Bool, true, false, cond, Option, Some, None, refl, sym, ap, ap₂, ◌∙◌, subst, arith, eq-eqb}
+use Rattle.std.proofs.Common.{inl, inr, ◌≡◌, ℕ, suc, ◌+◌, ◌-◌, ◌<◌, ◌≤◌, List, [], ◌∷◌, ◌++◌, map, length, get_or, Bool, true, false, cond, Option, Some, None, refl, sym, ap, ap₂, ◌∙◌, subst, arith, eq-eqb}
 use Rattle.std.specs.Prelude.{is_some, slice_get, MatchOption, nat_eq}
 use Rattle.std.specs.List.{position_from}
 use Rattle.std.proofs.lemmas.List.{length-map}
@@ -13,6 +13,7 @@ use Rattle.ir_core.specs.Edits.{Body}
 use Rattle.ir_core.specs.Named.{function_in, IsIndex, name_hash, place_of, place_of_hash, is_first}
 use Rattle.ir_core.proofs.Equal.{name_equal, equal_name, cases_name, number_equal}
 use Rattle.ir_core.proofs.Indexing.{place_push, place_more}
+use Rattle.ir_core.proofs.Gets.{get_mapped}
 
 -- names of different hashes differ
 hash_apart : (m n : FuncName) → nat_eq (name_hash m) (name_hash n) ≡ false → same_name m n ≡ false
@@ -129,11 +130,6 @@ hash_known fs f h known = place_push (λ g. nat_eq (name_hash g.name) h) 0 (leng
 pub none_of : (o : Option ℕ) → is_some o ≡ false → o ≡ None
 none_of None h = refl
 none_of (Some k) h = cc
-
-pub get_mapped : {A B : Type 0} (f : A → B) (xs : List A) (i : ℕ) (x : A) → slice_get xs i ≡ Some x → slice_get (map f xs) i ≡ Some (f x)
-get_mapped f [] i x e = cc
-get_mapped f (y ∷ xs) zero x e = let q : y ≡ x = cc in ap (λ z. Some (f z)) q
-get_mapped f (y ∷ xs) (suc i) x e = get_mapped f xs i x e
 
 -- the place of a hash, and the function there
 there : (n : FuncName) (k : ℕ) (fs : List Function) → Some k ≡ place_of_hash (name_hash n) fs → (k < length fs) × ((g : Function) → slice_get fs k ≡ Some g → is_first n fs ≡ same_name g.name n)

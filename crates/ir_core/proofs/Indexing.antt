@@ -19,6 +19,7 @@ use Rattle.ir_core.specs.Module.{Function}
 use Rattle.ir_core.specs.Lookup.{same_bytes, same_name, find_function}
 use Rattle.ir_core.specs.Lists.{Each}
 use Rattle.ir_core.specs.Named.{place_of, compare_users, compare_texts}
+use Rattle.ir_core.proofs.Equal.{bytes_same, bytes_equal}
 
 -- bytes
 
@@ -33,20 +34,6 @@ bytes_flip (x ∷ xs) (y ∷ ys) = ap₂ (λ a b. a && b) (nat_eq_flip x y) (byt
 
 pub text_test : (xs ys : List ℕ) → is_eq (slice_cmp nat_cmp xs ys) ≡ same_bytes ys xs
 text_test xs ys = is_eq-slice_cmp xs ys ∙ bytes_flip xs ys
-
-pub same_bytes_self : (xs : List ℕ) → same_bytes xs xs ≡ true
-same_bytes_self [] = refl
-same_bytes_self (x ∷ xs) = ap (λ b. b && same_bytes xs xs) (eq-eqb x x refl) ∙ same_bytes_self xs
-
-pub same_bytes_is : (xs ys : List ℕ) → same_bytes xs ys ≡ true → xs ≡ ys
-same_bytes_is [] [] h = refl
-same_bytes_is [] (y ∷ ys) h = cc
-same_bytes_is (x ∷ xs) [] h = cc
-same_bytes_is (x ∷ xs) (y ∷ ys) h =
-    elim (cases_eq x y) [
-      | inl e ↦ ap₂ (λ a b. a ∷ b) e (same_bytes_is xs ys (ap (λ b. b && same_bytes xs ys) (sym (eq-eqb x y e)) ∙ h))
-      | inr e ↦ let f : false ≡ true = ap (λ b. b && same_bytes xs ys) (sym (ne_eqb x y e)) ∙ h in cc
-    ]
 
 pub equal_from_test : (o : Ordering) → is_eq o ≡ true → o ≡ Equal
 equal_from_test Less h = cc
@@ -171,16 +158,16 @@ text_more fs f key n es named new number text old =
     ∙ sym (place_more (name.Text text) fs f (same_bytes key.items text) (ap (λ z. same_name z (name.Text text)) named) absent)))
   where
     same : (e : Vec ℕ Global) → slice_cmp nat_cmp key.items e.items ≡ Equal → is_eq (slice_cmp nat_cmp text e.items) ≡ is_eq (slice_cmp nat_cmp text key.items)
-    same e h = let q : e.items ≡ key.items = same_bytes_is e.items key.items (sym (text_test key.items e.items) ∙ ap is_eq h) in ap (λ z. is_eq (slice_cmp nat_cmp text z)) q
+    same e h = let q : e.items ≡ key.items = bytes_equal e.items key.items (sym (text_test key.items e.items) ∙ ap is_eq h) in ap (λ z. is_eq (slice_cmp nat_cmp text z)) q
 
     only : (e : Vec ℕ Global) → is_eq (slice_cmp nat_cmp text e.items) ≡ true → is_eq (slice_cmp nat_cmp text key.items) ≡ true → slice_cmp nat_cmp key.items e.items ≡ Equal
     only e h k =
-        let a : e.items ≡ text = same_bytes_is e.items text (sym (text_test text e.items) ∙ h) in
-        let b : key.items ≡ text = same_bytes_is key.items text (sym (text_test text key.items) ∙ k) in
-        equal_from_test (slice_cmp nat_cmp key.items e.items) (text_test key.items e.items ∙ (ap₂ (λ x y. same_bytes x y) a b ∙ same_bytes_self text))
+        let a : e.items ≡ text = bytes_equal e.items text (sym (text_test text e.items) ∙ h) in
+        let b : key.items ≡ text = bytes_equal key.items text (sym (text_test text key.items) ∙ k) in
+        equal_from_test (slice_cmp nat_cmp key.items e.items) (text_test key.items e.items ∙ (ap₂ (λ x y. same_bytes x y) a b ∙ bytes_same text))
 
     absent : same_bytes key.items text ≡ true → place_of (name.Text text) fs ≡ None
-    absent h = ap (λ z. place_of z fs) (sym (named ∙ ap (λ z. name.Text z) (same_bytes_is key.items text h))) ∙ no_place f.name fs new
+    absent h = ap (λ z. place_of z fs) (sym (named ∙ ap (λ z. name.Text z) (bytes_equal key.items text h))) ∙ no_place f.name fs new
 
 pub users_stay : (fs : List Function) (f : Function) (text : List ℕ) → f.name ≡ name.Text text → (a b : ℕ) → place_of (name.User a b) (fs ++ (f ∷ [])) ≡ place_of (name.User a b) fs
 users_stay fs f text named a b = place_more (name.User a b) fs f false (ap (λ z. same_name z (name.User a b)) named) (λ h. cc)

@@ -19,10 +19,7 @@ use Rattle.ir_core.proofs.Order.{put_after, last_put_end, last_put_within}
 use Rattle.ir_core.proofs.Laying.{nexts_get, inserted_laid, inserted_blocks, length_seen}
 use Rattle.ir_core.proofs.Changing.{present, below, found}
 use Rattle.ir_core.proofs.Counting.{defined_bound}
-
-numbers_join : (xs ys : List Block) → block_numbers (xs ++ ys) ≡ block_numbers xs ++ block_numbers ys
-numbers_join [] ys = refl
-numbers_join (x ∷ xs) ys = ap (λ r. x.number ∷ r) (numbers_join xs ys)
+use Rattle.ir_core.proofs.ByNumber.{numbers_join}
 
 -- one more between
 between : {A : Type 0} (P : List A) (x : A) (X Q : List A) → P ++ (x ∷ (X ++ Q)) ≡ (P ++ (x ∷ [])) ++ (X ++ Q)

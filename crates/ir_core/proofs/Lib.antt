@@ -1,11 +1,13 @@
 pub mod Adding
 pub mod Apart
+pub mod ByNumber
 pub mod Changing
 pub mod Copying
 pub mod Counting
 pub mod Cutting
 pub mod Equal
 pub mod Firsts
+pub mod Gets
 pub mod Indexing
 pub mod Inserting
 pub mod Keeping

@@ -1,5 +1,6 @@
 -- Membership, difference and bounds over joined lists.
-use Rattle.std.proofs.Common.{ℕ, ◌<◌, ◌≤◌, ◌⊎◌, inl, inr, List, [], ◌∷◌, ◌++◌, refl, subst, arith}
+use Rattle.std.proofs.Common.{◌≡◌, ℕ, zero, suc, ◌<◌, ◌≤◌, ◌⊎◌, inl, inr, List, [], ◌∷◌, ◌++◌, length, map, get_or, refl, sym, ap, subst, arith}
+use Rattle.std.proofs.lemmas.Bool.{cases_eq}
 use Rattle.ir_core.specs.Lists.{In, Different, Below, Each}
 
 pub in_left : {A : Type 0} (a : A) (xs ys : List A) → In a xs → In a (xs ++ ys)
@@ -79,3 +80,35 @@ below_right n (x ∷ xs) ys h = below_right n xs ys h.1
 pub below_in : (n : ℕ) (xs : List ℕ) (x : ℕ) → Below n xs → In x xs → x < n
 below_in n [] x h i = elim i [ ]
 below_in n (y ∷ xs) x h i = elim i [ inl q ↦ omega (arith, h.0, q) | inr r ↦ below_in n xs x h.1 r ]
+
+pub in_map : {A B : Type 0} (f : A → B) (x : A) (xs : List A) → In x xs → In (f x) (map f xs)
+in_map f x [] i = elim i [ ]
+in_map f x (y ∷ xs) (inl e) = inl (ap f e)
+in_map f x (y ∷ xs) (inr i) = inr (in_map f x xs i)
+
+pub map_in : {A B : Type 0} (f : A → B) (y : B) (xs : List A) → In y (map f xs) → (x : A) × In x xs × (y ≡ f x)
+map_in f y [] i = elim i [ ]
+map_in f y (x ∷ xs) (inl e) = (x, inl refl, e)
+map_in f y (x ∷ xs) (inr i) = let more = map_in f y xs i in (more.0, inr more.1, more.2)
+
+pub in_or_not : (n : ℕ) (ns : List ℕ) → In n ns ⊎ (In n ns → ⊥)
+in_or_not n [] = inr (λ i. i)
+in_or_not n (k ∷ ns) =
+    elim (cases_eq n k) [
+      | inl e ↦ inl (inl e)
+      | inr e ↦ elim (in_or_not n ns) [ inl i ↦ inl (inr i) | inr none ↦ inr (λ i. elim i [ inl q ↦ e q | inr j ↦ none j ]) ]
+    ]
+
+pub each_by : {A : Type 0} (P : A → Type 0) (xs : List A) → ((x : A) → In x xs → P x) → Each P xs
+each_by P [] h = tt
+each_by P (x ∷ xs) h = (h x (inl refl), each_by P xs (λ y i. h y (inr i)))
+
+pub each_in : {A : Type 0} (P : A → Type 0) (xs : List A) → Each P xs → (x : A) → In x xs → P x
+each_in P [] h x i = elim i [ ]
+each_in P (y ∷ xs) h x (inl e) = subst P (sym e) h.0
+each_in P (y ∷ xs) h x (inr i) = each_in P xs h.1 x i
+
+pub below_at : (n : ℕ) (vs : List ℕ) (i : ℕ) → Below n vs → i < length vs → get_or vs i 0 < n
+below_at n [] i b h = absurd (omega arith)
+below_at n (x ∷ vs) zero b h = b.0
+below_at n (x ∷ vs) (suc i) b h = below_at n vs i b.1 (omega arith)

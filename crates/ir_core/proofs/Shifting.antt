@@ -4,7 +4,7 @@ use Rattle.std.specs.Prelude.{slice_get, if◌then◌else◌, nat_le, true, fals
 use Rattle.std.proofs.lemmas.Bool.{cases_eq, leb-true, leb-false}
 use Rattle.std.proofs.Math.ListN.{set}
 use Rattle.std.proofs.lemmas.Option.{slice_get_within, slice_get_read}
-use Rattle.std.proofs.lemmas.List.{get_or-set_same, get_or-set_other, get_or_default}
+use Rattle.std.proofs.lemmas.List.{get_or-set_same, get_or-set_other, get_or_default, map-append}
 use Rattle.ir_core.specs.declared.instructions.InstData.{InstData}
 use Rattle.ir_core.specs.declared.func.BlockData.{BlockData}
 use Rattle.ir_core.specs.Lists.{Different}
@@ -12,7 +12,6 @@ use Rattle.ir_core.specs.Viewed.{line_of}
 use Rattle.ir_core.specs.Shift.{shifted}
 use Rattle.ir_core.specs.Edits.{at_block, put_line}
 use Rattle.ir_core.specs.Layout.{walk, Linked, nexts, range, block_by, block_at, order, Apart, Laid, last_of}
-use Rattle.ir_core.proofs.Ranges.{map_append}
 use Rattle.ir_core.proofs.Order.{get_set_same, get_set_other}
 use Rattle.ir_core.proofs.Laying.{nexts_set, nexts_get, set_same, length_set, blocks_at}
 
@@ -224,7 +223,7 @@ module _ (xs : List InstData) (ks : List BlockData) (o last : Option ℕ) (a : �
           ap (block_by between a) (get_shifted e (set ks a longer_k) a longer_k (get_set_same ks a longer_k (slice_get_within ks a k old)))
           ∙ (ap₂ (λ s n. record { number = a; params = k.params; lines = map line_of (take n (drop s between)) }) here_start up
           ∙ (ap (λ r. record { number = a; params = k.params; lines = map line_of r }) (sub_here xs x e k.start k.len is_end inside)
-          ∙ (ap (λ r. record { number = a; params = k.params; lines = r }) (map_append line_of (take k.len (drop k.start xs)) (x ∷ []))
+          ∙ (ap (λ r. record { number = a; params = k.params; lines = r }) (map-append line_of (take k.len (drop k.start xs)) (x ∷ []))
           ∙ ap (λ z. put_line (line_of x) (block_by xs a z)) (sym old))))
 
 -- where the ranges start before the move

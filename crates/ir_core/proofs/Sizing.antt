@@ -1,24 +1,19 @@
 -- Sums that stop at the greatest number, and the sizes of parts.
-use Rattle.std.proofs.Common.{◌≡◌, ℕ, ◌+◌, ◌<◌, List, [], ◌∷◌, ◌++◌, map, length, take, get_or, refl, sym, ap, ap₂, ◌∙◌, subst, arith, eq-eqb, ne_eqb, append_assoc, inl, inr}
+use Rattle.std.proofs.Common.{◌≡◌, ℕ, ◌+◌, ◌<◌, ◌≤◌, List, [], ◌∷◌, ◌++◌, map, length, take, get_or, refl, sym, ap, ap₂, ◌∙◌, subst, arith, eq-eqb, ne_eqb, append_assoc, inl, inr}
 use Rattle.std.specs.Prelude.{if◌then◌else◌}
 use Rattle.std.proofs.lemmas.List.{take_more}
 use Rattle.exn_tables.specs.declared.table.Entry.{Entry}
 use Rattle.ir_core.specs.declared.instructions.BlockCall.{BlockCall}
+use Rattle.ir_core.specs.declared.signatures.Sig.{Sig}
 use Rattle.ir_core.specs.Module.{Block}
 use Rattle.ir_core.specs.Lookup.{block_numbers}
 use Rattle.ir_core.specs.Lists.{In, Different, Each}
 use Rattle.ir_core.specs.Edits.{params_of, lines_of}
 use Rattle.ir_core.specs.Uses.{table_targets}
-use Rattle.ir_core.specs.Size.{total, argument_count, line_size, block_size, size_at, capped}
-
-pub capped_add : (a b : ℕ) → capped (capped a + b) ≡ capped (a + b)
-capped_add a b = omega arith
+use Rattle.ir_core.specs.Size.{total, argument_count, line_size, block_size, sig_size, size_at, capped}
 
 pub capped_both : (a b : ℕ) → capped (capped a + capped b) ≡ capped (a + b)
 capped_both a b = omega arith
-
-pub capped_right : (a b : ℕ) → capped (a + capped b) ≡ capped (a + b)
-capped_right a b = omega arith
 
 pub total_join : {A : Type 0} (f : A → ℕ) (xs ys : List A) → total f (xs ++ ys) ≡ total f xs + total f ys
 total_join f [] ys = omega arith
@@ -62,3 +57,11 @@ total_numbers bs d = go [] bs refl
 pub each_in : {A : Type 0} (xs ys : List A) → ((x : A) → In x ys → In x xs) → Each (λ x. In x xs) ys
 each_in xs [] h = tt
 each_in xs (y ∷ ys) h = (h y (inl refl), each_in xs ys (λ x i. h x (inr i)))
+
+pub sigs_count : (ss : List Sig) → length ss ≤ total sig_size ss
+sigs_count [] = omega arith
+sigs_count (s ∷ ss) = let a = sigs_count ss in omega (arith, a)
+
+pub blocks_count : (bs : List Block) → length bs ≤ total block_size bs
+blocks_count [] = omega arith
+blocks_count (b ∷ bs) = let a = blocks_count bs in omega (arith, a)

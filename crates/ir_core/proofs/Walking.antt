@@ -20,17 +20,9 @@ pub walk_past : (ks : List BlockData) (left : ℕ) (o : Option ℕ) (b : ℕ) �
 walk_past ks zero o b h l = refl
 walk_past ks (suc n) o b h l = ap (walk (nexts ks) (suc n)) h ∙ ap (λ q. elim q as (λ z. List ℕ) [ None ↦ [] | Some p ↦ b ∷ walk (nexts ks) n p ]) (slice_get_past (nexts ks) b (omega (arith, l, length_nexts ks)))
 
-pub walk_none : (ns : List (Option ℕ)) (left : ℕ) (o : Option ℕ) → o ≡ None → walk ns left o ≡ []
-walk_none ns zero o h = refl
-walk_none ns (suc n) o h = ap (walk ns (suc n)) h
-
 pub has_first : (ks : List BlockData) (o : Option ℕ) (bs : List ℕ) → Linked (nexts ks) o bs → is_some o ≡ true → 0 < length bs
 has_first ks o [] l h = let e : false ≡ true = sym (ap is_some l) ∙ h in cc
 has_first ks o (b ∷ bs) l h = omega arith
-
-pub some_first : (ns : List (Option ℕ)) (o : Option ℕ) (b : ℕ) (bs : List ℕ) → Linked ns o bs → o ≡ Some b → 0 < length bs
-some_first ns o b [] l h = let e : None ≡ Some b = sym l ∙ h in cc
-some_first ns o b (c ∷ bs) l h = omega arith
 
 pub type_found : (n p v : ℕ) (ts : List Ty) → p ≡ n + v → type_in (enumerate_from n ts) p ≡ slice_get ts v
 type_found n p v [] e = refl

@@ -1,5 +1,5 @@
 -- A function with its spare room, and what a call that changes a function makes of its blocks.
-use Rattle.std.specs.Prelude.{ℕ, ◌<◌, ◌≤◌, Option, Some, None, List, [], ◌∷◌, ◌++◌, length, nat_eq, if◌then◌else◌}
+use Rattle.std.specs.Prelude.{ℕ, ◌<◌, ◌≤◌, Option, Some, None, List, [], ◌∷◌, ◌++◌, length, map, nat_eq, if◌then◌else◌}
 use Rattle.ir_core.specs.declared.room.Room.{Room}
 use Rattle.ir_core.specs.declared.places.Point.{Point}
 use Rattle.ir_core.specs.Module.{Block, Line, Function}
@@ -55,6 +55,13 @@ params_of a (b ∷ bs) = if nat_eq b.number a then b.params else params_of a bs
 abbrev pub lines_of : ℕ → List Block → List Line
 lines_of a [] = []
 lines_of a (b ∷ bs) = if nat_eq b.number a then b.lines else lines_of a bs
+
+-- the block of a number
+abbrev pub block_at : List Block → ℕ → Block
+block_at bs n = record { number = n; params = params_of n bs; lines = lines_of n bs }
+
+abbrev pub blocks_at : List Block → List ℕ → List Block
+blocks_at bs ns = map (block_at bs) ns
 
 abbrev pub first_number : List Block → Option ℕ
 first_number [] = None

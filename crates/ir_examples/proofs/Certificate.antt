@@ -4,6 +4,7 @@
 use Rattle.std.proofs.Common.{refl, inl, inr, sym, ap, subst, ◌∙◌, eq-eqb, ltb-true}
 use Rattle.std.specs.Prelude.{◌≡◌, ◌<◌, ℕ, zero, suc, List, [], ◌∷◌, ◌++◌, length, Option, Some, None, Bool, true, false, not, ◌&&◌, ◌||◌, nat_eq, nat_lt, if◌then◌else◌, slice_get}
 use Rattle.std.specs.List.{list_all}
+use Rattle.std.proofs.lemmas.Bool.{and_parts}
 use Rattle.ir_core.specs.declared.declarations.Callee.{Callee}
 use Rattle.ir_core.specs.declared.instructions.BlockCall.{BlockCall}
 use Rattle.ir_core.specs.declared.places.Item.{Item}
@@ -14,27 +15,22 @@ use Rattle.ir_core.specs.Lookup.{find_block, definitions, block_numbers}
 use Rattle.ir_core.specs.Uses.{targets, values_used, blocks_used, slots_used, slots_shown, callees_used, sigs_used}
 use Rattle.ir_core.specs.WellFormed.{declared, LineWellFormed, BlockWellFormed, WellFormed, DifferentNames, IsModule}
 use Rattle.ir_core.proofs.Equal.{number_equal}
-use Rattle.ir_core.proofs.Members.{in_left, in_right, in_cases}
+use Rattle.ir_core.proofs.Members.{in_left, in_right, in_cases, each_in}
+use Rattle.ir_core.proofs.Gets.{some_same, get_in}
 use Rattle.ir_semantics.specs.Splice.{first_number}
 use Rattle.ir_semantics.specs.Available.{Reach, begin, next, branch, Available}
 use Rattle.ir_semantics.specs.Accepted.{Rule, no_terminator, entry_target, count_mismatch, type_mismatch, convention, signature_mismatch, slot_range, tag_place, not_available, Holds, Accepted}
 use Rattle.ir_check.specs.Faults.{Check, checks, FirstBad, this, later, Passed, FirstFault}
 use Rattle.ir_check.specs.Twins.{kept, kept_at_line, empty, if_some, passes, first_failing, first_fault}
-use Rattle.ir_check.proofs.Firsts.{each_at, get_in, checks_of, accepted_of}
+use Rattle.ir_check.proofs.Firsts.{checks_of, accepted_of}
 use Rattle.ir_check.proofs.ByTests.{rules_are_tests}
+use Rattle.call_graph.proofs.PieceNumbers.{not_true}
 
 -- ---- words
 
-some_same : {A : Type 0} {a b : A} → Some a ≡ Some b → a ≡ b
-some_same q = cc
-
-both : (a b : Bool) → a && b ≡ true → (a ≡ true) × (b ≡ true)
-both true b h = (refl, h)
-both false b h = cc
-
 all_each : {A : Type 0} (t : A → Bool) (P : A → Type 0) → ((a : A) → t a ≡ true → P a) → (xs : List A) → list_all t xs ≡ true → Each P xs
 all_each t P shows [] h = tt
-all_each t P shows (x ∷ xs) h = let q = both (t x) (list_all t xs) h in (shows x q.0, all_each t P shows xs q.1)
+all_each t P shows (x ∷ xs) h = let q = and_parts (t x) (list_all t xs) h in (shows x q.0, all_each t P shows xs q.1)
 
 -- each test of a list of tests
 abbrev all_true : List Bool → Bool
@@ -68,20 +64,16 @@ in_contains (x ∷ xs) v i =
     or_true false = refl
 
 all_in : (ys xs : List ℕ) → list_all (contains ys) xs ≡ true → (v : ℕ) → In v xs → In v ys
-all_in ys xs h v i = each_at (λ z. In z ys) xs (all_each (contains ys) (λ z. In z ys) (contains_in ys) xs h) v i
+all_in ys xs h v i = each_in (λ z. In z ys) xs (all_each (contains ys) (λ z. In z ys) (contains_in ys) xs h) v i
 
 -- no number stands in the list twice
 abbrev pub different : List ℕ → Bool
 different [] = true
 different (n ∷ ns) = not (contains ns n) && different ns
 
-refuted : (z : Bool) → not z ≡ true → z ≡ true → ⊥
-refuted true h q = cc
-refuted false h q = cc
-
 different_is : (ns : List ℕ) → different ns ≡ true → Different ns
 different_is [] h = tt
-different_is (n ∷ ns) h = let q = both (not (contains ns n)) (different ns) h in (λ i. refuted (contains ns n) q.0 (in_contains ns n i), different_is ns q.1)
+different_is (n ∷ ns) h = let q = and_parts (not (contains ns n)) (different ns) h in (λ i. not_true (contains ns n) q.0 (in_contains ns n i), different_is ns q.1)
 
 -- ---- well-formed functions
 
@@ -135,7 +127,7 @@ line_is f l h =
     }
 
 not_empty : {A : Type 0} (xs : List A) → not (empty xs) ≡ true → xs ≡ [] → ⊥
-not_empty xs h q = refuted (empty xs) h (ap empty q)
+not_empty xs h q = not_true (empty xs) h (ap empty q)
 
 pub well_formed_is : (f : Function) → well_formed f ≡ true → WellFormed f
 well_formed_is f h =
@@ -206,18 +198,18 @@ module _ (known : ℕ → List ℕ) where
 
   line_known : (defs : List ℕ) (ls : List Line) (i : ℕ) (l : Line) → lines_known defs ls ≡ true → slice_get ls i ≡ Some l → list_all (target_known (defined_before defs ls i)) (targets l.inst) ≡ true
   line_known defs [] i l h g = cc
-  line_known defs (k ∷ ls) zero l h g = subst (λ (z : Line). list_all (target_known defs) (targets z.inst) ≡ true) (some_same g) (both (list_all (target_known defs) (targets k.inst)) (lines_known (k.results ++ defs) ls) h).0
-  line_known defs (k ∷ ls) (suc i) l h g = line_known (k.results ++ defs) ls i l (both (list_all (target_known defs) (targets k.inst)) (lines_known (k.results ++ defs) ls) h).1 g
+  line_known defs (k ∷ ls) zero l h g = subst (λ (z : Line). list_all (target_known defs) (targets z.inst) ≡ true) (some_same g) (and_parts (list_all (target_known defs) (targets k.inst)) (lines_known (k.results ++ defs) ls) h).0
+  line_known defs (k ∷ ls) (suc i) l h g = line_known (k.results ++ defs) ls i l (and_parts (list_all (target_known defs) (targets k.inst)) (lines_known (k.results ++ defs) ls) h).1 g
 
   -- at a branch
   at_branch : (f : Function) → is_known f ≡ true → (b i : ℕ) (block : Block) → find_block b f.blocks ≡ Some block → (l : Line) → slice_get block.lines i ≡ Some l → (t : BlockCall) → In t (targets l.inst) → (v : ℕ) → In v (known t.block) → In v (defined_at f b i)
   at_branch f h b i block q l p t is v k =
       let found = block_found b f.blocks block q in
-      let each = all_each block_known (λ z. block_known z ≡ true) (λ z e. e) f.blocks (both (empty (known (first_number f.blocks))) (list_all block_known f.blocks) h).1 in
-      let one = subst (λ n. lines_known (block.params ++ known n) block.lines ≡ true) found.0 (each_at (λ z. block_known z ≡ true) f.blocks each block found.1) in
+      let each = all_each block_known (λ z. block_known z ≡ true) (λ z e. e) f.blocks (and_parts (empty (known (first_number f.blocks))) (list_all block_known f.blocks) h).1 in
+      let one = subst (λ n. lines_known (block.params ++ known n) block.lines ≡ true) found.0 (each_in (λ z. block_known z ≡ true) f.blocks each block found.1) in
       let line = line_known (block.params ++ known b) block.lines i l one p in
       let defs = defined_before (block.params ++ known b) block.lines i in
-      let target = each_at (λ z. target_known defs z ≡ true) (targets l.inst) (all_each (target_known defs) (λ z. target_known defs z ≡ true) (λ z e. e) (targets l.inst) line) t is in
+      let target = each_in (λ z. target_known defs z ≡ true) (targets l.inst) (all_each (target_known defs) (λ z. target_known defs z ≡ true) (λ z e. e) (targets l.inst) line) t is in
       subst (In v) (sym (ap (defined_in b i) q)) (all_in defs (known t.block) target v k)
 
   -- each path has defined them
@@ -228,7 +220,7 @@ module _ (known : ℕ → List ℕ) where
       entered = ap (λ bs. defined_in first.number 0 (find_block first.number bs)) q ∙ ap (λ z. defined_in first.number 0 (if z then Some first else find_block first.number others)) (eq-eqb first.number first.number refl)
 
       none : empty (known first.number) ≡ true
-      none = subst (λ bs. empty (known (first_number bs)) ≡ true) q (both (empty (known (first_number f.blocks))) (list_all block_known f.blocks) h).0
+      none = subst (λ bs. empty (known (first_number bs)) ≡ true) q (and_parts (empty (known (first_number f.blocks))) (list_all block_known f.blocks) h).0
 
       nothing : (xs : List ℕ) → empty xs ≡ true → In v xs → ⊥
       nothing [] e i = i
@@ -305,7 +297,7 @@ module _ (known : Function → ℕ → List ℕ) (m : Module) where
   passes_good : all_known ≡ true → (c : Check) → In c (checks m) → passes known_available m c ≡ true → Passed m c
   passes_good h c i q =
       let each = all_each (λ f. is_known (known f) f) (λ f. is_known (known f) f ≡ true) (λ f e. e) m h in
-      holds known_available m c.func (available (known c.func) c.func (each_at (λ f. is_known (known f) f ≡ true) m each c.func (get_in m c.number c.func (checks_of m c i)))) c.place c.rule q
+      holds known_available m c.func (available (known c.func) c.func (each_in (λ f. is_known (known f) f ≡ true) m each c.func (get_in m c.number c.func (checks_of m c i)))) c.place c.rule q
 
   -- a module in which the tests find no fault is accepted
   pub accepted : all_known ≡ true → first_fault known_available m ≡ None → Accepted m

@@ -18,9 +18,10 @@ use Rattle.ir_semantics.specs.Available.{Reach, begin, next, branch}
 use Rattle.ir_semantics.specs.Splice.{Splicing, sides}
 use Rattle.ir_semantics.specs.Site.{Site}
 use Rattle.ir_core.specs.WellFormed.{WellFormed, IsModule}
+use Rattle.ir_core.proofs.Gets.{some_same}
 use Rattle.ir_semantics.specs.Accepted.{Rule, no_terminator, entry_target, count_mismatch, type_mismatch, convention, signature_mismatch, slot_range, tag_place, not_available, HoldsAtLine, HoldsAtBlock, HoldsAtCallee, RulesHold, Accepted}
 use Rattle.ir_semantics.specs.CallRules.{Declared}
-use Rattle.ir_semantics.proofs.SafetyTypes.{some_same, head_same}
+use Rattle.ir_semantics.proofs.SafetyTypes.{head_same}
 use Rattle.ir_examples.proofs.Written.{declares, f, g, of_i64, line, returns, block, function}
 
 abbrev last_line : Line

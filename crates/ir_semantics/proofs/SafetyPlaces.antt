@@ -1,5 +1,5 @@
 -- What a whole function has, where it is used: its lines, declared types, declarations, and addresses of names.
-use Rattle.std.proofs.Common.{◌≡◌, ℕ, zero, suc, ◌<◌, inl, inr, List, [], ◌∷◌, ◌++◌, length, map, Option, Some, None, Bool, true, false, refl, sym, ap, ◌∙◌, subst, arith, eq-eqb, ne_eqb}
+use Rattle.std.proofs.Common.{◌≡◌, ℕ, zero, suc, inl, inr, List, [], ◌∷◌, ◌++◌, map, Option, Some, None, Bool, true, false, refl, sym, ap, ◌∙◌, subst, eq-eqb, ne_eqb}
 use Rattle.std.specs.Prelude.{IsSome, IsSomeAnd, slice_get, if◌then◌else◌}
 use Rattle.std.specs.List.{list_any}
 use Rattle.std.proofs.lemmas.Bool.{cases_eq}
@@ -12,7 +12,7 @@ use Rattle.ir_core.specs.declared.declarations.Callee.{Callee}
 use Rattle.ir_core.specs.declared.instructions.BlockCall.{BlockCall}
 use Rattle.ir_core.specs.Module.{Line, Block, Function, Module}
 use Rattle.ir_core.specs.Lookup.{same_name, find_function, find_block, type_in, type_of, definitions}
-use Rattle.ir_core.specs.Lists.{In, Each}
+use Rattle.ir_core.specs.Lists.{In}
 use Rattle.ir_semantics.specs.Names.{name_before, with_name, in_order, mentioned, names, address, address_from, address_of}
 use Rattle.ir_semantics.specs.Values.{cons_some}
 use Rattle.ir_semantics.specs.Step.{numbers}
@@ -20,24 +20,11 @@ use Rattle.ir_core.specs.Uses.{arg_values_used, targets_used}
 use Rattle.ir_core.specs.WellFormed.{declared, LineWellFormed, BlockWellFormed, WellFormed}
 use Rattle.ir_semantics.specs.TypeRules.{types_of}
 use Rattle.ir_core.proofs.Equal.{cases_name, equal_name, name_equal}
-use Rattle.ir_semantics.proofs.SafetyTypes.{some_same, EachSome}
+use Rattle.ir_core.proofs.Gets.{some_same, get_in}
+use Rattle.ir_core.proofs.Members.{each_in}
+use Rattle.ir_semantics.proofs.SafetyTypes.{EachSome}
 
 -- ---- parts of lists
-
-pub each_in : {A : Type 0} (P : A → Type 0) (as' : List A) → Each P as' → (a : A) → In a as' → P a
-each_in P [] h a p = elim p [ ]
-each_in P (b ∷ as') h a (inl q) = subst P (sym q) h.0
-each_in P (b ∷ as') h a (inr p) = each_in P as' h.1 a p
-
-pub get_in : {A : Type 0} (as' : List A) (i : ℕ) (a : A) → slice_get as' i ≡ Some a → In a as'
-get_in [] i a h = cc
-get_in (b ∷ as') zero a h = inl (sym (some_same h))
-get_in (b ∷ as') (suc i) a h = inr (get_in as' i a h)
-
-pub get_below : {A : Type 0} (as' : List A) (i : ℕ) → i < length as' → (a : A) × (slice_get as' i ≡ Some a)
-get_below [] i h = absurd (omega arith)
-get_below (a ∷ as') zero h = (a, refl)
-get_below (a ∷ as') (suc i) h = get_below as' i (omega arith)
 
 pub in_left : (us vs : List ℕ) (v : ℕ) → In v us → In v (us ++ vs)
 in_left [] vs v p = elim p [ ]
@@ -93,7 +80,7 @@ param_defined [] b is v p = elim is [ ]
 param_defined (c ∷ bs) b (inl q) v p = in_left c.params _ v (subst (λ (z : Block). In v z.params) q p)
 param_defined (c ∷ bs) b (inr is) v p = in_right c.params _ v (in_right _ (definitions bs) v (param_defined bs b is v p))
 
-has_type : (types : List (ℕ × Ty)) (v : ℕ) → In v (map (λ x. x.0) types) → (t : Ty) × (type_in types v ≡ Some t)
+pub has_type : (types : List (ℕ × Ty)) (v : ℕ) → In v (map (λ x. x.0) types) → (t : Ty) × (type_in types v ≡ Some t)
 has_type [] v p = elim p [ ]
 has_type (x ∷ types) v p =
     elim (cases_eq x.0 v) [
@@ -140,7 +127,7 @@ with_others n y (x ∷ xs) p = go (same_name y x) (name_before y x) (λ q. with_
     go false true ih = inr p
     go false false ih = elim p [ inl e ↦ inl e | inr q ↦ inr (ih q) ]
 
-in_ordered : (n : FuncName) (ns : List FuncName) → In n ns → In n (in_order ns)
+pub in_ordered : (n : FuncName) (ns : List FuncName) → In n ns → In n (in_order ns)
 in_ordered n [] p = elim p [ ]
 in_ordered n (x ∷ ns) (inl q) = subst (λ z. In n (with_name z (in_order ns))) q (with_self n (in_order ns))
 in_ordered n (x ∷ ns) (inr p) = with_others n x (in_order ns) (in_ordered n ns p)

@@ -7,10 +7,11 @@ use Rattle.ir_semantics.specs.Machine.{Frame, Wait, World, Stuck, Moment, On, Ov
 use Rattle.ir_semantics.specs.Step.{step, step_at}
 use Rattle.ir_semantics.specs.Runs.{run, first}
 use Rattle.ir_core.specs.WellFormed.{WellFormed, IsModule}
+use Rattle.ir_core.proofs.Members.{each_in}
 use Rattle.ir_semantics.specs.Accepted.{Accepted}
 use Rattle.ir_semantics.specs.NeverStuck.{NeverStuck}
 use Rattle.ir_semantics.proofs.SafetyTypes.{entry_values_fit}
-use Rattle.ir_semantics.proofs.SafetyPlaces.{each_in, function_in, from_get}
+use Rattle.ir_semantics.proofs.SafetyPlaces.{function_in, from_get}
 use Rattle.ir_semantics.proofs.SafetyStands.{NotStuck, Good, Stands, SafeMoment, begin_safe}
 use Rattle.ir_semantics.proofs.SafetySteps.{line_safe}
 

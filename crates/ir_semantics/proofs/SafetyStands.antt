@@ -21,11 +21,13 @@ use Rattle.ir_semantics.specs.Effect.{arg_values}
 use Rattle.ir_semantics.specs.Step.{must, with_event, enter, enter_target, give_to, resume, table_of, Search, Missed, Hit, search_in, throw, frame_at, begin as begun}
 use Rattle.ir_semantics.specs.Splice.{first_number}
 use Rattle.ir_core.specs.WellFormed.{WellFormed}
+use Rattle.ir_core.proofs.Gets.{some_same}
+use Rattle.ir_core.proofs.Members.{each_in}
 use Rattle.ir_semantics.specs.Accepted.{Rule, no_terminator, type_mismatch, not_available, HoldsAtLine, RulesHold}
 use Rattle.ir_semantics.specs.EndRules.{EndsRightly}
 use Rattle.ir_semantics.specs.TypeRules.{types_of, each_some, arg_type, HaveTypes, TargetTypes, InstructionTypes}
-use Rattle.ir_semantics.proofs.SafetyTypes.{some_same, Has, FitAll, Typed, bind_ok, There, args_there}
-use Rattle.ir_semantics.proofs.SafetyPlaces.{each_in, in_left, in_right, in_targets, some_and, find_first, params_known, From}
+use Rattle.ir_semantics.proofs.SafetyTypes.{Has, FitAll, Typed, bind_ok, There, args_there}
+use Rattle.ir_semantics.proofs.SafetyPlaces.{in_left, in_right, in_targets, some_and, find_first, params_known, From}
 
 abbrev pub NotStuck : End → Type 0
 NotStuck Stuck = ⊥

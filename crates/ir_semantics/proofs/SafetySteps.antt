@@ -35,8 +35,10 @@ use Rattle.ir_semantics.specs.SlotRules.{SimpleSlot, InstructionSlot}
 use Rattle.ir_semantics.specs.CallRules.{InstructionTags, Declared}
 use Rattle.ir_core.specs.Forms.{access_type}
 use Rattle.ir_core.proofs.Equal.{sig_equal}
-use Rattle.ir_semantics.proofs.SafetyTypes.{some_same, then_some, Has, FitsOne, FitAll, There, all_there, width_ty, no_values_fit, widths_fit, operand_widths, host_values_fit}
-use Rattle.ir_semantics.proofs.SafetyPlaces.{each_in, in_left, in_right, get_below, some_and, is_some_is, function_in, line_whole, callee_address, numbers_there, From}
+use Rattle.ir_core.proofs.Gets.{some_same, get_some}
+use Rattle.ir_core.proofs.Members.{each_in}
+use Rattle.ir_semantics.proofs.SafetyTypes.{then_some, Has, FitsOne, FitAll, There, all_there, width_ty, no_values_fit, widths_fit, operand_widths, host_values_fit}
+use Rattle.ir_semantics.proofs.SafetyPlaces.{in_left, in_right, some_and, is_some_is, function_in, line_whole, callee_address, numbers_there, From}
 use Rattle.ir_semantics.proofs.SafetyStands.{NotStuck, Good, rule_at, Stands, Awaits, SafeBelow, SafeMoment, must_safe, maybe_safe, operands_there, enter_safe, target_values, next_line, next_safe, inst_types, resume_safe, throw_safe, begin_safe}
 
 loaded_width : (access : Access) (n : ℕ) → (loaded access n).width ≡ width_of (access_type access)
@@ -188,7 +190,7 @@ module _ (m : Module) (goods : (f : Function) → In f m → Good m f) where
         (need_fine (slot_place x.func j offset (bytes_in r.0.width)) Stuck (λ o. Go [] (put_bytes x.slots j o (bytes_of (bytes_in r.0.width) r.0.value)) w.memory) o.0 (ap (λ z. slot_place x.func j offset (bytes_in z)) (width_is v t.0 t.1 r.0 r.1) ∙ o.1)
         (go_fine (sym q) [] (put_bytes x.slots j o.0 (bytes_of (bytes_in r.0.width) r.0.value)) w.memory (no_values_fit x.func l.results count)))
     simple_safe (FuncAddr j) q types count slot has callees =
-        let c = get_below x.func.callees j callees.0 in
+        let c = get_some x.func.callees j callees.0 in
         let a = callee_address m x.func st.good.there j c.0 c.1 in
         need_fine (slice_get x.func.callees j) Stuck (λ c. need (address_of (names m) c.name) Stuck (λ a. Go (i64 a ∷ []) x.slots w.memory)) c.0 c.1
         (need_fine (address_of (names m) c.0.name) Stuck (λ a. Go (i64 a ∷ []) x.slots w.memory) a.0 a.1 (go_fine (sym q) (i64 a.0 ∷ []) x.slots w.memory (one_fits I64 types.1 (i64 a.0) refl)))

@@ -14,13 +14,11 @@ use Rattle.ir_core.specs.Module.{Function}
 use Rattle.ir_core.specs.Lookup.{and_then, type_of, width_of, ty_of}
 use Rattle.ir_core.specs.Lists.{In}
 use Rattle.ir_core.specs.Uses.{arg_values_used}
+use Rattle.ir_core.proofs.Gets.{some_same}
 use Rattle.ir_semantics.specs.Values.{Env, cons_some, all_of, put, bind, value_for, values_for}
 use Rattle.ir_semantics.specs.Effect.{arg_value}
 use Rattle.ir_semantics.specs.TypeRules.{types_of, each_some, arg_type, HaveTypes, width_at, widths_of_values}
 use Rattle.ir_semantics.specs.Runs.{HaveTypes as TypesOfAll}
-
-pub some_same : {A : Type 0} {x y : A} → Some x ≡ Some y → x ≡ y
-some_same e = cc
 
 pub head_same : {A : Type 0} {x y : A} {xs ys : List A} → (x ∷ xs) ≡ (y ∷ ys) → x ≡ y
 head_same e = cc
@@ -28,10 +26,10 @@ head_same e = cc
 pub tail_same : {A : Type 0} {x y : A} {xs ys : List A} → (x ∷ xs) ≡ (y ∷ ys) → xs ≡ ys
 tail_same e = cc
 
-put_same : (e : Env) (v : ℕ) (x : DataValue) (w : ℕ) → w ≡ v → put e v x w ≡ Some x
+pub put_same : (e : Env) (v : ℕ) (x : DataValue) (w : ℕ) → w ≡ v → put e v x w ≡ Some x
 put_same e v x w h = ap (λ b. if b then Some x else e w) (eq-eqb w v h)
 
-put_other : (e : Env) (v : ℕ) (x : DataValue) (w : ℕ) → (w ≡ v → ⊥) → put e v x w ≡ e w
+pub put_other : (e : Env) (v : ℕ) (x : DataValue) (w : ℕ) → (w ≡ v → ⊥) → put e v x w ≡ e w
 put_other e v x w h = ap (λ b. if b then Some x else e w) (ne_eqb w v h)
 
 -- ---- values that are there, and of their types
@@ -169,7 +167,7 @@ pub then_some : {A B : Type 0} (o : Option A) (go : A → Option B) (b : B) → 
 then_some None go b h = cc
 then_some (Some a) go b h = (a, refl, h)
 
-both_some : {A : Type 0} (o : Option A) (p : Option (List A)) (ys : List A) → cons_some o p ≡ Some ys → (a : A) × (as' : List A) × (o ≡ Some a) × (p ≡ Some as') × (a ∷ as' ≡ ys)
+pub both_some : {A : Type 0} (o : Option A) (p : Option (List A)) (ys : List A) → cons_some o p ≡ Some ys → (a : A) × (as' : List A) × (o ≡ Some a) × (p ≡ Some as') × (a ∷ as' ≡ ys)
 both_some None p ys h = cc
 both_some (Some a) None ys h = cc
 both_some (Some a) (Some as') ys h = (a, as', refl, refl, some_same h)

@@ -1,7 +1,6 @@
 -- Words that are defined, once or more often, and the places of values among them.
 use Rattle.std.proofs.Common.{◌≡◌, ℕ, zero, suc, ◌<◌, inl, inr, List, [], ◌∷◌, ◌++◌, length, slice_get, Option, None, Some, refl, sym, ap, ◌∙◌, arith, eq-eqb}
 use Rattle.std.proofs.lemmas.Bool.Decides.{eqb_tells}
-use Rattle.ir_core.specs.Lists.{In}
 use Rattle.token_reader.specs.declared.raw.RawName.{RawName}
 use Rattle.name_tables.specs.declared.firsts.Def.{Def}
 use Rattle.name_tables.specs.Definitions.{names_of}
@@ -29,11 +28,6 @@ place_front (x ∷ xs) ys n e h none = elim (eqb_tells n x.name.number) [
     there : (o : Option RawName) → x.target ≡ o → (n ≡ x.name.number → ⊥) → place_in (numbered (xs ++ ys)) n < length (numbered xs) → place_in (numbered (x ∷ xs ++ ys)) n < length (numbered (x ∷ xs))
     there None t ne h = rw (t, place_there x.name (numbered (xs ++ ys)) n ne) (omega (arith, h))
     there (Some m) t ne h = rw t h
-
-pub in_place : {A : Type 0} (xs : List A) (x : A) → In x xs → (i : ℕ) × (slice_get xs i ≡ Some x)
-in_place [] x h = absurd h
-in_place (y ∷ ys) x (inl e) = (0, ap (λ z. Some z) (sym e))
-in_place (y ∷ ys) x (inr h) = let p = in_place ys x h in (suc p.0, p.1)
 
 -- ---- words that are defined
 

@@ -1,5 +1,5 @@
 -- Words that increase are searched.
-use Rattle.std.proofs.Common.{◌≡◌, ℕ, zero, suc, ◌+◌, ◌-◌, ◌<◌, ◌≤◌, true, false, inl, inr, cond, nat_eq, List, [], ◌∷◌, ◌++◌, length, length-append, get_or, take, Option, None, Some, is_none, refl, sym, ap, ◌∙◌, arith}
+use Rattle.std.proofs.Common.{◌≡◌, ℕ, zero, suc, ◌+◌, ◌-◌, ◌<◌, ◌≤◌, true, false, inl, inr, cond, nat_eq, List, [], ◌∷◌, ◌++◌, length, get_or, take, Option, None, Some, is_none, refl, sym, ap, ◌∙◌, arith}
 use Rattle.std.specs.Prelude.{position, Result, Ok, Err}
 use Rattle.std.specs.Result.{result_ok}
 use Rattle.std.specs.Ordering.{nat_cmp}
@@ -7,7 +7,7 @@ use Rattle.std.specs.List.{position_or_len}
 use Rattle.std.specs.List.Sorted.{IsBinarySearchResult}
 use Rattle.std.proofs.lemmas.Bool.{eq-eqb}
 use Rattle.std.proofs.lemmas.Bool.Decides.{eqb_tells, leb_tells}
-use Rattle.std.proofs.lemmas.List.{take_more, length-take-le, get_or-take, get_or_push, get_or_append_left}
+use Rattle.std.proofs.lemmas.List.{take_more, length-take-le, get_or-take}
 use Rattle.std.proofs.lemmas.List.Sorted.{searched}
 use Rattle.std.proofs.lemmas.List.Sums.{position_or_len_is}
 use Rattle.name_tables.specs.Dense.{IsIncreasing, or_far}
@@ -34,25 +34,6 @@ found ws x (Err i) h up =
     ]) in
     let none : position_or_len (nat_eq x) ws ≡ length ws = position_or_len_is (nat_eq x) ws (length ws) 0 (omega arith) other (λ less. absurd (omega (arith, less))) in
     sym (rw (none, not_less (length ws) (length ws) (omega arith)) refl)
-
--- a greater word behind them
-pub increasing_more : (ws : List ℕ) (x : ℕ) → ((k : ℕ) → k + 1 ≡ length ws → get_or ws k 0 < x) → IsIncreasing ws → IsIncreasing (ws ++ x ∷ [])
-increasing_more ws x last up i j less within = elim (leb_tells (suc j) (length ws)) [
-  | inl t ↦ (
-      let before : j < length ws = t.1 in
-      let one = get_or_append_left ws (x ∷ []) 0 i (omega (arith, less, before)) in
-      let other = get_or_append_left ws (x ∷ []) 0 j before in
-      rw (one, other) (up i j less before))
-  | inr f ↦ (
-      let k : length ws < suc j = f.1 in
-      let long = length-append ws (x ∷ []) in
-      let e : length ws ≡ j = omega (arith, k, within, long) in
-      let one = get_or_append_left ws (x ∷ []) 0 i (omega (arith, less, e)) in
-      let other : get_or (ws ++ x ∷ []) j 0 ≡ x = get_or_push ws x 0 j e in
-      let le = rises ws up i (length ws - 1) (omega (arith, less, e)) (omega (arith, less, e)) in
-      let below = last (length ws - 1) (omega (arith, less, e)) in
-      rw (one, other) (omega (arith, le, below)))
-]
 
 module _ (ws near : List ℕ) (up : IsIncreasing ws) (i : ℕ) (within : i < length ws) (far : ℕ → Option ℕ)
     (before : (n : ℕ) → or_far (get_or near n 0) (far n) ≡ or_far (get_or near n 0) (position (nat_eq n) (take i ws))) where

@@ -25,8 +25,8 @@ use Rattle.name_tables.specs.Definitions.{Step, Param, Line as Written, block_st
 use Rattle.clif_meaning.specs.Instructions.{may_leave_out, line_of}
 use Rattle.clif_meaning.specs.Meaning as says
 use Rattle.text_read_back.specs.RawOf as raws
-use Rattle.ir_core.proofs.Members.{in_left, in_right}
-use Rattle.text_read_back.proofs.Lists.{each_in, places, same_number, type_there}
+use Rattle.ir_core.proofs.Members.{in_left, in_right, each_by}
+use Rattle.text_read_back.proofs.Lists.{places, same_number, type_there}
 use Rattle.names_read_back.specs.ReadNames.{printed}
 use Rattle.names_read_back.proofs.CanonTypes.{types_kept}
 use Rattle.names_read_back.proofs.Declarations.{name_back, sig_back, slots_back, sigs_back}
@@ -123,7 +123,7 @@ module _ (f : Function) (is : WellFormed f) where
     before v k = typed v (omega arith)
 
     line_is : LineWellFormed f l → ((v : ℕ) → In v l.results → Defined v) → says.lines_with raw value types (raws.line f n next l) ≡ line_under names l ∷ []
-    line_is w d = ap (λ (x : Line). x ∷ []) (line_back f n at (type_in types) next before l h.0 ∙ line_canonical f is l w (each_in Defined l.results d))
+    line_is w d = ap (λ (x : Line). x ∷ []) (line_back f n at (type_in types) next before l h.0 ∙ line_canonical f is l w (each_by Defined l.results d))
 
     abbrev line_read : Line
     line_read = line_of at (says.inst_type raw value types own) (map raws.debug_tag l.tags) (raws.values n l.results) own
@@ -135,7 +135,7 @@ module _ (f : Function) (is : WellFormed f) where
         let both = inst_type f n at (type_in types) next before l l.inst h.0 in
         let u = says.inst_type raw value types own in
         let form = form_types_are f meant names same l u (λ t e. kept_is (may_leave_out own.opcode.kind own.operands) u t (both.1 ∙ e)) l.inst h.0 in
-        let same_line : line_read ≡ line_under names l = line_back f n at (type_in types) next before l h.0 ∙ line_canonical f is l w (each_in Defined l.results d) in
+        let same_line : line_read ≡ line_under names l = line_back f n at (type_in types) next before l h.0 ∙ line_canonical f is l w (each_by Defined l.results d) in
         results_typed f n l.results (says.form_types meant line_read.inst u)
         (subst (λ (x : Line). ResultTypes f l.results (says.form_types meant x.inst u)) (sym same_line) form)
 

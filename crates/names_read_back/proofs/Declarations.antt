@@ -76,11 +76,6 @@ pub none_of : {A B : Type 0} (g : RawDecl → List B) (decl : ℕ → A → RawD
 none_of g decl h k [] = refl
 none_of {A} {B} g decl h k (x ∷ xs) = ap₂ (λ (y z : List B). y ++ z) (h k x) (none_of g decl h (k + 1) xs)
 
--- what declarations of one kind give, one for each
-each_of : {A B : Type 0} (g : RawDecl → List B) (decl : ℕ → A → RawDecl) (give : ℕ → A → B) → ((k : ℕ) (x : A) → g (decl k x) ≡ give k x ∷ []) → (k : ℕ) (x : A) (xs : List A)
-    → flat_map g (raws.numbered decl k (x ∷ xs)) ≡ give k x ∷ flat_map g (raws.numbered decl (k + 1) xs)
-each_of {A} {B} g decl give h k x xs = ap (λ (y : List B). y ++ flat_map g (raws.numbered decl (k + 1) xs)) (h k x)
-
 abbrev slot_with : ℕ → ℕ → SlotDecl
 slot_with s a = record { size = s; align = a }
 

@@ -1,6 +1,6 @@
 -- In the raw module that a canonical text is no word is defined twice, and no chain of aliases goes on for ever.
-use Rattle.std.proofs.Common.{◌≡◌, ℕ, zero, suc, ◌+◌, ◌<◌, ◌≤◌, Bool, true, false, cond, List, [], ◌∷◌, map, length, Option, Some, None, refl, sym, ap, ap₂, subst, ◌∙◌, arith, inl, inr}
-use Rattle.std.specs.Prelude.{ℤ, flat_map, slice_get}
+use Rattle.std.proofs.Common.{◌≡◌, ℕ, zero, suc, ◌+◌, ◌<◌, ◌≤◌, Bool, true, false, cond, List, [], ◌∷◌, map, length, Option, Some, None, refl, sym, ap, subst, ◌∙◌, arith, inl, inr}
+use Rattle.std.specs.Prelude.{flat_map, slice_get}
 use Rattle.std.specs.List.{range_with_len}
 use Rattle.ir_core.specs.declared.names.FuncName.{FuncName}
 use Rattle.ir_core.specs.declared.names.FuncName.TheVariants as names
@@ -11,7 +11,6 @@ use Rattle.ir_core.specs.WellFormed.{IsModule, WellFormed, DifferentNames}
 use Rattle.ir_core.proofs.Equal.{equal_name}
 use Rattle.ir_text.specs.Writable.{FunctionWritable}
 use Rattle.token_reader.specs.declared.raw.RawName.{RawName}
-use Rattle.clif_read.specs.declared.raw.RawFuncName.{RawFuncName}
 use Rattle.clif_read.specs.declared.raw.RawFuncName.TheVariants as func_names
 use Rattle.clif_read.specs.declared.raw.RawFunction.{RawFunction}
 use Rattle.clif_lex.specs.declared.faults.TextKind.TheVariants.{Duplicate}
@@ -20,8 +19,8 @@ use Rattle.name_tables.specs.Chains.{IsEndless}
 use Rattle.name_tables.specs.Definitions.{Kind, Slots, Sigs, Callees, Blocks, Values, slot_names, sig_names, callee_names, definitions, value_defs}
 use Rattle.clif_names.specs.Faults.{SameName, FunctionFault, IsFault}
 use Rattle.name_tables.specs.Words.{Repeats}
-use Rattle.clif_meaning.specs.Instructions.{natural}
 use Rattle.clif_meaning.specs.Meaning.{name_of}
+use Rattle.clif_meaning.proofs.ModuleLaws.{one_name}
 use Rattle.text_read_back.specs.Bare as bare
 use Rattle.text_read_back.specs.Defining.{number_of}
 use Rattle.text_read_back.specs.RawOf as raws
@@ -86,13 +85,6 @@ module _ (f : Function) (is : WellFormed f) (w : FunctionWritable f) (r : RawFun
 
 -- ---- names of functions
 
--- two names that are the same mean one name
-means_same : (a b : RawFuncName) → SameName a b → name_of a ≡ name_of b
-means_same (func_names.Text x s) (func_names.Text y t) h = ap names.Text h
-means_same (func_names.User x i) (func_names.User y j) h = ap₂ (λ (k : ℕ) (z : ℤ). names.User k (natural z)) h.0 h.1
-means_same (func_names.Text x s) (func_names.User y j) h = absurd h
-means_same (func_names.User x i) (func_names.Text y t) h = absurd h
-
 own_name : (r : RawFunction) (f : Function) → bare.bare_function r ≡ raws.raw_function f → f.name ≡ name_of r.name
 own_name r f e = sym (name_back f.name) ∙ ap (λ (x : RawFunction). name_of x.name) (sym e) ∙ name_same r.name
 
@@ -119,7 +111,7 @@ names_differ (x ∷ rs) (f ∷ fs) e d (suc i) zero r s g less h same =
     let first : x ≡ s = cc in
     let own : bare.bare_function x ≡ raws.raw_function f = cc in
     let rest : map bare.bare_function rs ≡ map raws.raw_function fs = cc in
-    named rs fs rest i r g f.name (sym (means_same s.name r.name same) ∙ sym (ap (λ (y : RawFunction). name_of y.name) first) ∙ sym (own_name x f own)) d.0
+    named rs fs rest i r g f.name (sym (one_name s.name r.name same) ∙ sym (ap (λ (y : RawFunction). name_of y.name) first) ∙ sym (own_name x f own)) d.0
 names_differ (x ∷ rs) (f ∷ fs) e d (suc i) (suc j) r s g less h same =
     let rest : map bare.bare_function rs ≡ map raws.raw_function fs = cc in
     names_differ rs fs rest d.1 i j r s g (omega arith) h same

@@ -140,10 +140,6 @@ op_spells (ops.Uextend w) = refl
 op_spells (ops.Sextend w) = refl
 op_spells (ops.Ireduce w) = refl
 
-pub iconst_spells : Spells (codes "iconst") opcode.Iconst
-unfolding word_meaning all_words opcode_of
-iconst_spells = refl
-
 pub nop_spells : Spells (codes "nop") opcode.Nop
 unfolding word_meaning all_words opcode_of
 nop_spells = refl

@@ -22,6 +22,7 @@ use Rattle.ir_core.specs.Module as insts
 use Rattle.ir_text.specs.Numbering.{Numbering}
 use Rattle.ir_semantics.specs.Renaming.{Renaming, instruction_under, line_under}
 use Rattle.ir_core.specs.Signatures.{same_type}
+use Rattle.ir_core.proofs.Equal.{type_equal}
 use Rattle.ir_text.specs.TextInstructions.{has_type, is_known, shown_suffix, typing_operand}
 use Rattle.ir_text.specs.Words.{op_word}
 use Rattle.ir_text.specs.Writable.{op_operands, conversion, OpForm, result_types, ResultTypes, NarrowForm, AccessForm, StoreForm, SimpleForm, InstructionForm}
@@ -47,17 +48,9 @@ use Rattle.names_read_back.proofs.Operands.{values_back, tags_back}
 use Rattle.names_read_back.proofs.Opcodes.{Spells, op_spells, store_spells, istore_8, istore_16, istore_32, load_spells, uload_8, uload_16, uload_32, sload_8, sload_16, sload_32}
 use Rattle.text_read_back.proofs.Bytes.{by_bytes}
 
-same_is_equal : (a b : Ty) → same_type a b ≡ true → a ≡ b
-same_is_equal ty.I8 ty.I8 h = refl
-same_is_equal ty.I16 ty.I16 h = refl
-same_is_equal ty.I32 ty.I32 h = refl
-same_is_equal ty.I64 ty.I64 h = refl
-same_is_equal ty.I128 ty.I128 h = refl
-same_is_equal _ _ h = absurd cc
-
 has_this : (own : Option Ty) (t : Ty) → option_map_or (λ u. same_type u t) own false ≡ true → own ≡ Some t
 has_this None t h = absurd cc
-has_this (Some u) t h = ap Some (same_is_equal u t h)
+has_this (Some u) t h = ap Some (type_equal u t h)
 
 -- at is what the text's numbers mean, type the types of the values that are read, next the number of the next definition
 module _ (f : Function) (n : Numbering) (at : Renaming) (type : ℕ → Option Ty) (next : ℕ)

@@ -9,7 +9,7 @@ use Rattle.ir_text.specs.TextTree.{spelled}
 use Rattle.ir_text.specs.Text.{more_functions, text_of, function_text_of}
 use Rattle.text_output.specs.Output.{Start, Puts}
 use Rattle.print_workers.specs.Parts.{IsPart, PutsPart, before_function, AreCuts}
-use Rattle.text_output.proofs.Puts.{nothing, ◌▸◌}
+use Rattle.text_output.proofs.Puts.{◌▸◌}
 
 -- ---- one function more
 
@@ -30,9 +30,6 @@ part_of_one : (m : Module) (i : ℕ) (f : Function) → slice_get m i ≡ Some f
 part_of_one m i f e = part_suc m i f e ∙ ap (λ (k : ℕ). text_of (take k m)) (sym (add-one i))
 
 -- ---- parts one behind the other
-
-pub part_begins : {S : Type 0} {H : Start → S → List ℕ → Type 0} {a : S} {m : Module} {from : ℕ} → PutsPart H a a m from from
-part_begins {S} {H} {a} {m} {from} = record { part = []; puts = nothing; is = append-nil (text_of (take from m)) }
 
 pub part_goes : {S : Type 0} {H : Start → S → List ℕ → Type 0} {a b c : S} {m : Module} {from i : ℕ} (f : Function) → PutsPart H a b m from i → slice_get m i ≡ Some f
     → Puts H b c (before_function i ++ function_text_of f) → PutsPart H a c m from (i + 1)

@@ -211,9 +211,6 @@ pub joined_push : (v : View) (ws : List View) (w : View) → joined_all v (ws ++
 joined_push v [] w = refl
 joined_push v (x ∷ xs) w = joined_push (joined v x) xs w
 
-count_joined : (t : ℕ) (a b : List ℕ) → count t (a ++ b) ≡ count t a + count t b
-count_joined t a b = total_append (λ x. cond (eqb x t) 1 0) a b
-
 -- the end of a table: v is the view of the one seat that is left
 pub record Gathered (job : Job) (v : View) : Type 0 where
   pub seats : v.seats ≡ v.made

@@ -1,5 +1,5 @@
 -- What stands in the stretches of a text stands in the text.
-use Rattle.std.proofs.Common.{◌≡◌, ℕ, ◌+◌, ◌-◌, ◌≤◌, true, false, Bool, cond, List, [], ◌∷◌, ◌++◌, length, take, drop, slice_range, take-add, drop-drop, Result, Ok, refl, sym, ap, subst, ◌∙◌, arith, inl}
+use Rattle.std.proofs.Common.{◌≡◌, ℕ, ◌+◌, ◌-◌, ◌≤◌, true, false, Bool, List, [], ◌++◌, length, take, drop, slice_range, take-add, drop-drop, Result, Ok, refl, sym, ap, subst, ◌∙◌, arith}
 use Rattle.std.proofs.lemmas.List.{append-nil, map-append, take_rest}
 use Rattle.grammar.specs.Rules.{Lexeme, Many, Tree, Derives, read}
 use Rattle.grammar.proofs.Binds.{ok_is}
@@ -10,8 +10,9 @@ use Rattle.clif_lex.specs.declared.faults.LexErr.{LexErr}
 use Rattle.clif_lex.specs.Lexing.{tokens_of}
 use Rattle.clif_lex.specs.Stretches.{IsCut, IsStretch, stretch_tokens, preamble_after}
 use Rattle.clif_lex.proofs.Stretches.{stretches_join, whole_stretch, empty_stretch, tokens_are_in, preamble_further}
-use Rattle.clif_words.specs.Lexemes.{lexeme, lexemes, is_comment}
+use Rattle.clif_words.specs.Lexemes.{lexemes}
 use Rattle.clif_words.specs.Terminals.{header}
+use Rattle.clif_words.proofs.Joined.{lexemes-append}
 use Rattle.clif_read.specs.declared.raw.RawFunction.{RawFunction}
 use Rattle.clif_read.specs.declared.raw.RawModule.{RawModule}
 use Rattle.clif_read.specs.ModuleGrammar.{function, module_rule}
@@ -19,19 +20,9 @@ use Rattle.clif_read.specs.ModuleValues.{function_value, module_value}
 use Rattle.clif_read.specs.Modules.{whole_module_at}
 use Rattle.clif_read.specs.Texts.{IsModule}
 use Rattle.clif_read.specs.Texts.{IsModuleText, Functions}
-use Rattle.read_workers.specs.Ranges.{IsTokenRange, IsTextRange, AreFunctions, AreListed, IsFront, with_functions}
+use Rattle.read_workers.specs.Ranges.{IsTokenRange, AreFunctions, AreListed, IsFront, with_functions}
 use Rattle.range_workers.specs.Follow.{Follow}
 use Rattle.clif_read.proofs.Whole.{found_at}
-
-lexemes-append : (text : List ℕ) (ts us : List Token) → lexemes text (ts ++ us) ≡ lexemes text ts ++ lexemes text us
-unfolding lexemes
-lexemes-append text [] us = refl
-lexemes-append text (t ∷ ts) us =
-    let more = lexemes-append text ts us in
-    elim (is_comment t.kind) as (λ b. cond b (lexemes text (ts ++ us)) (lexeme text t ∷ lexemes text (ts ++ us)) ≡ cond b (lexemes text ts) (lexeme text t ∷ lexemes text ts) ++ lexemes text us) [
-      | true ↦ more
-      | false ↦ ap (λ (xs : List Lexeme). lexeme text t ∷ xs) more
-    ]
 
 -- ---- what reading gives
 
@@ -170,14 +161,3 @@ pub front_read : (text : List ℕ) (to : ℕ) (ts : List Token) (given rest : Li
     → to ≤ length text → stretch_tokens text true 0 to ≡ Ok ts → given ≡ lexemes text ts → whole_module_at given ≡ Ok (m, rest) → preamble_after true ts ≡ false → IsFront text to m
 front_read text to ts given rest m within lexed same read no_headers =
     record { tokens = ts; stretch = record { ordered = omega arith; within = within; lexed = lexed }; read = found_at (lexemes text ts) given rest 0 m same read; no_headers = no_headers }
-
--- the whole text is a range, from any cut on
-pub range_of_rest : (text : List ℕ) (at : ℕ) → IsCut text at → IsTextRange text at (length text)
-range_of_rest text at cut = record { ordered = cut.0; begins = cut; ends = (omega arith, inl refl) }
-
--- a cut in a range makes two of it
-pub range_before : (text : List ℕ) (a b c : ℕ) → IsTextRange text a c → IsCut text b → a ≤ b → IsTextRange text a b
-range_before text a b c r cut ordered = record { ordered = ordered; begins = r.begins; ends = cut }
-
-pub range_behind : (text : List ℕ) (a b c : ℕ) → IsTextRange text a c → IsCut text b → b ≤ c → IsTextRange text b c
-range_behind text a b c r cut ordered = record { ordered = ordered; begins = cut; ends = r.ends }

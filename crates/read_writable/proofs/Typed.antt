@@ -3,11 +3,11 @@ use Rattle.std.proofs.Common.{◌≡◌, ℕ, suc, List, [], ◌∷◌, ◌++◌
 use Rattle.std.specs.Prelude.{flat_map, ⊤}
 use Rattle.std.specs.List.{enumerate_from}
 use Rattle.std.proofs.lemmas.Grind.{flat_map-append}
+use Rattle.std.proofs.lemmas.List.{map-append}
 use Rattle.ir_core.specs.declared.signatures.Ty.{Ty}
 use Rattle.ir_core.specs.Lists.{In, Different, Each}
 use Rattle.ir_core.specs.Lookup.{type_in}
-use Rattle.ir_core.proofs.Members.{different_apart}
-use Rattle.ir_core.proofs.Ranges.{map_append}
+use Rattle.ir_core.proofs.Members.{different_apart, each_in}
 use Rattle.ir_core.proofs.Walking.{type_found}
 use Rattle.ir_text.specs.Writable.{ResultTypes}
 use Rattle.clif_insts.specs.declared.raw.RawInst.{RawInst}
@@ -24,7 +24,6 @@ use Rattle.clif_meaning.specs.Meaning.{numbers, inst_type, function_with, step_t
 use Rattle.clif_meaning.proofs.BoundLaws.{own_place}
 use Rattle.clif_meaning.proofs.Lists.{in_map, get_seam}
 use Rattle.clif_meaning.proofs.OneMeaning.{map_names, count, counts}
-use Rattle.ir_semantics.proofs.SafetyPlaces.{each_in}
 
 -- ---- the first place of a number
 
@@ -78,7 +77,7 @@ module _ (raw : RawFunction) (value : ℕ → ℕ) (types : List (ℕ × Ty)) wh
       apart : (x : RawName) → In x before → x.number ≡ r.number → ⊥
       apart x i same =
           different_apart (numbers_of before) (numbers_of (r ∷ after)) (value x.number)
-          (subst Different (ap numbers_of (sym whole) ∙ map_append (λ (r : RawName). value r.number) before (r ∷ after)) differ)
+          (subst Different (ap numbers_of (sym whole) ∙ map-append (λ (r : RawName). value r.number) before (r ∷ after)) differ)
           (in_map (λ (r : RawName). value r.number) before x i) (inl (ap value same))
 
       stands : (xs : List RawName) → In r (xs ++ r ∷ after)

@@ -7,7 +7,8 @@ use Rattle.ir_core.specs.Lists.{In, Different, Each}
 use Rattle.ir_core.specs.Module.{Block, Function}
 use Rattle.ir_core.specs.Size.{size_of}
 use Rattle.ir_core.specs.WellFormed.{LineWellFormed, BlockWellFormed, WellFormed}
-use Rattle.ir_core.proofs.Members.{each_left, each_right, in_right}
+use Rattle.ir_core.proofs.Members.{each_left, each_right, in_right, each_in}
+use Rattle.ir_core.proofs.Gets.{get_some}
 use Rattle.ir_semantics.specs.Renaming.{Renaming}
 use Rattle.ir_text.specs.Writable.{LineWritable, FunctionWritable}
 use Rattle.clif_lex.specs.declared.faults.TextKind.TheVariants.{Duplicate, TooLarge}
@@ -35,7 +36,6 @@ use Rattle.clif_meaning.proofs.LimitLaws.{Kept, AllKept, name_kept, decls_kept, 
 use Rattle.clif_meaning.proofs.Lists.{in_flat_in, in_map}
 use Rattle.clif_meaning.proofs.ModuleLaws.{size, meant_is_module}
 use Rattle.clif_meaning.proofs.SizeLaws.{same_size}
-use Rattle.ir_semantics.proofs.SafetyPlaces.{each_in, get_below}
 use Rattle.clif_read.proofs.ModuleFormed.{text_formed}
 use Rattle.read_writable.specs.Laws.{MeantIsWritable, ReadIsWritable}
 use Rattle.read_writable.proofs.Lists.{each_given}
@@ -186,7 +186,7 @@ meant_is_writable len raw m none formed means = record {
       (meant_is_module raw m none (has_blocks raw.functions formed.functions) means).whole means;
   count = elim (leb_tells (length raw.functions) 65536) [
     | inl t ↦ (let few = t.1 in let same = as_many raw.functions m means in omega (arith, few, same))
-    | inr many ↦ (let (r, there) = get_below raw.functions 65536 many.1 in absurd (none TooLarge (name_spot r.name) (inl (65536, r, there, refl, omega arith))))
+    | inr many ↦ (let (r, there) = get_some raw.functions 65536 many.1 in absurd (none TooLarge (name_spot r.name) (inl (65536, r, there, refl, omega arith))))
   ];
 }
 

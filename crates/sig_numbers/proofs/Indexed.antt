@@ -9,7 +9,8 @@ use Rattle.std.specs.Map.{lookup}
 use Rattle.std.specs.BTreeMap.{insert_entry, is_at}
 use Rattle.ir_core.specs.Lookup.{same_bytes}
 use Rattle.ir_core.specs.Named.{compare_texts}
-use Rattle.ir_core.proofs.Indexing.{text_test, same_bytes_self, same_bytes_is, equal_from_test, lookup_insert}
+use Rattle.ir_core.proofs.Indexing.{text_test, equal_from_test, lookup_insert}
+use Rattle.ir_core.proofs.Equal.{bytes_same, bytes_equal}
 
 pub entry_more : (key : Vec ℕ Global) (n : ℕ) (es : List (Vec ℕ Global × ℕ)) (k : List ℕ) → lookup (is_at (compare_texts k)) (insert_entry (λ a b. slice_cmp nat_cmp a.items b.items) es key n) ≡ cond (same_bytes key.items k) (Some n) (lookup (is_at (compare_texts k)) es)
 entry_more key n es k =
@@ -17,24 +18,24 @@ entry_more key n es k =
     ∙ ap (λ b. cond b (Some n) (lookup (is_at (compare_texts k)) es)) (text_test k key.items)
   where
     same : (e : Vec ℕ Global) → slice_cmp nat_cmp key.items e.items ≡ Equal → is_eq (slice_cmp nat_cmp k e.items) ≡ is_eq (slice_cmp nat_cmp k key.items)
-    same e h = let q : e.items ≡ key.items = same_bytes_is e.items key.items (sym (text_test key.items e.items) ∙ ap is_eq h) in ap (λ z. is_eq (slice_cmp nat_cmp k z)) q
+    same e h = let q : e.items ≡ key.items = bytes_equal e.items key.items (sym (text_test key.items e.items) ∙ ap is_eq h) in ap (λ z. is_eq (slice_cmp nat_cmp k z)) q
 
     only : (e : Vec ℕ Global) → is_eq (slice_cmp nat_cmp k e.items) ≡ true → is_eq (slice_cmp nat_cmp k key.items) ≡ true → slice_cmp nat_cmp key.items e.items ≡ Equal
     only e h g =
-        let a : e.items ≡ k = same_bytes_is e.items k (sym (text_test k e.items) ∙ h) in
-        let b : key.items ≡ k = same_bytes_is key.items k (sym (text_test k key.items) ∙ g) in
-        equal_from_test (slice_cmp nat_cmp key.items e.items) (text_test key.items e.items ∙ (ap₂ (λ x y. same_bytes x y) a b ∙ same_bytes_self k))
+        let a : e.items ≡ k = bytes_equal e.items k (sym (text_test k e.items) ∙ h) in
+        let b : key.items ≡ k = bytes_equal key.items k (sym (text_test k key.items) ∙ g) in
+        equal_from_test (slice_cmp nat_cmp key.items e.items) (text_test key.items e.items ∙ (ap₂ (λ x y. same_bytes x y) a b ∙ bytes_same k))
 
 -- where f gives the numbers before, and g those after the key has the number n
 module _ (f g : List ℕ → Option ℕ) (key : List ℕ) (n : ℕ) (more : (k : List ℕ) → g k ≡ cond (same_bytes key k) (Some n) (f k)) (absent : f key ≡ None) where
   pub number_new : g key ≡ Some n
-  number_new = more key ∙ ap (λ b. cond b (Some n) (f key)) (same_bytes_self key)
+  number_new = more key ∙ ap (λ b. cond b (Some n) (f key)) (bytes_same key)
 
   pub numbers_stay : (k : List ℕ) (v : ℕ) → f k ≡ Some v → g k ≡ Some v
   numbers_stay k v e = more k ∙ by (same_bytes key k) refl
     where
       by : (b : Bool) → same_bytes key k ≡ b → cond b (Some n) (f k) ≡ Some v
-      by true h = let z : None ≡ Some v = sym absent ∙ (ap f (same_bytes_is key k h) ∙ e) in cc
+      by true h = let z : None ≡ Some v = sym absent ∙ (ap f (bytes_equal key k h) ∙ e) in cc
       by false h = e
 
   module _ (below : (k : List ℕ) (v : ℕ) → f k ≡ Some v → v < n) where
@@ -52,7 +53,7 @@ module _ (f g : List ℕ → Option ℕ) (key : List ℕ) (n : ℕ) (more : (k :
         new i h s = let q : n ≡ v = cc in let l = below i v h in omega (arith, l, q)
 
         by : (a : Bool) → same_bytes key j ≡ a → (b : Bool) → same_bytes key k ≡ b → cond a (Some n) (f j) ≡ Some v → cond b (Some n) (f k) ≡ Some v → j ≡ k
-        by true x true y p q = sym (same_bytes_is key j x) ∙ same_bytes_is key k y
+        by true x true y p q = sym (bytes_equal key j x) ∙ bytes_equal key k y
         by true x false y p q = absurd (new k q p)
         by false x true y p q = absurd (new j p q)
         by false x false y p q = apart j k v p q

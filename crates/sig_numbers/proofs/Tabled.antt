@@ -3,13 +3,12 @@ use Rattle.std.proofs.Common.{inl, inr, ◌≡◌, ℕ, zero, suc, ◌+◌, ◌<
 use Rattle.std.specs.Prelude.{◌≤◌, slice_get, nat_eq, if◌then◌else◌}
 use Rattle.std.proofs.lemmas.Bool.{cases_eq}
 use Rattle.std.proofs.lemmas.List.{take_more, map_push, length-map}
-use Rattle.std.proofs.lemmas.Option.{same_Some, slice_get_cases, slice_get_read}
+use Rattle.std.proofs.lemmas.Option.{same_Some, slice_get_read}
 use Rattle.ir_core.specs.declared.signatures.Sig.{Sig}
 use Rattle.ir_core.specs.Module.{Function, Module}
 use Rattle.ir_core.specs.Lookup.{same_bytes}
 use Rattle.ir_core.specs.Signatures.{same_sig}
-use Rattle.ir_core.proofs.Equal.{sig_equal, sig_same}
-use Rattle.ir_core.proofs.Indexing.{same_bytes_self}
+use Rattle.ir_core.proofs.Equal.{sig_equal, sig_same, bytes_same}
 use Rattle.body_import.specs.SigKeys.{sig_key}
 use Rattle.body_import.proofs.SigsDecided.{sigs_decide}
 use Rattle.sig_numbers.specs.declared.index.SigIndex.{SigIndex}
@@ -75,7 +74,7 @@ tabling_more i j keeps m ts ts' n g u count at h more old k f t a b = by ts m k 
     by (y ∷ ts) (x ∷ m) (suc k) (suc n) count at a b old = by ts m k n (omega (arith, count)) at a b old
 
 pub index_tells : (i : SigIndex) → IsIndex i → Tells (number_of i)
-index_tells i h s t n p q = sigs_decide s t ∙ (ap (λ (k : List ℕ). same_bytes (sig_key s) k) (sym (h.apart (sig_key s) (sig_key t) n p q)) ∙ same_bytes_self (sig_key s))
+index_tells i h s t n p q = sigs_decide s t ∙ (ap (λ (k : List ℕ). same_bytes (sig_key s) k) (sym (h.apart (sig_key s) (sig_key t) n p q)) ∙ bytes_same (sig_key s))
 
 -- ---- what the numbers tell
 
@@ -115,12 +114,6 @@ pub entries_long : (number : Sig → Option ℕ) (f : Function) (es : List SigEn
 entries_long number f es h =
     sym (length-map es (λ (e : SigEntry). e.number))
     ∙ (sym (length-map (numbers_in es) (λ (n : ℕ). Some n)) ∙ (ap length h.numbers ∙ length-map f.sigs number))
-
-pub item_there : {A : Type 0} (xs : List A) (i : ℕ) → i < length xs → (x : A) × (slice_get xs i ≡ Some x)
-item_there xs i low = elim (slice_get_cases xs i).1 [
-  | inl h ↦ (h.0, h.2)
-  | inr h ↦ absurd (let l = h.0 in omega (arith, l, low))
-]
 
 -- the table at a place of a module, of which all tables are known
 pub table_at : (m now : List Function) (ts : List SigTable) (known : AreTables m ts) → m ≡ now → (i : ℕ) → i < length now → (t : SigTable) → t ≡ get_or ts i t → (f : Function) → slice_get now i ≡ Some f → IsTable known.number f t

@@ -11,12 +11,12 @@ use Rattle.ir_core.specs.Module.{Line, Block, Function}
 use Rattle.ir_core.specs.Size.{total, size_of}
 use Rattle.ir_core.specs.Sound.{instruction_count}
 use Rattle.ir_core.specs.WellFormed.{WellFormed}
+use Rattle.ir_core.proofs.ByNumber.{found_number}
 use Rattle.ir_semantics.specs.Splice.{Naming, Splicing, body, spliced, spliced_blocks}
 use Rattle.inline_body.specs.PlainCall.{IsPlainCall, CanSplice}
 use Rattle.inline_body.specs.Results.{tail_calls_in}
 use Rattle.inline_ends.specs.TailCall.{IsTailCall, CanSpliceTail}
 use Rattle.inline_ends.specs.TryCallSite.{IsTryCall, CanSpliceTry}
-use Rattle.inline_acceptance.proofs.Points.{in_numbers}
 use Rattle.inline_numbering.proofs.Places.{splice_found}
 use Rattle.splice_bounds.specs.Laws.{WithinLimit, PlainCallHasNumbers, TailCallHasNumbers, TryCallHasNumbers}
 use Rattle.splice_bounds.proofs.Counts.{line_count, block_count, blocks_sized, callees_longer, counted}
@@ -59,7 +59,7 @@ module _ (n : Naming) (f g : Function) (at : Point) (l : Line) (w : WithinLimit 
 
   there : IsPoint f at
   there = (
-    in_numbers at.block f.blocks w.block w.block_found,
+    found_number at.block f.blocks w.block w.block_found,
     slice_get_within (lines_of at.block f.blocks) at.index l found,
   )
 

@@ -11,11 +11,11 @@ use Rattle.ir_core.specs.Size.{total, line_size, block_size, sig_size}
 use Rattle.ir_core.specs.Sound.{instruction_count}
 use Rattle.ir_core.specs.WellFormed.{WellFormed, declared}
 use Rattle.ir_core.proofs.Counting.{subset_length}
+use Rattle.ir_core.proofs.Gets.{some_same}
 use Rattle.ir_semantics.specs.Import.{sigs_after, callees_after}
 use Rattle.ir_semantics.specs.Renaming.{Renaming, line_under, block_under}
 use Rattle.inline_body.specs.Results.{is_tail_call, tail_calls, tail_calls_in}
 use Rattle.inline_ends.specs.Tried.{is_plain_call, plain_calls, plain_calls_in}
-use Rattle.inline_outcomes.proofs.Local.{some_same}
 use Rattle.inline_outcomes.proofs.Merging.{own_sig, own_callee}
 use Rattle.inline_acceptance.proofs.KeptSizes.{total_map}
 

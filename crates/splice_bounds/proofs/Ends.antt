@@ -11,22 +11,22 @@ use Rattle.ir_core.specs.Module.{Instruction, Plain, Branches, SequencePoint, Re
 use Rattle.ir_core.specs.Module.{Block, Function, call_target}
 use Rattle.ir_core.specs.Uses.{table_targets}
 use Rattle.ir_core.specs.WellFormed.{WellFormed}
-use Rattle.ir_core.proofs.Members.{in_right}
+use Rattle.ir_core.proofs.Members.{in_right, each_by}
 use Rattle.ir_core.proofs.Splitting.{Split, split}
+use Rattle.ir_core.proofs.Gets.{some_same}
+use Rattle.ir_core.proofs.ByNumber.{found_number, in_find}
 use Rattle.ir_semantics.specs.Accepted.{RulesHold, count_mismatch}
 use Rattle.ir_semantics.specs.Available.{terminates}
 use Rattle.ir_semantics.specs.CountRules.{InstructionCounts, TargetCounts}
 use Rattle.ir_semantics.specs.Splice.{Within, kind_of}
+use Rattle.ir_semantics.proofs.SafetyPlaces.{some_and}
 use Rattle.inline_body.specs.Results.{is_tail_call, tail_calls, OneTail}
 use Rattle.inline_body.specs.PlainCall.{IsPlainCall}
 use Rattle.inline_ends.specs.TailCall.{IsTailCall}
 use Rattle.inline_ends.specs.TryCallSite.{IsTryCall}
-use Rattle.inline_outcomes.proofs.Local.{some_same}
 use Rattle.inline_acceptance.proofs.KeptFunctions.{sound}
-use Rattle.inline_acceptance.proofs.KeptLists.{some_and, in_each}
 use Rattle.inline_acceptance.proofs.KeptSite.{rule_at}
-use Rattle.inline_acceptance.proofs.Points.{EndsWell, Stops, in_numbers, none_first}
-use Rattle.inline_acceptance.proofs.Unique.{in_find}
+use Rattle.inline_acceptance.proofs.Points.{EndsWell, Stops, none_first}
 
 -- ---- tail calls
 
@@ -49,7 +49,7 @@ tails_once (l ∷ ls) h = by l.inst refl (tails_once ls (λ j i get. h (suc j) i
 pub one_tail : (g : Function) → WellFormed g → RulesHold [] g → OneTail g.blocks
 one_tail g whole ok =
     let s = sound [] g ok whole in
-    in_each (λ b. tail_calls b.lines ≤ 1) g.blocks
+    each_by (λ b. tail_calls b.lines ≤ 1) g.blocks
     (λ b p. let q = in_find b g.blocks whole.blocks p in tails_once b.lines (λ j i get. s.ends b.number b j i q get))
 
 -- ---- the site
@@ -92,7 +92,7 @@ module _
   -- the block of the number has the lines of the number
   pub lines_there : lines_of a f.blocks ≡ b.lines
   lines_there =
-      let s : Split a f.blocks = split a f.blocks (in_numbers a f.blocks b found) whole.blocks in
+      let s : Split a f.blocks = split a f.blocks (found_number a f.blocks b found) whole.blocks in
       let here : In s.here f.blocks =
       subst (In s.here) (sym s.is) (in_right s.here s.before (s.here ∷ s.behind) (inl refl))
       in

@@ -10,12 +10,12 @@ use Rattle.ir_core.specs.Module.{Instruction, Plain, Branches, SequencePoint, Re
 use Rattle.ir_core.specs.Module.{Block}
 use Rattle.ir_core.specs.Size.{total}
 use Rattle.ir_core.proofs.Sizing.{total_join}
+use Rattle.ir_core.proofs.Gets.{some_same}
 use Rattle.ir_semantics.specs.Renaming.{line_under, block_under}
 use Rattle.ir_semantics.specs.Splice.{Within, Fragment, Splicing, after_block, after_blocks, body, caller_names}
 use Rattle.ir_semantics.specs.Splice.{cut_block, fragment, fragment_by, from, jump_in, kind_of, new_results}
 use Rattle.ir_semantics.specs.Splice.{spliced_blocks, within_fragment}
 use Rattle.inline_body.specs.Results.{is_tail_call, tail_calls, tail_calls_in}
-use Rattle.inline_outcomes.proofs.Local.{some_same}
 use Rattle.inline_outcomes.proofs.Places.{find_hit, find_skip}
 use Rattle.splice_bounds.proofs.Counts.{line_count, block_count, lines_under, block_same, blocks_under}
 use Rattle.ir_semantics.proofs.Ranges.{length_from}

@@ -8,13 +8,13 @@ use Rattle.ir_core.specs.Lookup.{find_block}
 use Rattle.ir_core.specs.Module.{Block}
 use Rattle.ir_core.specs.Size.{block_size, line_size, total}
 use Rattle.ir_core.proofs.Sizing.{total_join}
+use Rattle.ir_core.proofs.Gets.{some_same}
 use Rattle.ir_semantics.specs.Renaming.{block_under, line_under}
 use Rattle.ir_semantics.specs.Splice.{Splicing, Kind, Within, Last, Tries, after_blocks, args_of, body, caller_names, cut_block, fragment, jump_in, kind_of, spliced_blocks}
 use Rattle.splice_size.specs.declared.counts.Counts.{Counts}
 use Rattle.splice_size.specs.Counts.{block_counts, counts_of, line_counts, none, summed}
 use Rattle.splice_size.specs.SizeAfter.{after_size, body_size, put_size}
 use Rattle.inline_outcomes.proofs.Places.{find_hit, find_skip}
-use Rattle.inline_outcomes.proofs.Local.{some_same}
 use Rattle.inline_acceptance.proofs.KeptSizes.{block_same, line_same, total_map}
 use Rattle.inline_acceptance.proofs.KeptLists.{length_map}
 use Rattle.splice_size.proofs.Lines.{Fits}

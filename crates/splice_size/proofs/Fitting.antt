@@ -5,17 +5,19 @@ use Rattle.ir_core.specs.Lists.{Each, Different}
 use Rattle.ir_core.specs.Lookup.{block_numbers, find_block, signature_of}
 use Rattle.ir_core.specs.Module.{call_target, Instruction, Plain, Branches, SequencePoint, Return, Call, ReturnCall, TryCall, Line, Block, Function}
 use Rattle.ir_core.specs.Uses.{table_targets}
+use Rattle.ir_core.proofs.Members.{each_by}
+use Rattle.ir_core.proofs.Gets.{in_get}
+use Rattle.ir_core.proofs.ByNumber.{in_find}
 use Rattle.ir_semantics.specs.Accepted.{RulesHold, count_mismatch, no_terminator, tag_place}
 use Rattle.ir_semantics.specs.Available.{terminates}
 use Rattle.ir_semantics.specs.CallRules.{InstructionTags}
 use Rattle.ir_semantics.specs.CountRules.{InstructionCounts, TargetCounts}
 use Rattle.ir_semantics.specs.EndRules.{EndsRightly}
 use Rattle.ir_semantics.specs.Splice.{Splicing, kind_of}
-use Rattle.inline_acceptance.proofs.Unique.{in_find}
+use Rattle.ir_semantics.proofs.SafetyPlaces.{some_and}
 use Rattle.inline_acceptance.proofs.Points.{none_first}
 use Rattle.inline_acceptance.proofs.KeptSite.{rule_at}
-use Rattle.inline_acceptance.proofs.KeptLists.{get_after, get_site, in_each, some_and}
-use Rattle.inline_acceptance.proofs.KeptFunctions.{in_get}
+use Rattle.inline_acceptance.proofs.KeptLists.{get_after, get_site}
 use Rattle.splice_size.proofs.Blocks.{AllFit, Ends}
 use Rattle.splice_size.proofs.Lines.{Fits}
 
@@ -32,8 +34,8 @@ fits f l (Call a args) c t = tt
 -- each line of an accepted function
 pub all_fit : (f : Function) → RulesHold [] f → Different (block_numbers f.blocks) → AllFit f.blocks
 all_fit f ok d =
-    in_each (λ (b : Block). Each (λ l. Fits l l.inst) b.lines) f.blocks (λ b i.
-    in_each (λ (l : Line). Fits l l.inst) b.lines (λ l j.
+    each_by (λ (b : Block). Each (λ l. Fits l l.inst) b.lines) f.blocks (λ b i.
+    each_by (λ (l : Line). Fits l l.inst) b.lines (λ l j.
     let found : find_block b.number f.blocks ≡ Some b = in_find b f.blocks d i in
     let at : (k : ℕ) × (slice_get b.lines k ≡ Some l) = in_get b.lines l j in
     fits f l l.inst (rule_at [] f ok b.number b at.0 l found at.1 count_mismatch) (rule_at [] f ok b.number b at.0 l found at.1 tag_place)))

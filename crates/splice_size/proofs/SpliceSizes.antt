@@ -9,6 +9,7 @@ use Rattle.ir_core.specs.Module.{Line, Function}
 use Rattle.ir_core.specs.Signatures.{same_sig}
 use Rattle.ir_core.specs.Size.{block_size, line_size, sig_size, size_of, total}
 use Rattle.ir_core.proofs.Sizing.{total_join}
+use Rattle.ir_core.proofs.ByNumber.{found_number}
 use Rattle.ir_semantics.specs.Import.{callees_after, callees_with, same_callee, sigs_after}
 use Rattle.ir_semantics.specs.Renaming.{Renaming, block_under, line_under}
 use Rattle.ir_semantics.specs.Splice.{Naming, Splicing, sides, spliced, spliced_blocks}
@@ -21,7 +22,7 @@ use Rattle.inline_numbering.specs.Laws.{by_sides}
 use Rattle.inline_numbering.proofs.Places.{splice_carried}
 use Rattle.inline_numbering.proofs.Same.{blocks_number, renamed_itself}
 use Rattle.inline_numbering.proofs.Sides.{all_sigs, joined, sides_carry}
-use Rattle.inline_numbering.proofs.Typed.{block_in, same_before}
+use Rattle.inline_numbering.proofs.Typed.{same_before}
 use Rattle.splice_size.specs.Counts.{block_counts, counts_of, summed}
 use Rattle.splice_size.specs.Laws.{Sited, TakesOver, SizeOfSplice, SiteWithin, SizeByCounts, RenamedKeepsCounts, SizeAfterUnder, SpliceSizeUnder}
 use Rattle.splice_size.specs.SizeAfter.{put_size, size_after}
@@ -88,7 +89,7 @@ size_after_under = site_same
 apart : (r s : Renaming) (p : Splicing) (c h : Function) → SiteUnder r s p c h → (x : ℕ) → In x (block_numbers p.caller.blocks) → r.block x ≡ r.block p.at → x ≡ p.at
 apart r s p c h site x i e =
     let d : Different (map r.block (block_numbers p.caller.blocks)) = subst Different (ap block_numbers site.caller.blocks ∙ blocks_number r p.caller.blocks) site.caller_after_whole.blocks in
-    same_before r.block (block_numbers p.caller.blocks) d x p.at i (block_in p.at p.caller.blocks site.stands.block site.stands.block_found) e
+    same_before r.block (block_numbers p.caller.blocks) d x p.at i (found_number p.at p.caller.blocks site.stands.block site.stands.block_found) e
 
 to_sides : (r s : Renaming) (p : Splicing) (m : Naming) (c h : Function) → SiteUnder r s p c h → size_of (spliced (splicing_under r m c h p)) ≡ size_of (spliced (by_sides p))
 to_sides r s p m c h site =

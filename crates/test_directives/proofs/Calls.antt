@@ -3,11 +3,11 @@ use Rattle.std.proofs.Common.{◌≡◌, ℕ, zero, suc, ◌+◌, ◌<◌, Bool,
 use Rattle.ir_semantics.specs.Values.{cons_some, value_for, values_for}
 use Rattle.clif_read.specs.declared.raw.RawFunction.{RawFunction}
 use Rattle.clif_read.specs.declared.raw.RawParam.{RawParam}
+use Rattle.ir_core.proofs.Gets.{next_left}
 use Rattle.test_directives.specs.Directives.{Call}
 use Rattle.test_directives.specs.Names.{names_of, first_place}
 use Rattle.test_directives.specs.Tests.{first_named, are_values, may_be_wanted, is_call}
 use Rattle.test_directives.proofs.FirstNames.{found, found_none}
-use Rattle.test_directives.proofs.TokenSteps.{drop_next}
 
 -- ---- numbers
 
@@ -31,12 +31,8 @@ apart (p ∷ ps) (z ∷ zs) differ =
 values_step : (ps : List RawParam) (zs : List ℤ) (i : ℕ) (p : RawParam) (z : ℤ) → slice_get ps i ≡ Some p → slice_get zs i ≡ Some z
     → are_values (drop i ps) (drop i zs) ≡ (is_some (value_for p.ty z) && are_values (drop (i + 1) ps) (drop (i + 1) zs))
 values_step ps zs i p z at here =
-    (λ j. are_values (drop_next ps i p at j) (drop_next zs i z here j))
+    (λ j. are_values (next_left ps i p at j) (next_left zs i z here j))
     ∙ both_some (value_for p.ty z) (values_for (map (λ q. q.ty) (drop (i + 1) ps)) (drop (i + 1) zs))
-
-pub values_go_on : (ps : List RawParam) (zs : List ℤ) (i : ℕ) (p : RawParam) (z : ℤ) → slice_get ps i ≡ Some p → slice_get zs i ≡ Some z
-    → is_some (value_for p.ty z) ≡ true → are_values (drop (i + 1) ps) (drop (i + 1) zs) ≡ are_values (drop i ps) (drop i zs)
-values_go_on ps zs i p z at here fit = sym (values_step ps zs i p z at here ∙ ap (λ (b : Bool). b && are_values (drop (i + 1) ps) (drop (i + 1) zs)) fit)
 
 pub values_stop : (ps : List RawParam) (zs : List ℤ) (i : ℕ) (p : RawParam) (z : ℤ) → slice_get ps i ≡ Some p → slice_get zs i ≡ Some z
     → is_some (value_for p.ty z) ≡ false → are_values (drop i ps) (drop i zs) ≡ false

@@ -2,10 +2,9 @@
 use Rattle.std.proofs.Common.{◌≡◌, ℕ, Bool, true, false, cond, ◌&&◌, ◌||◌, nat_lt, List, [], ◌∷◌, ◌++◌, map, Option, Some, None, refl, sym, ap, ◌∙◌, append_assoc}
 use Rattle.std.specs.List.{filter}
 use Rattle.std.proofs.lemmas.List.{append-nil}
-use Rattle.clif_read.specs.declared.raw.RawFunction.{RawFunction}
 use Rattle.test_directives.specs.Directives.{Directive, Run, Host, Trace, Lines, Error, LineTest, Comment, Plain, Asks, Bad, comment_of}
-use Rattle.test_directives.specs.Tests.{Placed, RunTest, Said, said, said_by, traces, runs_with, line_tests, error_line, expected_line, expected_lines, is_plain, is_run, has_check_in, asks, or_else, first_bad, tests_in}
-use Rattle.test_directives.specs.Reading.{Read, unread, has_run, with_events, continued, after_directive, after_comment, stops, finished, finished_by, stopped_by}
+use Rattle.test_directives.specs.Tests.{Placed, RunTest, Said, said, said_by, traces, runs_with, line_tests, error_line, expected_line, expected_lines, is_plain, is_run, has_check_in, asks, or_else, first_bad}
+use Rattle.test_directives.specs.Reading.{Read, has_run, with_events, continued, after_directive, after_comment, stops, finished, finished_by, stopped_by}
 
 -- ---- the events of the last run
 
@@ -43,10 +42,6 @@ or_false false = refl
 or_true : (b : Bool) → true ≡ (b || true)
 or_true true = refl
 or_true false = refl
-
-and_false : (b : Bool) → (b && false) ≡ false
-and_false true = refl
-and_false false = refl
 
 or_else_more : (a : Option ℕ) (line : ℕ) (b : Option ℕ) → or_else (or_else a (Some line)) b ≡ or_else a (Some line)
 or_else_more (Some x) line b = refl
@@ -182,6 +177,3 @@ finished_end r =
     none_else : (a : Option ℕ) → or_else a None ≡ a
     none_else (Some x) = refl
     none_else None = refl
-
-pub finished_start : (fs : List RawFunction) (f : RawFunction) (line : ℕ) (cs : List Placed) → finished_by (unread fs f line) cs ≡ tests_in line f cs
-finished_start fs f line cs = refl

@@ -11,7 +11,6 @@ pub mod Ascii
 pub mod Texts
 pub mod Sizes
 pub mod Calls
-pub mod Commenting
 pub mod Examples
 pub mod Named
 pub mod Reader

@@ -5,6 +5,7 @@ use Rattle.std.proofs.lemmas.Bool.{ltb-true, ltb-false, leb-true, leb-false}
 use Rattle.clif_lex.specs.declared.spans.Token.{Token}
 use Rattle.clif_lex.specs.Spelling.{StandFrom}
 use Rattle.clif_words.specs.Lexemes.{is_comment}
+use Rattle.ir_core.proofs.Ranges.{map_take, map_drop}
 use Rattle.test_directives.specs.Tests.{Placed, placed, comments, comments_between}
 use Rattle.test_directives.specs.Placing.{between, up_to, before, LeavesBehind, InOrder, InOrderFrom}
 
@@ -144,16 +145,6 @@ pub prefix_of_map : {A B : Type 0} (f : A → B) (p : B → Bool) (xs : List A) 
 prefix_of_map f p [] = refl
 prefix_of_map f p (x ∷ xs) = ap (λ (n : ℕ). cond (p (f x)) (1 + n) 0) (prefix_of_map f p xs)
 
-pub map_of_drop : {A B : Type 0} (f : A → B) (n : ℕ) (xs : List A) → map f (drop n xs) ≡ drop n (map f xs)
-map_of_drop f zero xs = refl
-map_of_drop f (suc n) [] = refl
-map_of_drop f (suc n) (x ∷ xs) = map_of_drop f n xs
-
-pub map_of_take : {A B : Type 0} (f : A → B) (n : ℕ) (xs : List A) → map f (take n xs) ≡ take n (map f xs)
-map_of_take f zero xs = refl
-map_of_take f (suc n) [] = refl
-map_of_take f (suc n) (x ∷ xs) = ap (λ ys. f x ∷ ys) (map_of_take f n xs)
-
 drop_none : {A : Type 0} (n : ℕ) (xs : List A) → length xs ≡ 0 → drop n xs ≡ []
 drop_none zero [] e = refl
 drop_none (suc n) [] e = refl
@@ -170,9 +161,9 @@ pub cut_own : {A : Type 0} (f : A → Placed) (xs : List A) (from until start co
 cut_own f xs from until start count o at len =
     let less : start + count - start ≡ count = omega arith in
     let first : start ≡ up_to from (map f xs) = at ∙ sym (prefix_of_map f (λ c. nat_le c.spot from) xs) in
-    let second : count ≡ before until (drop start (map f xs)) = len ∙ (sym (prefix_of_map f (λ c. nat_lt c.spot until) (drop start xs)) ∙ ap (before until) (map_of_drop f start xs)) in
+    let second : count ≡ before until (drop start (map f xs)) = len ∙ (sym (prefix_of_map f (λ c. nat_lt c.spot until) (drop start xs)) ∙ ap (before until) (map_drop f start xs)) in
     ap (λ (n : ℕ). map f (take n (drop start xs))) less
-    ∙ (map_of_take f count (drop start xs) ∙ (ap (take count) (map_of_drop f start xs)
+    ∙ (map_take f count (drop start xs) ∙ (ap (take count) (map_drop f start xs)
     ∙ (ap (λ (n : ℕ). take n (drop start (map f xs))) second
     ∙ (ap (λ (n : ℕ). take (before until (drop n (map f xs))) (drop n (map f xs))) first ∙ own_comments from until 0 (map f xs) o))))
 
@@ -181,8 +172,8 @@ pub cut_rest : {A : Type 0} (f : A → Placed) (xs : List A) (from until start c
     → map f (drop (start + count) xs) ≡ drop (before until (drop (up_to from (map f xs)) (map f xs))) (drop (up_to from (map f xs)) (map f xs))
 cut_rest f xs from until start count at len =
     let first : start ≡ up_to from (map f xs) = at ∙ sym (prefix_of_map f (λ c. nat_le c.spot from) xs) in
-    let second : count ≡ before until (drop start (map f xs)) = len ∙ (sym (prefix_of_map f (λ c. nat_lt c.spot until) (drop start xs)) ∙ ap (before until) (map_of_drop f start xs)) in
-    map_of_drop f (start + count) xs ∙ (drop_twice start count (map f xs)
+    let second : count ≡ before until (drop start (map f xs)) = len ∙ (sym (prefix_of_map f (λ c. nat_lt c.spot until) (drop start xs)) ∙ ap (before until) (map_drop f start xs)) in
+    map_drop f (start + count) xs ∙ (drop_twice start count (map f xs)
     ∙ (ap (λ (n : ℕ). drop n (drop start (map f xs))) second ∙ ap (λ (n : ℕ). drop (before until (drop n (map f xs))) (drop n (map f xs))) first))
 
 -- the comments of tokens that stand one behind the other are in order

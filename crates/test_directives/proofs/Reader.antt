@@ -1,5 +1,5 @@
 -- The comments of a function, one after the other.
-use Rattle.std.proofs.Common.{◌≡◌, ℕ, zero, suc, ◌+◌, ◌<◌, ◌≤◌, true, false, List, [], ◌∷◌, length, map, drop, get_or, Some, refl, sym, ap, ◌∙◌, arith, drop-cons}
+use Rattle.std.proofs.Common.{◌≡◌, ℕ, suc, ◌+◌, ◌<◌, true, false, List, [], ◌∷◌, length, map, drop, get_or, Some, refl, sym, ap, ◌∙◌, arith, drop-cons}
 use Rattle.clif_lex.specs.declared.spans.Token.{Token}
 use Rattle.clif_read.specs.declared.raw.RawFunction.{RawFunction}
 use Rattle.test_directives.specs.declared.places.PlacedComment.{PlacedComment}
@@ -9,12 +9,6 @@ use Rattle.test_directives.specs.Reading.{Read, Reads, stops, finished_by, stopp
 use Rattle.test_directives.specs.Tests.{comments, first_spot, tests_of, all_tests, first_bad, first_bad_of, or_else}
 use Rattle.test_directives.proofs.Finishing.{finished_step, stopped_step, stopped_here, same_functions}
 use Rattle.test_directives.proofs.Placed.{between_comments}
-
-pub drop_past : {A : Type 0} (xs : List A) (i : ℕ) → length xs ≤ i → drop i xs ≡ []
-drop_past [] zero le = refl
-drop_past [] (suc i) le = refl
-drop_past (x ∷ xs) zero le = absurd (omega arith)
-drop_past (x ∷ xs) (suc i) le = drop_past xs i (omega arith)
 
 ahead : (cs : List PlacedComment) (i : ℕ) (x : PlacedComment) → i < length cs → map placed_of (drop i cs) ≡ placed_of (get_or cs i x) ∷ map placed_of (drop (i + 1) cs)
 ahead cs i x less =

@@ -4,10 +4,10 @@ use Rattle.std.specs.List.{list_all}
 use Rattle.std.specs.Str.{IsUtf8}
 use Rattle.std.proofs.lemmas.List.Folds.{list_all-append}
 use Rattle.std.proofs.lemmas.Str.{IsUtf8-from_ascii}
+use Rattle.std.proofs.lemmas.Bool.{and_parts, and_from}
 use Rattle.grammar.specs.Rules.{Lexeme, Kind, Rule, Empty, Tok, Seq, Alt, Opt, Many, Refuse, Chain, Tree, Derives, Each, Answers, good, read_all}
 use Rattle.grammar.proofs.Exact.{exact}
 use Rattle.grammar.proofs.OneStop.{not_derived, no_further}
-use Rattle.grammar.proofs.Sets.{both}
 use Rattle.clif_lex.specs.declared.spans.Token.{Token}
 use Rattle.clif_lex.specs.declared.spans.TokenKind.{TokenKind}
 use Rattle.clif_lex.specs.declared.spans.TokenKind.TheVariants.{Header, Comment, Name, Word, Number, Srcloc, Arrow, Mark}
@@ -78,11 +78,8 @@ lacks n (Chain c a b) = false
 abbrev free : ℕ → List Lexeme → Bool
 free n ts = list_all (λ x. not (x.class == n)) ts
 
-both_true : (a b : Bool) → a ≡ true → b ≡ true → (a && b) ≡ true
-both_true a b e f = (λ j. e j && b) ∙ f
-
 joined : (n : ℕ) (ts us vs : List Lexeme) → ts ≡ us ++ vs → free n us ≡ true → free n vs ≡ true → free n ts ≡ true
-joined n ts us vs cut a b = ap (free n) cut ∙ (list_all-append (λ x. not (x.class == n)) us vs ∙ both_true (free n us) (free n vs) a b)
+joined n ts us vs cut a b = ap (free n) cut ∙ (list_all-append (λ x. not (x.class == n)) us vs ∙ and_from (free n us) (free n vs) a b)
 
 each_free : (n : ℕ) (a : Rule) → ((ts : List Lexeme) (v : Tree a) → Derives a ts v → free n ts ≡ true) → (ts : List Lexeme) (vs : List (Tree a)) → Each (Derives a) ts vs → free n ts ≡ true
 each_free n a one ts [] e = ap (free n) e
@@ -90,12 +87,12 @@ each_free n a one ts (v ∷ vs) (us, ws, cut, (d, more)) = joined n ts us ws cut
 
 derives_free : (n : ℕ) (r : Rule) → lacks n r ≡ true → (ts : List Lexeme) (v : Tree r) → Derives r ts v → free n ts ≡ true
 derives_free n Empty l ts v d = ap (free n) d
-derives_free n (Tok c) l ts x d = ap (free n) d.0 ∙ both_true (not (x.class == n)) true (ap (λ (k : ℕ). not (k == n)) d.1 ∙ l) refl
+derives_free n (Tok c) l ts x d = ap (free n) d.0 ∙ and_from (not (x.class == n)) true (ap (λ (k : ℕ). not (k == n)) d.1 ∙ l) refl
 derives_free n (Seq a b) l ts v (us, ws, cut, (d, e)) =
-    let h = both (lacks n a) (lacks n b) l in
+    let h = and_parts (lacks n a) (lacks n b) l in
     joined n ts us ws cut (derives_free n a h.0 us v.0 d) (derives_free n b h.1 ws v.1 e)
-derives_free n (Alt a b) l ts (inl v) d = derives_free n a (both (lacks n a) (lacks n b) l).0 ts v d
-derives_free n (Alt a b) l ts (inr v) d = derives_free n b (both (lacks n a) (lacks n b) l).1 ts v d
+derives_free n (Alt a b) l ts (inl v) d = derives_free n a (and_parts (lacks n a) (lacks n b) l).0 ts v d
+derives_free n (Alt a b) l ts (inr v) d = derives_free n b (and_parts (lacks n a) (lacks n b) l).1 ts v d
 derives_free n (Opt a) l ts None d = ap (free n) d
 derives_free n (Opt a) l ts (Some v) d = derives_free n a l ts v d
 derives_free n (Many a) l ts vs d = each_free n a (derives_free n a l) ts vs d
@@ -118,14 +115,14 @@ kind_is text t h = go t.kind h
 kinds_are : (text : List ℕ) (ts : List Token) → free 15 (symbols text ts) ≡ true → list_all (λ t. is_of_script t.kind) ts ≡ true
 kinds_are text [] h = refl
 kinds_are text (t ∷ ts) h =
-    let b = both (not ((lexeme text t).class == 15)) (free 15 (symbols text ts)) h in
-    both_true (is_of_script t.kind) (list_all (λ u. is_of_script u.kind) ts) (kind_is text t b.0) (kinds_are text ts b.1)
+    let b = and_parts (not ((lexeme text t).class == 15)) (free 15 (symbols text ts)) h in
+    and_from (is_of_script t.kind) (list_all (λ u. is_of_script u.kind) ts) (kind_is text t b.0) (kinds_are text ts b.1)
 
 cut_short : (text : List ℕ) (spot : ℕ) → free 15 (symbols_before text spot) ≡ true → ⊥
 cut_short text spot h =
     let front = symbols (take spot text) (or_none (tokens_of (take spot text))) in
     let parts : (free 15 front && free 15 (plain Other spot ∷ [])) ≡ true = sym (list_all-append (λ x. not (x.class == 15)) front (plain Other spot ∷ [])) ∙ h in
-    let last : false ≡ true = (both (free 15 front) false parts).1 in
+    let last : false ≡ true = (and_parts (free 15 front) false parts).1 in
     absurd cc
 
 lexed_small : (text : List ℕ) (o : Result (List Token) LexErr) → tokens_of text ≡ o → IsReading text o → free 15 (lexed_by text o) ≡ true → IsUtf8 text

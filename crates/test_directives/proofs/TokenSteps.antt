@@ -1,5 +1,5 @@
 -- One token after the other: headers that are still to be read, comments that were read, and lines.
-use Rattle.std.proofs.Common.{◌≡◌, ℕ, zero, suc, ◌+◌, ◌-◌, ◌≤◌, ◌==◌, Bool, true, false, cond, List, [], ◌∷◌, ◌++◌, take, drop, map, slice_get, Option, Some, None, refl, sym, ap, subst, ◌∙◌, arith, count_by}
+use Rattle.std.proofs.Common.{◌≡◌, ℕ, zero, suc, ◌+◌, ◌-◌, ◌≤◌, ◌==◌, Bool, true, false, cond, List, [], ◌∷◌, ◌++◌, take, drop, map, slice_get, Option, Some, None, refl, ap, subst, ◌∙◌, arith, count_by}
 use Rattle.std.specs.List.{filter}
 use Rattle.std.proofs.Math.Seq.{take-add}
 use Rattle.std.proofs.lemmas.List.{map-append}
@@ -9,17 +9,11 @@ use Rattle.clif_lex.specs.Bytes.{line_feed}
 use Rattle.clif_lex.specs.declared.spans.Token.{Token}
 use Rattle.clif_lex.specs.Places.{line_at}
 use Rattle.clif_lex.specs.Spelling.{StandFrom, IsTokenIn}
+use Rattle.ir_core.proofs.Gets.{next_left}
 use Rattle.test_directives.specs.Commands as command
 use Rattle.test_directives.specs.Commands.{command_of}
 use Rattle.clif_words.specs.Lexemes.{is_comment}
 use Rattle.test_directives.specs.Tests.{Placed, placed, is_header, headers, comments, commands, bad_header}
-
-pub drop_next : {A : Type 0} (xs : List A) (i : ℕ) (x : A) → slice_get xs i ≡ Some x → drop i xs ≡ x ∷ drop (i + 1) xs
-drop_next [] i x e = absurd cc
-drop_next (y ∷ ys) zero x e = let q : y ≡ x = cc in ap (λ z. z ∷ ys) q
-drop_next (y ∷ ys) (suc i) x e =
-    let more : suc i + 1 ≡ suc (i + 1) = omega arith in
-    drop_next ys i x e ∙ sym (ap (λ (k : ℕ). x ∷ drop k (y ∷ ys)) more)
 
 pub take_next : {A : Type 0} (xs : List A) (i : ℕ) (x : A) → slice_get xs i ≡ Some x → take (i + 1) xs ≡ take i xs ++ x ∷ []
 take_next [] i x e = absurd cc
@@ -39,7 +33,7 @@ headers_first text t ts b e = ap (λ (d : Bool). map (placed text) (cond d (t �
 
 pub headers_next : (text : List ℕ) (ts : List Token) (i : ℕ) (t : Token) (b : Bool) → slice_get ts i ≡ Some t → is_header t.kind ≡ b
     → headers text (drop i ts) ≡ cond b (placed text t ∷ headers text (drop (i + 1) ts)) (headers text (drop (i + 1) ts))
-headers_next text ts i t b at e = ap (headers text) (drop_next ts i t at) ∙ headers_first text t (drop (i + 1) ts) b e
+headers_next text ts i t b at e = ap (headers text) (next_left ts i t at) ∙ headers_first text t (drop (i + 1) ts) b e
 
 abbrev commands_by : Option (Option command.Command) → List command.Command → List command.Command
 commands_by None rest = rest
@@ -97,7 +91,7 @@ stand_weaker text m n (t ∷ ts) le s = let a = s.0 in (omega arith, s.1, s.2, s
 pub stand_next : (text : List ℕ) (ts : List Token) (i from : ℕ) (t : Token) → slice_get ts i ≡ Some t → StandFrom text from (drop i ts)
     → (from ≤ t.start) × IsTokenIn text t × StandFrom text t.start (drop (i + 1) ts) × StandFrom text from (drop (i + 1) ts)
 stand_next text ts i from t at s =
-    let here : StandFrom text from (t ∷ drop (i + 1) ts) = subst (StandFrom text from) (drop_next ts i t at) s in
+    let here : StandFrom text from (t ∷ drop (i + 1) ts) = subst (StandFrom text from) (next_left ts i t at) s in
     let a = here.0 in
     let some = here.1.some in
     (here.0, here.1, stand_weaker text t.start t.end (drop (i + 1) ts) (omega arith) here.3, stand_weaker text from t.end (drop (i + 1) ts) (omega arith) here.3)

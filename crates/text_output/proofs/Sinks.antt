@@ -1,17 +1,15 @@
 -- Text on its way into a sink.
-use Rattle.std.proofs.Common.{◌≡◌, ℕ, ◌≤◌, List, [], ◌++◌, Bool, true, false, Result, Ok, Err, OnOk, OnErr, refl, sym, ap, subst, ◌∙◌, append_assoc, arith, inl, inr}
+use Rattle.std.proofs.Common.{◌≡◌, ℕ, ◌≤◌, List, [], ◌++◌, Bool, true, false, Result, Ok, Err, OnOk, OnErr, refl, sym, ap, subst, ◌∙◌, append_assoc, arith}
 use Rattle.std.proofs.lemmas.List.{append-nil}
 use Rattle.std.proofs.KnownBytes.{Appends-trans}
 use Rattle.std.specs.Prelude.{is_err}
 use Rattle.std.specs.Bool.{MatchBool}
 use Rattle.std.specs.declared.option.Option.{Option}
 use Rattle.std.specs.Io.KnownBytes.{Appends}
-use Rattle.clk_flow.specs.Faults.{Rose, HasCause}
+use Rattle.clk_flow.specs.Faults.{HasCause}
 use Rattle.clk_flow.specs.Whole.{AppendsPrefix}
+use Rattle.clk_flow.proofs.Counting.{rose_since}
 use Rattle.text_output.specs.Output.{Start, SinkState, HasPart, HasAll, HasText, Takes, Ends}
-
-rose_before : (a b c : ℕ) → a ≤ b → Rose b c → Rose a c
-rose_before a b c h r = elim r [ inl up ↦ inl (omega arith) | inr last ↦ inr last ]
 
 all_of : (start : Start) (s : SinkState) (text : List ℕ) → s.failed ≡ false → HasText start s text → HasAll start s text
 all_of start s text e has = subst (λ (b : Bool). MatchBool b (HasPart start s text) (HasAll start s text)) e has.taken
@@ -42,7 +40,7 @@ given s written faults (Err x) bytes more sound is whole part cause = record {
       let a : Appends start.written written (all.front ++ part.0) = Appends-trans start.written s.written written all.front part.0 all.given part.3 in
       let f : text ++ more ≡ (all.front ++ part.0) ++ part.1 = sym e ∙ ap (λ (l : List ℕ). all.front ++ l) part.2 ∙ sym (append_assoc all.front part.0 part.1) in
       let l : start.faults ≤ faults = omega (arith, has.later, cause.later) in
-      record { same = has.same; later = l; taken = record { given = (all.front ++ part.0, part.1, f, a); rose = rose_before start.faults s.faults faults has.later cause.failed } };
+      record { same = has.same; later = l; taken = record { given = (all.front ++ part.0, part.1, f, a); rose = rose_since start.faults s.faults faults has.later cause.failed } };
 }
 
 -- after a failure bytes are dropped
@@ -71,10 +69,6 @@ waits s waiting more e = record { takes = λ start text has. go s.failed refl st
         let w : a.front ++ waiting ≡ text ++ more = ap (λ (l : List ℕ). a.front ++ l) e ∙ sym (append_assoc a.front s.waiting more) ∙ ap (λ (l : List ℕ). l ++ more) a.whole in
         let q : HasAll start t (text ++ more) = record { front = a.front; whole = w; given = a.given } in
         record { same = has.same; later = has.later; taken = subst (λ (b : Bool). MatchBool b (HasPart start t (text ++ more)) (HasAll start t (text ++ more))) (sym f) q }
-
--- one after the other
-pub then_takes : (s t u : SinkState) (a b : List ℕ) → Takes s t a → Takes t u b → Takes s u (a ++ b)
-then_takes s t u a b p q = record { takes = λ start text has. subst (λ (l : List ℕ). HasText start u l) (append_assoc text a b) (q.takes start (text ++ a) (p.takes start text has)) }
 
 -- what the sink has where nothing waits
 nothing_more : (start : Start) (s t : SinkState) (text : List ℕ) → Takes s t [] → HasText start s text → HasText start t text

@@ -24,9 +24,6 @@ use Rattle.text_read_back.proofs.Terms.{word_says}
 
 -- ---- the words
 
-plain_word : {w : List ℕ} {x : RawFlag} → Reads plain_flag plain_flag_value x (Word w) → Reads plain_flag plain_flag_value x (Word w)
-plain_word p = p
-
 notrap_reads : Reads plain_flag plain_flag_value words.Notrap (Word (codes "notrap"))
 unfolding word_meaning all_words
 notrap_reads = left plain_flag_value (word_says classes.Flag (codes "notrap") flag_of words.Notrap refl refl refl)

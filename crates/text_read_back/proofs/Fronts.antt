@@ -8,9 +8,10 @@ use Rattle.std.proofs.lemmas.Bool.Decides.{nat_tests}
 use Rattle.std.proofs.Math.Bool.{and-false}
 use Rattle.clif_lex.specs.declared.spans.TokenKind.{TokenKind}
 use Rattle.clif_lex.specs.declared.spans.TokenKind.TheVariants.{Name, Word, Arrow, Mark}
-use Rattle.clif_lex.specs.Bytes.{is_blank, is_letter, is_word_byte, is_decimal_byte, is_sign, is_mark, first}
+use Rattle.clif_lex.specs.Bytes.{is_blank, is_letter, is_word_byte, is_decimal_byte, is_mark, first}
 use Rattle.clif_lex.specs.Lexing.{◌>>=◌, is_preamble, is_header_word, token, token_at, word_at, tokens_from}
 use Rattle.clif_lex.proofs.Runs.{at_blank, at_token}
+use Rattle.clif_lex.proofs.Fronts.{mark_no_digit, mark_no_sign}
 
 -- a run ends where a byte doesn't pass
 pub run_is : (p : ℕ → Bool) (cs rest : List ℕ) → list_all p cs ≡ true → p (first rest) ≡ false → prefix_len p (cs ++ rest) ≡ length cs
@@ -87,18 +88,12 @@ word_then preamble at w rest l all h e =
 mark_letter : (c : ℕ) → is_mark c ≡ true → is_letter c ≡ false
 mark_letter c h = grind (arith, nat_tests)
 
-mark_digit : (c : ℕ) → is_mark c ≡ true → is_ascii_digit c ≡ false
-mark_digit c h = grind (arith, nat_tests)
-
-mark_sign : (c : ℕ) → is_mark c ≡ true → is_sign c ≡ false
-mark_sign c h = grind (arith, nat_tests)
-
 mark_blank : (c : ℕ) → is_mark c ≡ true → is_blank c ≡ false
 mark_blank c h = grind (arith, nat_tests)
 
 mark_here : (preamble : Bool) (at c : ℕ) (text : List ℕ) → first text ≡ c → is_mark c ≡ true → token_at preamble at text ≡ Ok (token (Mark c) at 1)
 unfolding token_at
-mark_here preamble at c text f m = rw (f, mark_letter c m, mark_digit c m, mark_sign c m, m) refl
+mark_here preamble at c text f m = rw (f, mark_letter c m, mark_no_digit c m, mark_no_sign c m, m) refl
 
 pub mark_then : (preamble : Bool) (at c : ℕ) (rest : List ℕ) → is_mark c ≡ true
     → tokens_from preamble 0 at (c ∷ rest) ≡ (tokens_from false 0 (at + 1) rest >>= λ ts. Ok (token (Mark c) at 1 ∷ ts))

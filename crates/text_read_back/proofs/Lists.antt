@@ -5,7 +5,7 @@ use Rattle.std.specs.List.{range_with_len}
 use Rattle.std.proofs.lemmas.Bool.{eqb-true}
 use Rattle.std.proofs.lemmas.Bool.Decides.{nat_tests}
 use Rattle.std.proofs.lemmas.List.{map-append}
-use Rattle.ir_core.specs.Lists.{In, Each, Different}
+use Rattle.ir_core.specs.Lists.{In, Different}
 use Rattle.ir_core.specs.Lookup.{type_in, number_in}
 use Rattle.ir_core.specs.declared.signatures.Ty.{Ty}
 
@@ -36,10 +36,6 @@ below_length (x ∷ xs) v h = go (nat_eq x v) refl (λ k. below_length xs v k)
     go : (b : Bool) → nat_eq x v ≡ b → (In v xs → number_in xs v < length xs) → cond b 0 (suc (number_in xs v)) < suc (length xs)
     go true e ih = omega arith
     go false e ih = let k = ih (in_rest e h) in omega arith
-
-pub each_in : (P : ℕ → Type 0) (vs : List ℕ) → ((v : ℕ) → In v vs → P v) → Each P vs
-each_in P [] h = tt
-each_in P (v ∷ vs) h = (h v (inl refl), each_in P vs (λ w k. h w (inr k)))
 
 -- ---- places in a list without repetitions
 

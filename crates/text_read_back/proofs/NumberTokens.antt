@@ -12,18 +12,14 @@ use Rattle.clif_lex.specs.declared.spans.TokenKind.TheVariants.{Number}
 use Rattle.clif_lex.specs.Bytes.{is_blank, is_letter, is_word_byte, is_decimal_byte, is_sign, first}
 use Rattle.clif_lex.specs.Numbers.{amount, unsigned, magnitude, is_hex, is_in_range, spelled_number, digits_len, number_len, lacks_digits}
 use Rattle.clif_lex.specs.Lexing.{◌>>=◌, begins_number, token, token_at, number_at, tokens_from}
+use Rattle.clif_lex.proofs.Spelled.{digit_no_letter, sign_no_letter}
+use Rattle.clif_lex.proofs.Longest.{digit_no_sign, sign_no_digit}
 use Rattle.ir_text.specs.TextTree.{with_sign}
 use Rattle.text_read_back.proofs.Decimals.{decimal_digits, decimal_some, decimal_amount}
 use Rattle.text_read_back.proofs.Fronts.{run_is, first_of, no_letter, no_decimal, all_wider, token_then}
 
 digit_no_blank : (c : ℕ) → is_ascii_digit c ≡ true → is_blank c ≡ false
 digit_no_blank c h = grind (arith, nat_tests)
-
-digit_no_letter : (c : ℕ) → is_ascii_digit c ≡ true → is_letter c ≡ false
-digit_no_letter c h = grind (arith, nat_tests)
-
-pub digit_no_sign : (c : ℕ) → is_ascii_digit c ≡ true → is_sign c ≡ false
-digit_no_sign c h = grind (arith, nat_tests)
 
 digit_no_minus : (c : ℕ) → is_ascii_digit c ≡ true → (c == 45) ≡ false
 digit_no_minus c h = grind (arith, nat_tests)
@@ -40,14 +36,8 @@ letter_no_x c h = grind (arith, nat_tests)
 digit_decimal : (c : ℕ) → is_ascii_digit c ≡ true → is_decimal_byte c ≡ true
 digit_decimal c h = grind (arith, nat_tests)
 
-sign_no_letter : (c : ℕ) → is_sign c ≡ true → is_letter c ≡ false
-sign_no_letter c h = grind (arith, nat_tests)
-
 sign_no_blank : (c : ℕ) → is_sign c ≡ true → is_blank c ≡ false
 sign_no_blank c h = grind (arith, nat_tests)
-
-sign_no_digit : (c : ℕ) → is_sign c ≡ true → is_ascii_digit c ≡ false
-sign_no_digit c h = grind (arith, nat_tests)
 
 -- digits alone, at least one
 pub record AreDigits (ds : List ℕ) : Type 0 where

@@ -157,10 +157,6 @@ results_read (p ∷ ps) =
           record { tree = Some (a, k.tree); derived = (a ∷ [], s_at (at + 1 + 2 + 1) (separated text.parameter (p ∷ ps)), refl, ((refl, refl), k.derived)); says = k.says });
     }
 
-results_soft : (ps : List Param) → Soft (text.signature_results ps)
-results_soft [] = soft_nothing
-results_soft (p ∷ ps) = record { so = λ b h. refl }
-
 convention_reads : (c : Conv) → Reads convention convention_value c (Word (convention_word c))
 unfolding word_meaning all_words
 convention_reads convs.Fast = left convention_value (word_says classes.Conv (codes "fast") convention_of convs.Fast refl refl refl)

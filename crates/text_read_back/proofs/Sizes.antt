@@ -1,11 +1,11 @@
 -- A function of a size has no more values, blocks and declarations than that.
 use Rattle.std.proofs.Common.{ℕ, ◌≤◌, List, [], ◌∷◌, ◌++◌, length, arith}
 use Rattle.std.proofs.lemmas.List.{length-append, length-map}
-use Rattle.ir_core.specs.declared.signatures.Sig.{Sig}
 use Rattle.ir_core.specs.Lookup.{line_definitions, definitions}
 use Rattle.ir_core.specs.Module.{Line, Block, Function}
 use Rattle.ir_text.specs.Numbering.{numbering_of}
-use Rattle.ir_core.specs.Size.{total, line_size, block_size, sig_size, size_of}
+use Rattle.ir_core.specs.Size.{total, line_size, block_size, size_of}
+use Rattle.ir_core.proofs.Sizing.{sigs_count, blocks_count}
 
 lines_within : (ls : List Line) → length (line_definitions ls) ≤ total line_size ls
 lines_within [] = omega arith
@@ -20,14 +20,6 @@ values_within (b ∷ bs) =
     let g = length-append (line_definitions b.lines) (definitions bs) in
     omega arith
 
-blocks_within : (bs : List Block) → length bs ≤ total block_size bs
-blocks_within [] = omega arith
-blocks_within (b ∷ bs) = let k = blocks_within bs in omega arith
-
-sigs_within : (ss : List Sig) → length ss ≤ total sig_size ss
-sigs_within [] = omega arith
-sigs_within (s ∷ ss) = let k = sigs_within ss in omega arith
-
 pub record Counts (f : Function) (n : ℕ) : Type 0 where
   pub slots : length f.slots ≤ n
   pub sigs : length f.sigs ≤ n
@@ -38,7 +30,7 @@ pub record Counts (f : Function) (n : ℕ) : Type 0 where
 pub counts : (f : Function) (n : ℕ) → size_of f ≤ n → Counts f n
 counts f n h =
     let v = values_within f.blocks in
-    let b = blocks_within f.blocks in
-    let s = sigs_within f.sigs in
+    let b = blocks_count f.blocks in
+    let s = sigs_count f.sigs in
     let e = length-map f.blocks (λ (x : Block). x.number) in
     record { slots = omega arith; sigs = omega arith; callees = omega arith; values = omega arith; blocks = omega arith }

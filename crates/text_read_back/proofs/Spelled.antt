@@ -14,8 +14,8 @@ use Rattle.ir_core.specs.Uses.{operands, targets, arg_values_used, targets_used,
 use Rattle.ir_core.specs.WellFormed.{declared, LineWellFormed, BlockWellFormed, WellFormed}
 use Rattle.ir_text.specs.Numbering.{Numbering, numbering_of}
 use Rattle.ir_text.specs.Writable.{greatest_number, FunctionWritable}
-use Rattle.ir_core.proofs.Members.{each_left, each_more, each_right, in_left, in_right}
-use Rattle.text_read_back.proofs.Lists.{below_length, each_in, type_there}
+use Rattle.ir_core.proofs.Members.{each_left, each_more, each_right, in_left, in_right, each_by}
+use Rattle.text_read_back.proofs.Lists.{below_length, type_there}
 use Rattle.text_read_back.proofs.Sizes.{Counts, counts}
 use Rattle.text_read_back.proofs.Spellable.{ValueFits, BlockFits, ArgFits, TargetFits, SimpleNumbers, CalledNumbers, Numbers, TagSpellable, LineSpellable, ParamSpellable, BlockSpellable, FunctionSpellable, ModuleSpellable}
 
@@ -107,7 +107,7 @@ module _ (f : Function) (is : WellFormed f) (c : Counts f 262144) where
       values = each_more Declared (ValueFits n) value_fits (operands l.inst) (each_left Declared (operands l.inst) (targets_used (targets l.inst)) w.values);
       targets = targets_fit (targets l.inst) (each_right Declared (operands l.inst) (targets_used (targets l.inst)) w.values) w.blocks;
     };
-    results = each_more Defined (ValueFits n) defined_fits l.results (each_in Defined l.results d);
+    results = each_more Defined (ValueFits n) defined_fits l.results (each_by Defined l.results d);
     tags = tags_spellable l.tags w.shown;
   }
 
@@ -128,7 +128,7 @@ module _ (f : Function) (is : WellFormed f) (c : Counts f 262144) where
   blocks_spellable (b ∷ bs) d e w = (
     record {
       name = block_fits b.number (e b.number (inl refl));
-      params = each_more Defined (ParamSpellable f n) param_spellable b.params (each_in Defined b.params (λ x k. d x (in_left x b.params (line_definitions b.lines ++ definitions bs) k)));
+      params = each_more Defined (ParamSpellable f n) param_spellable b.params (each_by Defined b.params (λ x k. d x (in_left x b.params (line_definitions b.lines ++ definitions bs) k)));
       lines = lines_spellable b.lines w.0 (λ x k. d x (in_right x b.params (line_definitions b.lines ++ definitions bs) (in_left x (line_definitions b.lines) (definitions bs) k)));
     },
     blocks_spellable bs (λ x k. d x (in_right x b.params (line_definitions b.lines ++ definitions bs) (in_right x (line_definitions b.lines) (definitions bs) k))) (λ x k. e x (inr k)) w.1,

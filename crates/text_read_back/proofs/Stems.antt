@@ -1,5 +1,5 @@
 -- A stem with a number behind it, as `v7`, has the class of the stem and this number.
-use Rattle.std.proofs.Common.{◌≡◌, ℕ, ◌+◌, ◌-◌, ◌*◌, ◌/◌, ◌%◌, ◌^◌, ◌<◌, ◌≤◌, ◌==◌, Bool, true, false, not, List, [], ◌∷◌, ◌++◌, length, take, drop, get_or, Some, None, refl, ap, ◌∙◌, arith}
+use Rattle.std.proofs.Common.{◌≡◌, ℕ, ◌+◌, ◌-◌, ◌*◌, ◌/◌, ◌%◌, ◌^◌, ◌<◌, ◌≤◌, ◌==◌, true, false, not, List, [], ◌∷◌, ◌++◌, length, take, drop, get_or, Some, None, refl, ap, ◌∙◌, arith}
 use Rattle.std.specs.Prelude.{nat_lt, codes}
 use Rattle.std.specs.List.{list_all}
 use Rattle.std.specs.Str.{bytes_eq}
@@ -7,18 +7,18 @@ use Rattle.std.specs.Str.Parse.{digits_value_after}
 use Rattle.std.specs.Char.{is_ascii_digit, digit_value}
 use Rattle.std.specs.Fmt.{decimal}
 use Rattle.std.proofs.Math.Bool.{or-true}
-use Rattle.std.proofs.lemmas.Bool.{and_parts, lt-ltb}
+use Rattle.std.proofs.lemmas.Bool.{lt-ltb}
 use Rattle.std.proofs.lemmas.Bool.Decides.{nat_tests}
 use Rattle.std.proofs.lemmas.Fmt.{decimal_by_steps}
 use Rattle.std.proofs.lemmas.List.{take_at, drop_at, length-append, get_or-append_right, get_or_append_left}
 use Rattle.std.proofs.lemmas.List.Elements.{All-get_or}
 use Rattle.std.proofs.lemmas.List.Sums.{suffix_len_is, AllPass-from_list_all}
-use Rattle.std.proofs.lemmas.Slice.Eq.{bytes_eq-Decides}
 use Rattle.clif_lex.specs.Bytes.{first}
 use Rattle.clif_words.specs.declared.class.Class.{Class}
 use Rattle.clif_words.specs.declared.class.Class.TheVariants as classes
 use Rattle.clif_words.specs.Table.{Row, all_words}
 use Rattle.clif_words.specs.Words.{look_up, means, is_plain, digits_len, stem, digits, decimal_after, entity_number, stems, numbered_meaning, word_meaning}
+use Rattle.clif_words.proofs.Places.{look_up-none}
 use Rattle.text_read_back.proofs.Decimals.{decimal_digits, decimal_some, decimal_value}
 
 -- ---- the digits of a number
@@ -78,16 +78,6 @@ digits_behind w ds some last all =
     omega arith
 
 -- ---- no word of the table
-
-look_up-none : (test : List ℕ → Bool) (table : List Row) (word : List ℕ) → list_all (λ (row : Row). not (test row.word)) table ≡ true → test word ≡ true → look_up table word ≡ None
-look_up-none test [] word fail pass = refl
-look_up-none test (row ∷ rest) word fail pass =
-    let two = and_parts (not (test row.word)) (list_all (λ (row : Row). not (test row.word)) rest) fail in
-    go (bytes_eq row.word word) refl two.0 (look_up-none test rest word two.1 pass)
-  where
-    go : (b : Bool) → bytes_eq row.word word ≡ b → not (test row.word) ≡ true → look_up rest word ≡ None → look_up (row ∷ rest) word ≡ None
-    go true same differs ih = absurd (let e : row.word ≡ word = (bytes_eq-Decides row.word word).0 same in let yes : test row.word ≡ true = ap test e ∙ pass in let bad : not true ≡ true = rw yes at differs in cc)
-    go false other differs ih = rw other ih
 
 -- what is asked of a stem
 pub record IsStem (w : List ℕ) (c : Class) : Type 0 where

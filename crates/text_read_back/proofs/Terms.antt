@@ -1,15 +1,15 @@
 -- The words, entities and numbers of a text, each read as a terminal of the grammar.
-use Rattle.std.proofs.Common.{◌≡◌, ℕ, zero, suc, ◌^◌, ◌<◌, ◌≤◌, Bool, true, false, not, ◌&&◌, List, [], ◌∷◌, ◌++◌, map, length, Option, Some, None, refl, ap, ◌∙◌, arith, inl, inr}
+use Rattle.std.proofs.Common.{◌≡◌, ℕ, zero, suc, ◌^◌, ◌<◌, ◌≤◌, Bool, true, not, ◌&&◌, List, [], ◌∷◌, ◌++◌, map, length, Option, Some, None, refl, ap, ◌∙◌, arith, inl, inr}
 use Rattle.std.specs.Prelude.{nat_lt, codes, ℤ, pos, negsuc}
 use Rattle.std.specs.Fmt.{decimal, signed_decimal}
 use Rattle.std.specs.Char.{is_ascii_digit}
 use Rattle.std.specs.List.{list_all}
 use Rattle.std.proofs.lemmas.Bool.{and_parts, lt-ltb}
-use Rattle.std.proofs.lemmas.Bool.Decides.{nat_tests}
-use Rattle.clif_lex.specs.Bytes.{is_word_byte, is_sign, first}
+use Rattle.clif_lex.specs.Bytes.{first}
 use Rattle.clif_lex.specs.Lexing.{is_header_word}
 use Rattle.clif_lex.specs.Numbers.{spelled_number}
 use Rattle.clif_lex.specs.declared.spans.TokenKind.TheVariants as kind
+use Rattle.clif_lex.proofs.Longest.{digit_no_sign}
 use Rattle.grammar.specs.Rules.{Lexeme, Rule, Opt, Tree}
 use Rattle.ir_core.specs.declared.signatures.Ty.{Ty}
 use Rattle.ir_core.specs.declared.signatures.Ty.TheVariants.{I8, I16, I32, I64, I128}
@@ -30,7 +30,7 @@ use Rattle.token_reader.specs.Grammar.{commas, number, any_type, suffix}
 use Rattle.token_reader.specs.Reading.{name, opcode}
 use Rattle.token_reader.specs.Values.{commas_value, any_type_value, suffix_value, opt_suffix_value, number_value, offset_value}
 use Rattle.text_read_back.proofs.Decimals.{decimal_digits, decimal_some}
-use Rattle.text_read_back.proofs.NumberTokens.{digit_no_sign, is_64_bits, below, signed_spells, decimal_magnitude}
+use Rattle.text_read_back.proofs.NumberTokens.{is_64_bits, below, signed_spells, decimal_magnitude}
 use Rattle.text_read_back.proofs.Stretches.{is_word}
 use Rattle.text_read_back.specs.Bare.{bare_name, bare_opcode, bare_number, bare_option}
 use Rattle.text_read_back.specs.RawOf as raws
@@ -126,9 +126,6 @@ offset_reads (pos zero) h = none signed (λ v. bare_option bare_number (offset_v
 offset_reads (pos (suc k)) h = some_offset (pos (suc k)) h
 offset_reads (negsuc k) h = some_offset (negsuc k) h
 
-no_word_byte : (c : ℕ) → is_sign c ≡ true → is_word_byte c ≡ false
-no_word_byte c h = grind (arith, nat_tests)
-
 pub offset_soft : (z : ℤ) → Soft (text.offset_text z)
 offset_soft (pos zero) = soft_nothing
 offset_soft (pos (suc k)) = record { so = λ b h. refl }
@@ -139,13 +136,6 @@ offset_soft (negsuc k) = record { so = λ b h. refl }
 -- a lexeme of which only the number matters
 abbrev lexeme_of : ℕ → Lexeme
 lexeme_of n = record { class = 0; number = n; amount = pos 0; name = []; spot = 0 }
-
-type_fits : (t : Ty) → is_plain_word (type_word t) ≡ true
-type_fits I8 = refl
-type_fits I16 = refl
-type_fits I32 = refl
-type_fits I64 = refl
-type_fits I128 = refl
 
 pub type_reads : (t : Ty) → Reads any_type any_type_value t (Word (type_word t))
 unfolding word_meaning all_words

@@ -1,9 +1,8 @@
 -- A text in pieces that is apart from what follows it, and is derived by a rule wherever it stands.
-use Rattle.std.proofs.Common.{◌≡◌, ℕ, ◌+◌, Bool, true, false, cond, List, [], ◌∷◌, ◌++◌, map, length, Option, Some, None, refl, sym, ap, ap₂, subst, ◌∙◌, inl, inr, append_assoc}
+use Rattle.std.proofs.Common.{◌≡◌, ℕ, ◌+◌, true, false, List, [], ◌∷◌, ◌++◌, map, length, Option, Some, None, refl, sym, ap, ap₂, subst, ◌∙◌, inl, inr, append_assoc}
 use Rattle.std.proofs.lemmas.Bool.{and_from}
 use Rattle.std.proofs.lemmas.List.{map-append, append-nil}
 use Rattle.clif_lex.specs.Bytes.{is_word_byte, is_mark}
-use Rattle.clif_lex.specs.declared.spans.Token.{Token}
 use Rattle.clif_lex.specs.declared.spans.TokenKind.{TokenKind}
 use Rattle.clif_lex.specs.declared.spans.TokenKind.TheVariants as kind
 use Rattle.grammar.specs.Rules.{Lexeme, Rule, Seq, Alt, Opt, Many, Tree, Derives}
@@ -11,8 +10,9 @@ use Rattle.ir_text.specs.TextTree.{Text, Nothing, Blanks, Word, Numbered, Name, 
 use Rattle.clif_words.specs.declared.class.Class.{Class}
 use Rattle.clif_words.specs.declared.class.Class.TheVariants as classes
 use Rattle.clif_words.specs.Classes.{code}
-use Rattle.clif_words.specs.Lexemes.{meaning_of, amount_of, name_of, lexeme, is_comment, lexemes}
+use Rattle.clif_words.specs.Lexemes.{meaning_of, amount_of, name_of, lexemes}
 use Rattle.clif_words.specs.Terminals.{one}
+use Rattle.clif_words.proofs.Joined.{lexemes-append}
 use Rattle.token_reader.specs.Grammar.{commas}
 use Rattle.text_read_back.proofs.Stretches.{front, clear, tokens_at, seen_in, seen_at}
 
@@ -23,16 +23,6 @@ lexeme_as k s at = record { class = code (meaning_of k s).class; number = (meani
 
 abbrev pub s_at : ℕ → Text → List Lexeme
 s_at at t = seen_at lexeme_as at t
-
-lexemes_append : (text : List ℕ) (ts us : List Token) → lexemes text (ts ++ us) ≡ lexemes text ts ++ lexemes text us
-unfolding lexemes
-lexemes_append text [] us = refl
-lexemes_append text (t ∷ ts) us = go (is_comment t.kind) (lexemes_append text ts us)
-  where
-    go : (b : Bool) → lexemes text (ts ++ us) ≡ lexemes text ts ++ lexemes text us
-        → cond b (lexemes text (ts ++ us)) (lexeme text t ∷ lexemes text (ts ++ us)) ≡ cond b (lexemes text ts) (lexeme text t ∷ lexemes text ts) ++ lexemes text us
-    go true ih = ih
-    go false ih = ap (λ (z : List Lexeme). lexeme text t ∷ z) ih
 
 pub lexemes_of_text : (t : Text) (text : List ℕ) (at : ℕ) → lexemes text (tokens_at at t) ≡ map (seen_in lexeme_as text) (tokens_at at t)
 unfolding lexemes
@@ -48,7 +38,7 @@ lexemes_of_text (Mark byte) text at = refl
 lexemes_of_text Arrow text at = refl
 lexemes_of_text (Then s t) text at =
     let next = at + length (spelled s) in
-    lexemes_append text (tokens_at at s) (tokens_at next t)
+    lexemes-append text (tokens_at at s) (tokens_at next t)
     ∙ ap (λ (z : List Lexeme). z ++ lexemes text (tokens_at next t)) (lexemes_of_text s text at)
     ∙ ap (λ (z : List Lexeme). map (seen_in lexeme_as text) (tokens_at at s) ++ z) (lexemes_of_text t text next)
     ∙ sym (map-append (seen_in lexeme_as text) (tokens_at at s) (tokens_at next t))

@@ -2,6 +2,7 @@
 use Rattle.std.proofs.Common.{◌≡◌, ℕ, zero, suc, ◌≤◌, ◌<◌, true, false, List, [], ◌∷◌, ◌++◌, length, Ok, Err, refl, sym, ap, ◌∙◌, arith, append_assoc}
 use Rattle.std.proofs.lemmas.List.{append-nil}
 use Rattle.grammar.specs.Rules.{Lexeme, Kind, Syntax, UnknownOpcode, Unsupported, Out, heads, ◌>>=◌}
+use Rattle.grammar.proofs.Sets.{heads_some}
 use Rattle.token_reader.specs.declared.stop.Stop.{Stop}
 use Rattle.token_reader.specs.declared.stop.Stop.TheVariants as stops
 use Rattle.token_reader.specs.Reading.{Stops, each, with_front}
@@ -14,14 +15,10 @@ regroup front a (Err f) = refl
 abbrev pub Keeps : {A : Type 0} → (List Lexeme → Out A) → List ℕ → List A → List Lexeme → Out (List A) → Type 0
 Keeps p cs front ts total = (n : ℕ) × (length ts ≤ n) × (with_front front (each p cs n ts) ≡ total)
 
-some_left : (cs : List ℕ) (ts : List Lexeme) → heads cs ts ≡ true → 1 ≤ length ts
-some_left cs [] h = absurd cc
-some_left cs (x ∷ xs) h = omega arith
-
 pub goes_on : {A : Type 0} (p : List Lexeme → Out A) (cs : List ℕ) (front : List A) (ts after : List Lexeme) (a : A) (total : Out (List A))
     → heads cs ts ≡ true → p ts ≡ Ok (a, after) → length after < length ts → Keeps p cs front ts total → Keeps p cs (front ++ a ∷ []) after total
 unfolding each
-goes_on {A} p cs front ts after a total h e less (zero, le, so_far) = absurd (let k = some_left cs ts h in omega arith)
+goes_on {A} p cs front ts after a total h e less (zero, le, so_far) = absurd (let k = heads_some cs ts h in omega arith)
 goes_on {A} p cs front ts after a total h e less (suc n, le, so_far) =
     let one : with_front front (each p cs (suc n) ts) ≡ with_front (front ++ a ∷ []) (each p cs n after) = rw (h, e) (regroup front a (each p cs n after)) in
     (n, omega arith, sym one ∙ so_far)
@@ -29,7 +26,7 @@ goes_on {A} p cs front ts after a total h e less (suc n, le, so_far) =
 fails_as : {A : Type 0} (p : List Lexeme → Out A) (cs : List ℕ) (front : List A) (ts now : List Lexeme) (k : Kind) (total : Out (List A))
     → heads cs ts ≡ true → p ts ≡ Err (k, now) → Keeps p cs front ts total → total ≡ Err (k, now)
 unfolding each
-fails_as p cs front ts now k total h e (zero, le, so_far) = absurd (let s = some_left cs ts h in omega arith)
+fails_as p cs front ts now k total h e (zero, le, so_far) = absurd (let s = heads_some cs ts h in omega arith)
 fails_as {A} p cs front ts now k total h e (suc n, le, so_far) =
     let one : with_front front (each p cs (suc n) ts) ≡ Err (k, now) = rw (h, e) refl in
     sym so_far ∙ one

@@ -16,9 +16,6 @@ use Rattle.token_reader.proofs.Views.{drop_some, drop_past, some_at, takes}
 pub shows_at : (text : List ℕ) (ts : List Token) (i : ℕ) (t : Token) (next : Next) → slice_get ts i ≡ Some t → is_comment t.kind ≡ false → IsOf text t next → Shows text (drop i ts) next
 shows_at text ts i t next e no_comment is = rw (drop_some ts i t e) (no_comment, is)
 
-pub shows_past : (text : List ℕ) (ts : List Token) (i : ℕ) (next : Next) → length ts ≤ i → Shows text (drop i ts) next
-shows_past text ts i next le = rw (drop_past ts i le) tt
-
 -- the next token is no comment
 pub shown_not : (text : List ℕ) (ts : List Token) (i : ℕ) (t : Token) (next : Next) → slice_get ts i ≡ Some t → Shows text (drop i ts) next → is_comment t.kind ≡ false
 shown_not text ts i t next e shows = (subst (λ (z : List Token). Shows text z next) (drop_some ts i t e) shows).0
@@ -45,11 +42,6 @@ pub shown_some : (text : List ℕ) (ts : List Token) (next : Next) → Shows tex
 unfolding lexemes
 shown_some text [] next shows left = absurd cc
 shown_some text (t ∷ ts) next shows left = (shows.0, ap Some (ap (λ (class : Class). means class (seen next.terminal).number) shows.1.1 ∙ sym shows.1.0))
-
-pub shown_none : (text : List ℕ) (ts : List Token) (next : Next) → Shows text ts next → heads_any (lexemes text ts) ≡ false → Upcoming text ts None
-unfolding lexemes
-shown_none text [] next shows left = refl
-shown_none text (t ∷ ts) next shows left = absurd (let e : true ≡ false = rw (shows.0) at left in cc)
 
 pub front_shown : (text : List ℕ) (ts : List Token) (next : Next) (x : Lexeme) (xs : List Lexeme) → Shows text ts next → lexemes text ts ≡ x ∷ xs → ((seen next.terminal).number ≡ x.number) × (next.spot ≡ x.spot)
 unfolding lexemes

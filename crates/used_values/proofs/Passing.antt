@@ -3,7 +3,7 @@
 use Rattle.std.proofs.Common.{◌≡◌, ◌⊎◌, inl, inr, ℕ, zero, suc, ◌+◌, ◌<◌, ◌≤◌, List, [], ◌∷◌, ◌++◌, map, length, Some, Bool, true, false, ◌&&◌, ◌||◌, get_or, refl, sym, ap, subst, ◌∙◌, arith}
 use Rattle.std.specs.Prelude.{IfSome, slice_get, nat_lt, nat_le}
 use Rattle.std.specs.List.{list_all}
-use Rattle.std.proofs.lemmas.Bool.{cases_eq, cases_lt, ltb-true, leb-true}
+use Rattle.std.proofs.lemmas.Bool.{cases_eq, cases_lt, ltb-true, leb-true, and_parts}
 use Rattle.std.proofs.lemmas.Option.{same_Some, slice_get_read, slice_get_within}
 use Rattle.std.proofs.lemmas.List.{length-map}
 use Rattle.ir_core.specs.declared.instructions.Arg.{Arg}
@@ -16,18 +16,18 @@ use Rattle.ir_core.specs.Lookup.{find_block, block_numbers}
 use Rattle.ir_core.specs.Lists.{In, Each, Different}
 use Rattle.ir_core.specs.Uses.{arg_values_used, targets_used, operands, targets}
 use Rattle.ir_core.specs.Viewed.{line_of}
-use Rattle.ir_core.proofs.Members.{in_left, in_right, each_join}
+use Rattle.ir_core.proofs.Members.{in_left, in_right, each_join, in_or_not, each_by}
 use Rattle.ir_core.proofs.Equal.{number_equal}
+use Rattle.ir_core.proofs.Gets.{get_in}
 use Rattle.ir_semantics.specs.Accepted.{UsesAvailable}
 use Rattle.ir_semantics.specs.Available.{terminates, Reach, begin, next, branch, Available}
 use Rattle.ir_semantics.specs.Splice.{first_number}
-use Rattle.ir_semantics.proofs.SafetyPlaces.{find_first, get_in}
+use Rattle.ir_semantics.proofs.SafetyPlaces.{find_first}
 use Rattle.avail_flow.specs.Points.{Defines}
 use Rattle.avail_flow.proofs.Blocks.{found_parts, has_lines, goes_nowhere}
 use Rattle.used_values.specs.declared.nearby.Chain.{Chain}
 use Rattle.used_values.specs.declared.nearby.Known.{Known}
 use Rattle.used_values.specs.Nearby.{knows, knows_arg, knows_target, knows_used, UsesAvailableIn, AllUsesAvailable, IsPassed, leads_to, LeadsOnlyTo, EnteredBy, IsChain}
-use Rattle.used_values.proofs.Using.{each_of}
 
 -- ---- paths
 
@@ -69,15 +69,6 @@ passed f (branch r block found l got t there entered enters) v (suc k) low d = a
 
 before_available : (f : Function) (b i v : ℕ) → Before f b i v → Available f b i v
 before_available f b i v d defs r = passed f r v d.place d.low d.defines
-
-in_or_not : (n : ℕ) (ns : List ℕ) → In n ns ⊎ (In n ns → ⊥)
-in_or_not n [] = inr (λ h. elim h [ ])
-in_or_not n (k ∷ ns) = by (cases_eq n k) (in_or_not n ns)
-  where
-    by : (n ≡ k) ⊎ (n ≡ k → ⊥) → In n ns ⊎ (In n ns → ⊥) → In n (k ∷ ns) ⊎ (In n (k ∷ ns) → ⊥)
-    by (inl e) h = inl (inl e)
-    by (inr ne) (inl h) = inl (inr h)
-    by (inr ne) (inr nh) = inr (λ h. elim h [ inl e ↦ ne e | inr i ↦ nh i ])
 
 -- each path to a block that is left has come out of the one by which they are entered
 entered_passed : (f : Function) (left : List ℕ) (a v : ℕ) → (In (first_number f.blocks) left → ⊥) → EnteredBy f left a → IsPassed f a v → {b i : ℕ} {defs : List ℕ} → Reach f b i defs → In b left → In v defs
@@ -140,10 +131,6 @@ goes_more f b i l got ends goes j k low at = by (cases_eq j i)
 
 -- ---- what is known is available
 
-and_both : (a b : Bool) → (a && b) ≡ true → (a ≡ true) × (b ≡ true)
-and_both true b h = (refl, h)
-and_both false b h = absurd cc
-
 module _ (f : Function) (b i : ℕ) (known : Known) (early : (v : ℕ) → v < known.early → Available f b i v) (counted : Counted f b i known.start known.end) where
   known_available : (v : ℕ) → knows known v ≡ true → Available f b i v
   known_available v h = by (nat_lt v known.early) refl h
@@ -151,28 +138,28 @@ module _ (f : Function) (b i : ℕ) (known : Known) (early : (v : ℕ) → v < k
       by : (z : Bool) → nat_lt v known.early ≡ z → (z || (nat_le known.start v && nat_lt v known.end)) ≡ true → Available f b i v
       by true e q = early v (ltb-true v known.early e)
       by false e q =
-          let both = and_both (nat_le known.start v) (nat_lt v known.end) q in
+          let both = and_parts (nat_le known.start v) (nat_lt v known.end) q in
           before_available f b i v (counted.before v (leb-true known.start v both.0) (ltb-true v known.end both.1))
 
   values_available : (vs : List ℕ) → list_all (knows known) vs ≡ true → Each (Available f b i) vs
   values_available [] h = tt
-  values_available (v ∷ vs) h = let both = and_both (knows known v) (list_all (knows known) vs) h in (known_available v both.0, values_available vs both.1)
+  values_available (v ∷ vs) h = let both = and_parts (knows known v) (list_all (knows known) vs) h in (known_available v both.0, values_available vs both.1)
 
   args_available : (as' : List Arg) → list_all (knows_arg known) as' ≡ true → Each (Available f b i) (arg_values_used as')
   args_available [] h = tt
-  args_available (arg.Value v ∷ as') h = let both = and_both (knows known v) (list_all (knows_arg known) as') h in (known_available v both.0, args_available as' both.1)
+  args_available (arg.Value v ∷ as') h = let both = and_parts (knows known v) (list_all (knows_arg known) as') h in (known_available v both.0, args_available as' both.1)
   args_available (arg.Ret k ∷ as') h = args_available as' h
   args_available (arg.Exn k ∷ as') h = args_available as' h
 
   targets_available : (ts : List BlockCall) → list_all (knows_target known) ts ≡ true → Each (Available f b i) (targets_used ts)
   targets_available [] h = tt
   targets_available (t ∷ ts) h =
-      let both = and_both (knows_target known t) (list_all (knows_target known) ts) h in
+      let both = and_parts (knows_target known t) (list_all (knows_target known) ts) h in
       each_join (Available f b i) (arg_values_used t.args) (targets_used ts) (args_available t.args both.0) (targets_available ts both.1)
 
   pub uses_available : (l : Line) → knows_used known l.inst ≡ true → UsesAvailable f b i l
   uses_available l h =
-      let both = and_both (list_all (knows known) (operands l.inst)) (list_all (knows_target known) (targets l.inst)) h in
+      let both = and_parts (list_all (knows known) (operands l.inst)) (list_all (knows_target known) (targets l.inst)) h in
       each_join (Available f b i) (operands l.inst) (targets_used (targets l.inst)) (values_available (operands l.inst) both.0) (targets_available (targets l.inst) both.1)
 
 -- ---- the lines of a block
@@ -206,8 +193,8 @@ lines_all f b i xs e high k j l got = k.uses j l (line_inside f b i xs e high j 
 
 leads_all : (b : ℕ) (ts : List BlockCall) → list_all (leads_to b) ts ≡ true → (t : BlockCall) → In t ts → t.block ≡ b
 leads_all b [] h t i = elim i [ ]
-leads_all b (u ∷ ts) h t (inl e) = let both = and_both (leads_to b u) (list_all (leads_to b) ts) h in number_equal t.block b (subst (λ (z : BlockCall). leads_to b z ≡ true) (sym e) both.0)
-leads_all b (u ∷ ts) h t (inr i) = let both = and_both (leads_to b u) (list_all (leads_to b) ts) h in leads_all b ts both.1 t i
+leads_all b (u ∷ ts) h t (inl e) = let both = and_parts (leads_to b u) (list_all (leads_to b) ts) h in number_equal t.block b (subst (λ (z : BlockCall). leads_to b z ≡ true) (sym e) both.0)
+leads_all b (u ∷ ts) h t (inr i) = let both = and_parts (leads_to b u) (list_all (leads_to b) ts) h in leads_all b ts both.1 t i
 
 -- of the lines before i
 pub record LeadsTo (f : Function) (a b i : ℕ) : Type 0 where
@@ -295,7 +282,7 @@ module _ (f : Function) (d : Different (block_numbers f.blocks)) (numbers : List
       last = λ a same. subst (EnteredBy f left) (same_Some first a same) entered_first;
     };
     last = subst (In first) split (inl refl);
-    inside = each_of (λ b. In b (block_numbers f.blocks)) left (λ b i. subst (In b) split (inr i));
+    inside = each_by (λ b. In b (block_numbers f.blocks)) left (λ b i. subst (In b) split (inr i));
     uses = λ b i. by b (subst (In b) (sym split) i);
   }
     where

@@ -1,25 +1,19 @@
 -- Facts of each element, where a list is walked: of what is left exactly where of the whole.
-use Rattle.std.proofs.Common.{◌≡◌, ◌↔◌, inl, inr, ℕ, ◌+◌, ◌<◌, ◌≤◌, List, [], ◌∷◌, ◌++◌, length, drop, Some, Bool, true, false, get_or, refl, sym, ap, subst, ◌∙◌}
+use Rattle.std.proofs.Common.{◌≡◌, ◌↔◌, ℕ, ◌+◌, ◌<◌, ◌≤◌, List, [], ◌∷◌, ◌++◌, length, drop, Some, Bool, true, false, get_or, refl, sym, ap, subst, ◌∙◌}
 use Rattle.std.specs.Prelude.{slice_get, IsTrue}
 use Rattle.std.proofs.lemmas.Option.{slice_get_read, slice_get_past}
 use Rattle.ir_core.specs.declared.instructions.Arg.{Arg}
 use Rattle.ir_core.specs.declared.instructions.Arg.TheVariants as arg
 use Rattle.ir_core.specs.declared.instructions.BlockCall.{BlockCall}
-use Rattle.ir_core.specs.Lists.{In, Each}
+use Rattle.ir_core.specs.Lists.{Each}
 use Rattle.ir_core.specs.Uses.{arg_values_used, targets_used}
 use Rattle.ir_core.proofs.Members.{each_left, each_right, each_join}
-use Rattle.avail_flow.proofs.Listing.{left_at, left_past}
-
-pub each_of : {A : Type 0} (P : A → Type 0) (xs : List A) → ((x : A) → In x xs → P x) → Each P xs
-each_of P [] h = tt
-each_of P (a ∷ xs) h = (h a (inl refl), each_of P xs (λ x i. h x (inr i)))
+use Rattle.ir_core.proofs.Gets.{next_left}
+use Rattle.avail_flow.proofs.Listing.{left_past}
 
 pub record Left (P : ℕ → Type 0) (whole rest : List ℕ) : Type 0 where
   pub all : Each P rest → Each P whole
   pub others : Each P whole → Each P rest
-
-pub whole_left : (P : ℕ → Type 0) (whole : List ℕ) → Left P whole whole
-whole_left P whole = record { all = λ e. e; others = λ e. e }
 
 -- what is left begins with a part of which it holds
 pub left_more : (P : ℕ → Type 0) (whole rest front behind : List ℕ) → rest ≡ front ++ behind → Each P front → Left P whole rest → Left P whole behind
@@ -57,13 +51,10 @@ args_front (arg.Ret i) as' = refl
 args_front (arg.Exn i) as' = refl
 
 pub args_split : (as' : List Arg) (i : ℕ) (a : Arg) → i < length as' → a ≡ get_or as' i a → arg_values_used (drop i as') ≡ arg_values_used (a ∷ []) ++ arg_values_used (drop (i + 1) as')
-args_split as' i a low at = ap arg_values_used (left_at as' i a (slice_get_read as' (length as') i a refl low at)) ∙ args_front a (drop (i + 1) as')
-
-pub values_split : (vs : List ℕ) (i v : ℕ) → slice_get vs i ≡ Some v → drop i vs ≡ (v ∷ []) ++ drop (i + 1) vs
-values_split vs i v at = left_at vs i v at
+args_split as' i a low at = ap arg_values_used (next_left as' i a (slice_get_read as' (length as') i a refl low at)) ∙ args_front a (drop (i + 1) as')
 
 pub targets_split : (ts : List BlockCall) (i : ℕ) (t : BlockCall) → slice_get ts i ≡ Some t → targets_used (drop i ts) ≡ arg_values_used t.args ++ targets_used (drop (i + 1) ts)
-targets_split ts i t at = ap targets_used (left_at ts i t at)
+targets_split ts i t at = ap targets_used (next_left ts i t at)
 
 pub past : {A : Type 0} (xs : List A) (i : ℕ) → length xs ≤ i → drop i xs ≡ []
 past xs i high = left_past xs i (slice_get_past xs i high)

@@ -3,10 +3,11 @@ use Rattle.std.proofs.Common.{◌≡◌, ℕ, ◌+◌, ◌-◌, ◌<◌, List, l
 use Rattle.std.specs.Prelude.{slice_get}
 use Rattle.std.specs.List.{list_all}
 use Rattle.std.proofs.lemmas.Option.{slice_get_within}
-use Rattle.avail_flow.proofs.Listing.{left_at, left_past}
+use Rattle.avail_flow.proofs.Listing.{left_past}
+use Rattle.ir_core.proofs.Gets.{next_left}
 
 step_all : {A : Type 0} (p : A → Bool) (xs : List A) (i : ℕ) (x : A) → slice_get xs i ≡ Some x → list_all p (drop i xs) ≡ (p x && list_all p (drop (i + 1) xs))
-step_all p xs i x at = ap (list_all p) (left_at xs i x at)
+step_all p xs i x at = ap (list_all p) (next_left xs i x at)
 
 pub all_more : {A : Type 0} (p : A → Bool) (xs : List A) (i : ℕ) (x : A) (whole : Bool) → slice_get xs i ≡ Some x → p x ≡ true → list_all p (drop i xs) ≡ whole → list_all p (drop (i + 1) xs) ≡ whole
 all_more p xs i x whole at good e = sym (ap (λ (b : Bool). b && list_all p (drop (i + 1) xs)) good) ∙ (sym (step_all p xs i x at) ∙ e)

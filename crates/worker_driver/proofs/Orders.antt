@@ -9,6 +9,7 @@ use Rattle.ir_core.specs.Lookup.{and_then, find_function}
 use Rattle.ir_core.specs.Lists.{In}
 use Rattle.ir_core.specs.WellFormed.{DifferentNames}
 use Rattle.ir_core.proofs.Indexing.{place_cases}
+use Rattle.ir_core.proofs.Gets.{in_get}
 use Rattle.call_graph.specs.Calls.{number_of, with_number, numbers_of}
 use Rattle.call_graph.specs.Order.{BottomUp, CalleesBefore, names_of, bottom_up}
 use Rattle.call_graph.proofs.Numbers.{number_is, some_at, one_place}
@@ -17,20 +18,10 @@ use Rattle.publish_table.specs.Jobs.{function_of}
 use Rattle.publish_table.specs.Plays.{count}
 use Rattle.worker_driver.specs.Plans.{IsListing}
 use Rattle.worker_driver.proofs.Sums.{length_all, spot_of, one_spot}
-use Rattle.call_graph.proofs.Bridging.{name_in}
-
-pub named : (m : Module) (x : FuncName) → In x (names_of m) → (k : ℕ) × (f : Function) × (slice_get m k ≡ Some f) × (f.name ≡ x)
-named [] x i = elim i [ ]
-named (f ∷ m) x (inl e) = (0, f, refl, sym e)
-named (f ∷ m) x (inr i) = let r = named m x i in (suc r.0, r.1, r.2, r.3)
+use Rattle.call_graph.proofs.Bridging.{name_in, in_name}
 
 pub same_item : {A : Type 0} (l : List A) (k : ℕ) (a b : A) → slice_get l k ≡ Some a → slice_get l k ≡ Some b → a ≡ b
 same_item l k a b e h = cc
-
-pub place_in : {A : Type 0} (l : List A) (a : A) → In a l → (k : ℕ) × (slice_get l k ≡ Some a)
-place_in [] a i = elim i [ ]
-place_in (x ∷ xs) a (inl e) = (0, ap (λ z. Some z) (sym e))
-place_in (x ∷ xs) a (inr i) = let r = place_in xs a i in (suc r.0, r.1)
 
 -- each of the names is that of a function
 abbrev pub AllIn : Module → List FuncName → Type 0
@@ -43,7 +34,7 @@ list_of m = numbers_of m (bottom_up m)
 module _ (m : Module) (d : DifferentNames m) where
   first_number : (n : FuncName) (ns : List FuncName) → In n (names_of m)
       → (k : ℕ) × (f : Function) × (slice_get m k ≡ Some f) × (f.name ≡ n) × (numbers_of m (n ∷ ns) ≡ k ∷ numbers_of m ns)
-  first_number n ns i = let r = named m n i in
+  first_number n ns i = let r = in_name m n i in
       (r.0, r.1, r.2, r.3, ap (λ o. with_number o (numbers_of m ns)) (subst (λ (x : FuncName). number_of m x ≡ Some r.0) r.3 (number_is m d r.0 r.1 r.2)))
 
   count_absent : (k : ℕ) (f : Function) → slice_get m k ≡ Some f → (before ns : List FuncName) → AllIn m ns
@@ -97,7 +88,7 @@ module _ (m : Module) (d : DifferentNames m) where
       (r.0, r.1, r.2, ap (λ (o : Option FuncName). and_then o (λ n. find_function n m)) r.2 ∙ found k r.0 r.1)
 
   pub all_below : (k : ℕ) → In k (list_of m) → k < length m
-  all_below k i = let r = place_in (list_of m) k i in let s = at_ticket r.0 k r.1 in slice_get_within m k s.0 s.1
+  all_below k i = let r = in_get (list_of m) k i in let s = at_ticket r.0 k r.1 in slice_get_within m k s.0 s.1
 
   pub once : (k : ℕ) → k < length m → count k (list_of m) ≡ 1
   once k l = let s = some_at m k l in

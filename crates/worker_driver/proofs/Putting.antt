@@ -1,5 +1,5 @@
 -- One more body among those that are held.
-use Rattle.std.proofs.Common.{◌≡◌, ◌≢◌, ◌⊎◌, inl, inr, ℕ, List, [], ◌∷◌, ◌++◌, Option, Some, true, false, refl, sym, ◌∙◌, subst, arith}
+use Rattle.std.proofs.Common.{◌≡◌, ◌≢◌, ◌⊎◌, inl, inr, ℕ, List, [], ◌∷◌, ◌++◌, Option, Some, false, refl, sym, ◌∙◌, subst, arith}
 use Rattle.std.specs.Prelude.{IsSome}
 use Rattle.std.specs.Arc.{arc_value}
 use Rattle.std.specs.Ordering.{nat_cmp, is_eq}
@@ -14,9 +14,6 @@ use Rattle.ir_core.specs.Module.{Module}
 use Rattle.inline_finish.specs.declared.bodies.Built.{Built}
 use Rattle.inline_finish.specs.declared.bodies.Policy.{Policy}
 use Rattle.worker_driver.specs.Held.{IsHeld, AreBodies, Has}
-
-same_key : (x y : ℕ) → x ≡ y → is_eq (nat_cmp x y) ≡ true
-same_key x y e = grind (arith, nat_tests)
 
 other_key : (x y : ℕ) → x ≢ y → is_eq (nat_cmp x y) ≡ false
 other_key x y n = grind (arith, nat_tests)

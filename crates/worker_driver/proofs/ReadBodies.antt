@@ -9,6 +9,7 @@ use Rattle.ir_core.proofs.Members.{in_left, in_right}
 use Rattle.std.proofs.lemmas.List.{length-map}
 use Rattle.std.proofs.lemmas.Option.{slice_get_within, slice_get-get_or}
 use Rattle.ir_core.specs.WellFormed.{DifferentNames}
+use Rattle.ir_core.proofs.Gets.{in_get}
 use Rattle.ir_semantics.specs.Canon.{SameFunction}
 use Rattle.call_graph.specs.Calls.{graph_of, number_of}
 use Rattle.call_graph.specs.Numbers.{called}
@@ -31,8 +32,8 @@ use Rattle.worker_driver.specs.Plans.{IsPlanOf}
 use Rattle.std.proofs.lemmas.Bool.{cases_eq}
 use Rattle.worker_driver.specs.Reading.{ReadSoFar, ReadsStay, CalleesRead, IsNotedRead, IsReadUnder, IsReadIfApart, piece_at}
 use Rattle.worker_driver.specs.Turns.{inlined_at}
-use Rattle.call_graph.proofs.Bridging.{name_in}
-use Rattle.worker_driver.proofs.Orders.{named, found, at_ticket, ticket_of, many, place_in, same_item}
+use Rattle.call_graph.proofs.Bridging.{name_in, in_name}
+use Rattle.worker_driver.proofs.Orders.{found, at_ticket, ticket_of, many, same_item}
 
 -- ---- one ticket
 
@@ -110,7 +111,7 @@ module _ (m : Module) (plan : Plan) (is : IsPlanOf m plan) where
   callee_is func f e y i a k h at name =
       let inside : In k (called (graph_of m) func) = (calls_by_numbers m d func k f h e at).1
       (subst (λ (z : FuncName). In z (calls_of m f.name)) (sym name) (subst (λ (l : List FuncName). In y l) (sym (calls_are func f e)) i)) in
-      let r = place_in (called (graph_of m) func) k inside in
+      let r = in_get (called (graph_of m) func) k inside in
       let other = (apart_by_numbers m f.name y (name_in m func f e) (subst (λ (z : FuncName). In z (names_of m)) name (name_in m k h at))).0 a in (
         r.0,
         ap (λ (g : List (List ℕ)). slice_get (called g func) r.0) is.graph ∙ r.1,
@@ -133,7 +134,7 @@ module _ (m : Module) (plan : Plan) (is : IsPlanOf m plan) where
     pub callees_read : (t : ℕ) → function_of m t ≡ Some f → CalleesRead m w t
     callees_read t at g y gat i a n =
         let same : f ≡ g = cc in
-        let s = named m y n in
+        let s = in_name m y n in
         let r = there y (subst (λ (z : Function). In y (called_names z z.blocks)) (sym same) i) (subst (λ (z : Function). apart m z.name y ≡ true) (sym same) a) s.0 s.1 s.2 s.3 in
         let u = ticket_is s.0 (slice_get_within m s.0 s.1 s.2) in
         let v = function_is u.0 s.0 u.2 in

@@ -5,7 +5,7 @@ use Rattle.std.proofs.lemmas.List.{append_assoc, append-nil}
 use Rattle.ir_core.specs.Module.{Module}
 use Rattle.inline_finish.specs.declared.bodies.Policy.{Policy}
 use Rattle.publish_table.specs.declared.view.View.{View}
-use Rattle.publish_table.specs.Plays.{total, count, with_end, once_ended, with_drawn, with_read, with_refused, with_body, with_refusal, IsNew}
+use Rattle.publish_table.specs.Plays.{total, count, with_end, once_ended, with_drawn, with_read, with_body, with_refusal, IsNew}
 use Rattle.publish_table.specs.declared.board.Board.{Board}
 use Rattle.publish_table.specs.declared.board.Seat.{Seat}
 use Rattle.publish_table.specs.Seats.{IsOpen, view_of}
@@ -28,20 +28,6 @@ only_read_by v w t is = (
   ap (λ (z : View). z.made) is,
   λ k c. subst (λ (z : View). 0 < count k z.read) (sym is) (let g = count_grows k t v.read in omega arith),
 )
-
--- and so does one that finds a refusal
-pub only_read_refused : (v w : View) (t : ℕ) → w ≡ with_refused v t → OnlyRead v w
-only_read_refused v w t is = (
-  ap (λ (z : View). z.drawn) is,
-  ap (λ (z : View). z.bodies) is,
-  ap (λ (z : View). z.refusals) is,
-  ap (λ (z : View). z.ends) is,
-  ap (λ (z : View). z.made) is,
-  λ k c. subst (λ (z : View). 0 < count k z.read) (sym is) c,
-)
-
-pub only_read_none : (v : View) → OnlyRead v v
-only_read_none v = (refl, refl, refl, refl, refl, λ k c. c)
 
 pub only_read_both : (u v w : View) → OnlyRead u v → OnlyRead v w → OnlyRead u w
 only_read_both u v w a b = (b.0 ∙ a.0, b.1 ∙ a.1, b.2 ∙ a.2, b.3 ∙ a.3, b.4 ∙ a.4, λ k c. b.5 k (a.5 k c))

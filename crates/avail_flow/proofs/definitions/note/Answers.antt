@@ -1,6 +1,7 @@
 use Rattle.std.proofs.Common.{arith, ◌∙◌, ℕ, ◌<◌, length, sym, subst}
 use Rattle.std.proofs.lemmas.Grind.{get_or_default_zero}
-use Rattle.avail_flow.proofs.Noting.{noted_more, below_at}
+use Rattle.ir_core.proofs.Members.{below_at}
+use Rattle.avail_flow.proofs.Noting.{noted_more}
 use Rattle.avail_flow.proofs.definitions.note.Goals as goal
 
 pub loop-value-preserved : goal.loop-value-preserved

@@ -1,9 +1,9 @@
 use Rattle.std.proofs.Common.{◌≡◌, map, ap, ap₂, ◌∙◌, rules}
 use Rattle.ir_core.specs.declared.declarations.Callee.{Callee}
 use Rattle.ir_core.specs.Lookup.{block_numbers}
+use Rattle.ir_core.proofs.ByNumber.{first_in, rest_in}
 use Rattle.call_graph.specs.Calls.{number_of, each_once}
 use Rattle.call_graph.specs.Marks.{targets_in}
-use Rattle.call_graph.proofs.Blocks.{first_in, rest_in}
 use Rattle.call_graph.proofs.Marking.{begun, none_marked, targets_in_range, block_more}
 use Rattle.call_graph.proofs.making.find_calls.Goals as goal
 

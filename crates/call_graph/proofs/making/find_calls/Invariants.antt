@@ -1,10 +1,10 @@
 use Rattle.std.proofs.Common.{◌≡◌, ℕ, length}
 use Rattle.ir_core.specs.Lists.{In}
 use Rattle.ir_core.specs.Lookup.{block_numbers}
+use Rattle.ir_core.specs.Edits.{blocks_at}
 use Rattle.call_graph.specs.Reach.{called_names}
 use Rattle.call_graph.specs.Calls.{numbers_of, each_once, calls_in}
 use Rattle.call_graph.specs.Marks.{Marked}
-use Rattle.call_graph.proofs.Blocks.{blocks_at}
 use Rattle.call_graph.proofs.making.find_calls.Given as goal
 
 abbrev pub invariant-loop-block : goal.invariant-loop-block

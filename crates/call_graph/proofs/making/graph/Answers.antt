@@ -1,9 +1,9 @@
 use Rattle.std.proofs.lemmas.List.{append-nil, drop_all}
 use Rattle.std.proofs.Common.{subst, arith, ◌≡◌, ◌+◌, ◌∷◌, ◌++◌, [], ℕ, List, map, drop, ap, sym, ◌∙◌, append_assoc}
 use Rattle.ir_core.specs.Module.{Function}
+use Rattle.ir_core.proofs.Gets.{next_left}
 use Rattle.call_graph.specs.Calls.{calls_in, graph_of, InRange}
 use Rattle.call_graph.proofs.Numbers.{graph_in_range}
-use Rattle.call_graph.proofs.Marking.{next_left}
 use Rattle.call_graph.proofs.making.graph.Goals as goal
 
 pub loop-i-preserved : goal.loop-i-preserved

@@ -1,8 +1,8 @@
 use Rattle.std.proofs.Common.{List, ap}
 use Rattle.ir_core.specs.Module.{Function}
+use Rattle.ir_core.proofs.Gets.{next_left}
 use Rattle.ir_text.specs.TextTree.{spelled}
 use Rattle.ir_text.specs.Text.{more_functions}
-use Rattle.clif_numbers.proofs.Left.{next_left}
 use Rattle.text_output.proofs.Puts.{goes}
 use Rattle.canonical_text.proofs.functions.put_module.Goals as goal
 

@@ -1,7 +1,8 @@
 use Rattle.std.proofs.Common.{◌≡◌, ◌∙◌, ap, length, arith, rules}
 use Rattle.ir_core.specs.Lookup.{block_numbers}
-use Rattle.clif_numbers.proofs.Blocks.{begun, first_in, rest_in, listed, next_fits}
-use Rattle.clif_numbers.proofs.Ranges.{no_more}
+use Rattle.ir_core.proofs.Counting.{defined_bound}
+use Rattle.ir_core.proofs.ByNumber.{first_in, rest_in}
+use Rattle.clif_numbers.proofs.Blocks.{begun, listed, next_fits}
 use Rattle.clif_numbers.proofs.numbers.definitions.Goals as goal
 
 pub loop-block-init : goal.loop-block-init
@@ -10,7 +11,7 @@ loop-block-init c =
     record {
       left = begun c.args.func.now.function.blocks c.reserve.new.self.items c.into_iter-block-iterator.result (c.reserve.ensures.items ∙ c.requires) it c.blocks-block-items.ensures.sound.blocks_differ;
       there = λ n h. rw it at h;
-      room = omega (arith, no_more c.args.func.now.function c.values.ensures.sound, c.values.ensures.count, c.in_ok-reserve.ensures.ok);
+      room = omega (arith, defined_bound c.args.func.now.function c.values.ensures.sound, c.values.ensures.count, c.in_ok-reserve.ensures.ok);
       kept = c.reserve.ensures.capacity;
     }
 

@@ -1,7 +1,7 @@
 use Rattle.std.proofs.Common.{◌≡◌, ◌≤◌, ◌++◌, ℕ, length, vec_capacity}
 use Rattle.ir_core.specs.Lists.{In}
 use Rattle.ir_core.specs.Lookup.{block_numbers, definitions}
-use Rattle.clif_numbers.specs.Walk.{blocks_at}
+use Rattle.ir_core.specs.Edits.{blocks_at}
 use Rattle.clif_numbers.proofs.numbers.definitions.Given as goal
 
 abbrev pub invariant-loop-block : goal.invariant-loop-block

@@ -1,9 +1,9 @@
 use Rattle.std.proofs.Common.{◌≡◌, ◌+◌, ◌∷◌, ◌++◌, [], List, drop, map, ap, sym, ◌∙◌, append_assoc}
 use Rattle.std.proofs.lemmas.List.{map_push}
 use Rattle.ir_core.specs.Module.{Function}
+use Rattle.ir_core.proofs.Gets.{next_left}
 use Rattle.ir_text.specs.Numbering.{Numbering, numbering_of, numberings_of}
 use Rattle.clif_numbers.specs.Room.{NumbersInRoom}
-use Rattle.clif_numbers.proofs.Left.{next_left}
 use Rattle.clif_numbers.proofs.numbers.numbering.Goals as goal
 
 pub loop-i-preserved : goal.loop-i-preserved

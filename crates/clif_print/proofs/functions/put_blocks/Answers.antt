@@ -1,11 +1,10 @@
 use Rattle.std.proofs.Common.{◌++◌, List, ℕ, length, ap, sym, subst, arith, length-append}
-use Rattle.ir_core.specs.Edits.{params_of, lines_of}
+use Rattle.ir_core.specs.Edits.{params_of, lines_of, blocks_at}
 use Rattle.ir_core.specs.Lookup.{definitions, line_definitions}
 use Rattle.ir_core.specs.Module.{Block}
 use Rattle.ir_text.specs.TextTree.{spelled}
 use Rattle.ir_text.specs.Text.{blocks}
 use Rattle.text_output.specs.Output.{Puts}
-use Rattle.clif_numbers.specs.Walk.{blocks_at}
 use Rattle.clif_numbers.proofs.Blocks.{first_block}
 use Rattle.text_output.proofs.Puts.{◌▸◌}
 use Rattle.clif_numbers.proofs.Ranges.{all_few}

@@ -1,10 +1,9 @@
 use Rattle.std.proofs.Common.{◌≡◌, ◌++◌, List, ℕ, length, ap, refl, arith, rules, length-append}
-use Rattle.ir_core.specs.Edits.{params_of, lines_of}
+use Rattle.ir_core.specs.Edits.{params_of, lines_of, blocks_at}
 use Rattle.ir_core.specs.Lookup.{definitions, line_definitions}
+use Rattle.ir_core.proofs.ByNumber.{first_in, rest_in}
 use Rattle.ir_text.specs.TextTree.{spelled}
 use Rattle.ir_text.specs.Text.{more_blocks}
-use Rattle.clif_numbers.specs.Walk.{blocks_at}
-use Rattle.clif_numbers.proofs.Blocks.{first_in, rest_in}
 use Rattle.text_output.proofs.Puts.{begins, goes, ◌▸◌}
 use Rattle.clif_print.proofs.functions.put_more_blocks.Goals as goal
 

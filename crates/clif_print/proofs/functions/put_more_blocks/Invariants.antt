@@ -1,9 +1,9 @@
 use Rattle.std.proofs.Common.{◌≡◌, ℕ, ◌+◌, length}
 use Rattle.ir_core.specs.Lists.{In}
 use Rattle.ir_core.specs.Lookup.{definitions, block_numbers}
+use Rattle.ir_core.specs.Edits.{blocks_at}
 use Rattle.ir_text.specs.TextTree.{spelled}
 use Rattle.ir_text.specs.Text.{more_blocks}
-use Rattle.clif_numbers.specs.Walk.{blocks_at}
 use Rattle.text_output.proofs.Puts.{Going}
 use Rattle.clif_print.proofs.functions.put_more_blocks.Given as goal
 

@@ -1,7 +1,8 @@
 use Rattle.std.proofs.Common.{arith}
 use Rattle.ir_text.specs.Writable.{FunctionWritable}
+use Rattle.ir_core.proofs.Gets.{each_at}
 use Rattle.clifinl.specs.GenCommand.{function_sites}
-use Rattle.clifinl.proofs.Measures.{each_at, few_sites, one_more}
+use Rattle.clifinl.proofs.Measures.{few_sites, one_more}
 use Rattle.clifinl.proofs.summary.count_sites.Goals as goal
 
 pub loop-i-preserved : goal.loop-i-preserved

@@ -1,7 +1,8 @@
 use Rattle.std.proofs.Common.{arith}
 use Rattle.ir_core.specs.Size.{size_of}
+use Rattle.ir_core.proofs.Gets.{each_at}
 use Rattle.ir_text.specs.Writable.{FunctionWritable}
-use Rattle.clifinl.proofs.Measures.{each_at, one_more}
+use Rattle.clifinl.proofs.Measures.{one_more}
 use Rattle.clifinl.proofs.summary.total_size.Goals as goal
 
 pub loop-i-preserved : goal.loop-i-preserved

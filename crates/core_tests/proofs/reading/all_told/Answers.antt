@@ -1,13 +1,7 @@
-use Rattle.std.proofs.Common.{◌≡◌, ℕ, List, ◌∷◌, refl, inl, inr, rules}
-use Rattle.ir_core.specs.Lists.{In}
+use Rattle.std.proofs.Common.{◌≡◌, rules}
 use Rattle.ir_core.specs.Lookup.{block_numbers}
+use Rattle.ir_core.proofs.ByNumber.{first_in, rest_in}
 use Rattle.core_tests.proofs.reading.all_told.Goals as goal
-
-first_in : (ns it rest : List ℕ) (b : ℕ) → it ≡ b ∷ rest → ((n : ℕ) → In n it → In n ns) → In b ns
-first_in ns it rest b e h = h b (rw e (inl refl))
-
-rest_in : (ns it rest : List ℕ) (b : ℕ) → it ≡ b ∷ rest → ((n : ℕ) → In n it → In n ns) → (n : ℕ) → In n rest → In n ns
-rest_in ns it rest b e h n k = h n (rw e (inr k))
 
 pub loop-block-init : goal.loop-block-init
 loop-block-init c =

@@ -4,8 +4,9 @@ use Rattle.ir_core.specs.Lookup.{block_numbers}
 use Rattle.ir_core.specs.Lists.{In, Each}
 use Rattle.ir_core.specs.Viewed.{line_of}
 use Rattle.ir_core.proofs.Sizing.{each_in}
+use Rattle.ir_core.specs.Edits.{block_at}
 use Rattle.inline_body.specs.Named.{names_of}
-use Rattle.inline_body.specs.Inlined.{inlined_block, block_at, blocks_from, BlockReached}
+use Rattle.inline_body.specs.Inlined.{inlined_block, blocks_from, BlockReached}
 use Rattle.inline_body.proofs.Found.{all_at, block_is, more_blocks}
 use Rattle.inline_body.proofs.Pushed.{longer}
 use Rattle.inline_body.proofs.blocks.inline_blocks.Goals as goal

@@ -1,7 +1,8 @@
 use Rattle.std.proofs.Common.{◌≡◌, ◌++◌, map, length}
 use Rattle.ir_core.specs.Lookup.{block_numbers}
 use Rattle.ir_core.specs.Lists.{In, Each}
-use Rattle.inline_body.specs.Inlined.{inlined_block, block_at, blocks_from, BlockReached}
+use Rattle.ir_core.specs.Edits.{block_at}
+use Rattle.inline_body.specs.Inlined.{inlined_block, blocks_from, BlockReached}
 use Rattle.inline_body.proofs.blocks.inline_blocks.Given as goal
 
 abbrev pub invariant-loop-block : goal.invariant-loop-block

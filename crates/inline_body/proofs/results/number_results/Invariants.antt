@@ -1,7 +1,7 @@
 use Rattle.std.proofs.Common.{◌≡◌, ◌+◌, ◌*◌, map, length}
 use Rattle.ir_core.specs.Lists.{In, Each, Below}
 use Rattle.ir_core.specs.Lookup.{block_numbers}
-use Rattle.inline_body.specs.Inlined.{block_at}
+use Rattle.ir_core.specs.Edits.{block_at}
 use Rattle.inline_body.specs.Results.{tail_calls_in, starts_along, with_values}
 use Rattle.inline_body.proofs.results.number_results.Given as goal
 

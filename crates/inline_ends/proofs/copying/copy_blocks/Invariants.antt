@@ -1,7 +1,8 @@
 use Rattle.std.proofs.Common.{◌≡◌, ◌++◌, map, length}
 use Rattle.ir_core.specs.Lookup.{block_numbers}
 use Rattle.ir_core.specs.Lists.{In, Each}
-use Rattle.inline_body.specs.Inlined.{block_at, blocks_from}
+use Rattle.ir_core.specs.Edits.{block_at}
+use Rattle.inline_body.specs.Inlined.{blocks_from}
 use Rattle.inline_ends.specs.Copied.{copied_block, CanCopy}
 use Rattle.inline_ends.proofs.copying.copy_blocks.Given as goal
 

@@ -1,8 +1,8 @@
 use Rattle.std.proofs.Common.{◌≡◌, ◌+◌, ◌<◌, ◌^◌, ◌++◌, drop, map, length}
 use Rattle.ir_core.specs.Lists.{Each}
 use Rattle.ir_core.specs.Viewed.{line_of}
+use Rattle.ir_core.specs.Edits.{block_at}
 use Rattle.inline_body.specs.Named.{Reached}
-use Rattle.inline_body.specs.Inlined.{block_at}
 use Rattle.inline_ends.specs.Tried.{plain_calls, tried_lines, tried_block}
 use Rattle.inline_ends.specs.TriedParts.{made_blocks, AsMany, with_rest}
 use Rattle.inline_ends.proofs.try_body.push_block.Given as goal

@@ -2,7 +2,8 @@ use Rattle.std.proofs.Common.{◌≡◌, ◌++◌, map, length, sym, ap, ap₂, 
 use Rattle.ir_core.specs.Lookup.{block_numbers}
 use Rattle.ir_core.specs.Lists.{In, Each}
 use Rattle.ir_core.proofs.Sizing.{each_in}
-use Rattle.inline_body.specs.Inlined.{block_at, blocks_from}
+use Rattle.ir_core.specs.Edits.{block_at}
+use Rattle.inline_body.specs.Inlined.{blocks_from}
 use Rattle.inline_body.proofs.Found.{all_at}
 use Rattle.inline_ends.specs.Tried.{tried_blocks}
 use Rattle.inline_ends.specs.TriedParts.{CanTry}

@@ -1,7 +1,7 @@
 use Rattle.std.proofs.Common.{◌≡◌, ◌++◌, map}
 use Rattle.ir_core.specs.Lookup.{block_numbers}
 use Rattle.ir_core.specs.Lists.{In, Each}
-use Rattle.inline_body.specs.Inlined.{block_at}
+use Rattle.ir_core.specs.Edits.{block_at}
 use Rattle.inline_ends.specs.Tried.{tried_blocks}
 use Rattle.inline_ends.specs.TriedParts.{made_blocks, AsMany, CanTry}
 use Rattle.inline_ends.proofs.try_body.try_blocks.Given as goal

@@ -3,7 +3,7 @@ use Rattle.std.proofs.lemmas.List.{length-map, length-set}
 use Rattle.ir_core.specs.Lookup.{block_numbers}
 use Rattle.ir_core.specs.Lists.{In, Each, Below}
 use Rattle.ir_core.proofs.Sizing.{each_in}
-use Rattle.inline_body.specs.Inlined.{block_at}
+use Rattle.ir_core.specs.Edits.{block_at}
 use Rattle.inline_body.specs.Results.{with_values}
 use Rattle.inline_body.proofs.Found.{all_at}
 use Rattle.inline_body.proofs.ResultTypes.{values_at}

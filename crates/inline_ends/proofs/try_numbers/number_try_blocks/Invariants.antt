@@ -1,7 +1,7 @@
 use Rattle.std.proofs.Common.{◌≡◌, ◌+◌, map, length}
 use Rattle.ir_core.specs.Lists.{In, Each, Below}
 use Rattle.ir_core.specs.Lookup.{block_numbers}
-use Rattle.inline_body.specs.Inlined.{block_at}
+use Rattle.ir_core.specs.Edits.{block_at}
 use Rattle.inline_body.specs.Results.{with_values}
 use Rattle.inline_ends.specs.Tried.{plain_calls_in, numbered_with_calls}
 use Rattle.inline_ends.proofs.try_numbers.number_try_blocks.Given as goal

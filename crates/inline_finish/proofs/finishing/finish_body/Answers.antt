@@ -2,9 +2,9 @@ use Rattle.std.proofs.Common.{List, ◌≡◌, ℕ, Some, IfSome, slice_get, ref
 use Rattle.ir_core.specs.Module.{Function, Module}
 use Rattle.ir_core.specs.Size.{size_of}
 use Rattle.ir_core.specs.WellFormed.{IsModule}
+use Rattle.ir_core.proofs.Gets.{get_in}
 use Rattle.ir_semantics.specs.Accepted.{Accepted}
 use Rattle.ir_semantics.specs.Canon.{SameFunction}
-use Rattle.inline_acceptance.proofs.KeptFunctions.{get_in}
 use Rattle.inline_pass.specs.Finished.{finished}
 use Rattle.inline_finish.specs.Bodies.{HasCallees}
 use Rattle.inline_finish.specs.Building.{policy_of, IsLimited, IsBuilt}

@@ -1,9 +1,9 @@
-use Rattle.std.proofs.Common.{List, map, sym, ap, ◌∙◌, arith}
+use Rattle.std.proofs.Common.{◌≡◌, List, [], drop, drop_of_length-le, map, sym, ap, ◌∙◌, arith}
 use Rattle.test_directives.specs.declared.places.PlacedComment.{PlacedComment}
 use Rattle.test_directives.specs.Placing.{placed_of}
 use Rattle.test_directives.specs.Reading.{finished_by}
 use Rattle.test_directives.proofs.Finishing.{finished_end}
-use Rattle.test_directives.proofs.Reader.{drop_past, tests_go_on, stops_go_on, functions_go_on}
+use Rattle.test_directives.proofs.Reader.{tests_go_on, stops_go_on, functions_go_on}
 use Rattle.test_directives.proofs.tests.read_function.Goals as goal
 
 pub loop-comment-preserved : goal.loop-comment-preserved
@@ -19,5 +19,5 @@ loop-comment-preserved c =
 pub returns-clause-tests : goal.returns-clause-tests
 returns-clause-tests c =
     let r = c.loop-comment.reader in
-    let past = drop_past c.args.comments.now c.loop-comment.comment-index (omega (arith, c.loop-comment-test.false)) in
+    let past : drop c.loop-comment.comment-index c.args.comments.now ≡ [] = drop_of_length-le c.args.comments.now (omega (arith, c.loop-comment-test.false)) in
     c.into_tests.ensures.tests ∙ (sym (finished_end r) ∙ (ap (λ (cs : List PlacedComment). finished_by r (map placed_of cs)) (sym past) ∙ c.loop-comment.invariant.tests))

@@ -1,6 +1,7 @@
 use Rattle.std.proofs.Common.{◌≡◌, ℕ, ◌<◌, List, length, take, get_or, ap, ap₂, sym, ◌∙◌, arith}
 use Rattle.std.proofs.lemmas.List.{take_all, length-set}
-use Rattle.clif_numbers.proofs.PlacesLemmas.{below_at, turn, none_placed, place_from, placed}
+use Rattle.ir_core.proofs.Members.{below_at}
+use Rattle.clif_numbers.proofs.PlacesLemmas.{turn, none_placed, place_from, placed}
 use Rattle.clif_numbers.proofs.Ranges.{few}
 use Rattle.clif_numbers.proofs.places.Places.set.Goals as goal
 

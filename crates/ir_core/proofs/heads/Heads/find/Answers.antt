@@ -6,9 +6,9 @@ use Rattle.ir_core.specs.declared.names.FuncName.{FuncName}
 use Rattle.ir_core.specs.Edits.{Body}
 use Rattle.ir_core.specs.Lookup.{find_function}
 use Rattle.ir_core.specs.Named.{function_in, functions_in, place_of}
-use Rattle.ir_core.proofs.Firsts.{get_mapped}
 use Rattle.ir_core.proofs.Indexing.{place_cases}
 use Rattle.ir_core.proofs.heads.Heads.find.Goals as goal
+use Rattle.ir_core.proofs.Gets.{get_mapped}
 
 pub returns-in_err-place : goal.returns-in_err-place
 returns-in_err-place c =

@@ -4,7 +4,7 @@ use Rattle.ir_core.specs.Module.{Function}
 use Rattle.ir_core.specs.Named.{function_in, functions_in}
 use Rattle.ir_core.specs.Sound.{IsSound, IsWhole}
 use Rattle.ir_core.specs.WellFormed.{WellFormed, DifferentNames}
-use Rattle.ir_core.proofs.Apart.{each_in}
+use Rattle.ir_core.proofs.Apart.{each_mapped}
 use Rattle.ir_core.proofs.Wholeness.{whole_of}
 use Rattle.ir_core.proofs.module.Module.of_functions.Goals as goal
 
@@ -17,7 +17,7 @@ invariant_of-result c =
     let is = c.in-Some.is in
     let listed = c.as_slice.ensures.value in
     let made = c.in_ok-names.ensures in
-    let defined : Each IsWhole (functions_in c.args.funcs.items) = each_in IsWhole function_in c.args.funcs.items c.requires in
+    let defined : Each IsWhole (functions_in c.args.funcs.items) = each_mapped IsWhole function_in c.args.funcs.items c.requires in
     let names : DifferentNames (functions_in c.args.funcs.items) = rw (is, listed) at made.names in
     let sound : Each IsSound (functions_in c.args.funcs.items) = rw (is, listed) at made.sound in
     record {

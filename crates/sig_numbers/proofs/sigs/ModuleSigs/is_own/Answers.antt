@@ -1,12 +1,13 @@
 use Rattle.std.proofs.Common.{Some, sym, ap, ◌∙◌, arith}
+use Rattle.ir_core.proofs.Gets.{get_some}
 use Rattle.sig_numbers.specs.declared.tables.SigEntry.{SigEntry}
 use Rattle.sig_numbers.specs.Known.{module_of}
-use Rattle.sig_numbers.proofs.Tabled.{same_by_number, number_read, entries_long, item_there, table_at}
+use Rattle.sig_numbers.proofs.Tabled.{same_by_number, number_read, entries_long, table_at}
 use Rattle.sig_numbers.proofs.sigs.ModuleSigs.is_own.Goals as goal
 
 pub index-requires : goal.index-requires
 index-requires c =
-    let there = item_there c.args.self.now c.args.i c.requires.caller in
+    let there = get_some c.args.self.now c.args.i c.requires.caller in
     let low = c.requires.there there.0 there.1 in
     let table = table_at (module_of c.self.inside) c.args.self.now c.self.inside.tables.items c.self.invariant c.self.view_is c.args.i c.requires.caller c.index-caller.result.now c.index-caller.ensures there.0 there.1 in
     let long = entries_long c.self.invariant.number there.0 c.index-caller.result.now.entries.items table.entries in

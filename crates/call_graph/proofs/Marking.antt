@@ -3,7 +3,7 @@ use Rattle.std.proofs.Common.{◌≡◌, ℕ, zero, suc, ◌+◌, ◌<◌, ◌�
 use Rattle.std.specs.Prelude.{slice_get}
 use Rattle.std.proofs.Math.ListN.{set}
 use Rattle.std.proofs.lemmas.List.{get_or-set_same, get_or-set_other, take_more, map_push}
-use Rattle.std.proofs.lemmas.Bool.{cases_eq}
+use Rattle.std.proofs.lemmas.Bool.{or_right, cases_eq}
 use Rattle.ir_core.specs.declared.names.FuncName.{FuncName}
 use Rattle.ir_core.specs.declared.declarations.Callee.{Callee}
 use Rattle.ir_core.specs.Module.{Line, Function, Module}
@@ -18,10 +18,6 @@ use Rattle.call_graph.specs.Calls.{number_of, with_number, numbers_of, has, put_
 use Rattle.call_graph.specs.Marks.{Fresh, Marked, targets_in, TargetsBelow}
 
 -- ---- marks
-
-or_self : (a b : Bool) → a ≡ true → (b || a) ≡ true
-or_self a true h = refl
-or_self a false h = h
 
 or_none : (a b : Bool) → a ≡ false → (b || a) ≡ b
 or_none a true h = refl
@@ -43,7 +39,7 @@ pub mark : (stamp target : ℕ) (seen calls : List ℕ) → target < length seen
 mark stamp target seen calls l h t = elim (cases_eq t target) [
   | inl e ↦
       let read : get_or (set seen target stamp) t 0 ≡ stamp = ap (λ z. get_or (set seen target stamp) z 0) e ∙ get_or-set_same seen target stamp 0 l in
-      (omega (arith, read), eq-eqb (get_or (set seen target stamp) t 0) stamp read ∙ sym (has_push t target calls ∙ or_self (nat_eq t target) (has t calls) (eq-eqb t target e)))
+      (omega (arith, read), eq-eqb (get_or (set seen target stamp) t 0) stamp read ∙ sym (has_push t target calls ∙ or_right (has t calls) (nat_eq t target) (eq-eqb t target e)))
   | inr e ↦
       let read : get_or (set seen target stamp) t 0 ≡ get_or seen t 0 = get_or-set_other seen target t stamp 0 e in
       (omega (arith, read, (h t).0), ap (λ z. nat_eq z stamp) read ∙ ((h t).1 ∙ sym (has_push t target calls ∙ or_none (nat_eq t target) (has t calls) (ne_eqb t target e))))

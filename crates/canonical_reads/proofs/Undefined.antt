@@ -13,7 +13,7 @@ use Rattle.name_tables.specs.Definitions.{Kind, definitions}
 use Rattle.clif_names.specs.Faults.{FunctionFault}
 use Rattle.name_tables.specs.Uses.{uses}
 use Rattle.name_tables.specs.Words.{IsMissing}
-use Rattle.clif_meaning.proofs.Lists.{each_got}
+use Rattle.ir_core.proofs.Gets.{each_at}
 use Rattle.clif_meaning.proofs.WholeLaws.{word_in}
 use Rattle.text_read_back.specs.Bare as bare
 use Rattle.text_read_back.specs.Defining.{number_of}
@@ -38,7 +38,7 @@ module _ (f : Function) (is : WellFormed f) (w : FunctionWritable f) (r : RawFun
 
   none_missing : (k : Kind) (spot : ℕ) → IsMissing (definitions r k) (uses r k) spot → ⊥
   none_missing k spot (i, u, at, here, missing) =
-      let below : u.number < count f k = each_got (λ (w : RawName). w.number < count f k) (uses r k) (used_below k) i u at in
+      let below : u.number < count f k = each_at (λ (w : RawName). w.number < count f k) (uses r k) i u (used_below k) at in
       missing (word_in (definitions r k) u.number (subst (In u.number) (sym (counted_here k)) (in_range 0 (count f k) u.number (omega arith) (omega (arith, below)))))
 
   pub nothing_undefined : (spot : ℕ) → FunctionFault r Undefined spot → ⊥

@@ -31,7 +31,7 @@ use Rattle.text_read_back.specs.RawOf as raws
 use Rattle.text_read_back.specs.ReadsBack.{ReadsBack}
 use Rattle.inline_acceptance.proofs.KeptLists.{each_map}
 use Rattle.clif_meaning.proofs.LimitLaws.{Kept, AllKept}
-use Rattle.clif_meaning.proofs.Lists.{each_got}
+use Rattle.ir_core.proofs.Gets.{each_at}
 use Rattle.text_read_back.proofs.Lists.{flat_bare}
 use Rattle.names_read_back.proofs.TextMeans.{functions_say}
 use Rattle.canonical_reads.proofs.Lists.{Within, each_from}
@@ -85,7 +85,7 @@ module _ (f : Function) (is : WellFormed f) (w : FunctionWritable f) (r : RawFun
 
   nothing_outside : (spot : ℕ) → FunctionFault r NumberRange spot → ⊥
   nothing_outside spot (i, z, at, here, outside) =
-      let kept = each_got Kept (limits r) all_kept i z at in absurd (let bad = sym kept ∙ outside in cc)
+      let kept = each_at Kept (limits r) i z all_kept at in absurd (let bad = sym kept ∙ outside in cc)
 
 -- ---- a module
 

@@ -12,11 +12,10 @@ use Rattle.ir_core.specs.Lists.{In, Each}
 use Rattle.ir_core.specs.Lookup.{find_function, same_name}
 use Rattle.ir_core.specs.Module.{Function, Module}
 use Rattle.ir_core.specs.WellFormed.{DifferentNames}
-use Rattle.ir_core.proofs.Gets.{some_same}
+use Rattle.ir_core.proofs.Gets.{each_at, some_same}
 use Rattle.ir_semantics.specs.Accepted.{no_terminator, entry_target, count_mismatch, type_mismatch, convention}
 use Rattle.ir_semantics.specs.Accepted.{signature_mismatch, slot_range, tag_place, not_available, RulesHold, Accepted}
 use Rattle.ir_semantics.specs.CallRules.{Declared}
-use Rattle.clif_meaning.proofs.Lists.{each_got}
 use Rattle.range_workers.specs.Follow.{Follow}
 use Rattle.clif_check.specs.Declarations.{KeepsOwnRules, DeclareWithin, DeclaresAt}
 
@@ -26,7 +25,7 @@ rules_of_both : (m : Module) (f : Function) → KeepsOwnRules f → Each (Declar
 rules_of_both m f own declared item.Whole rule = tt
 rules_of_both m f own declared (item.Block b) rule = own (item.Block b) rule
 rules_of_both m f own declared (item.Inst at) rule = own (item.Inst at) rule
-rules_of_both m f own declared (item.Callee k) signature_mismatch = λ c e. each_got (Declared m f) f.callees declared k c e
+rules_of_both m f own declared (item.Callee k) signature_mismatch = λ c e. each_at (Declared m f) f.callees k c declared e
 rules_of_both m f own declared (item.Callee k) no_terminator = λ c e. tt
 rules_of_both m f own declared (item.Callee k) entry_target = λ c e. tt
 rules_of_both m f own declared (item.Callee k) count_mismatch = λ c e. tt

@@ -30,7 +30,7 @@ use Rattle.clif_names.specs.FunctionNames.{NoFunctionFault}
 use Rattle.clif_names.specs.Sizes.{most_functions}
 use Rattle.clif_meaning.specs.Meaning.{name_of, FunctionMeans, FunctionsMean, HasBlocks}
 use Rattle.clif_meaning.specs.Reads.{Reads}
-use Rattle.clif_meaning.proofs.Lists.{each_got}
+use Rattle.ir_core.proofs.Gets.{each_at}
 use Rattle.clif_meaning.proofs.ModuleLaws.{one_name}
 use Rattle.clif_check.specs.declared.parts.Part.{Part}
 use Rattle.clif_check.specs.Declarations.{KeepsOwnRules}
@@ -148,7 +148,7 @@ module _ (raw : RawModule) (m : Module) (meant : AreMeant raw.functions m) (apar
 
   free : NoFault raw
   free kind spot (inl h) = no_list_fault kind spot h
-  free kind spot (inr (i, r, at, h)) = each_got NoFunctionFault raw.functions meant.free i r at kind spot h
+  free kind spot (inr (i, r, at, h)) = each_at NoFunctionFault raw.functions i r meant.free at kind spot h
 
 pub module_read : (text : List ℕ) (raw : RawModule) (m : Module) → IsModuleText text raw → AreMeant raw.functions m → DifferentNames m → length m ≤ most_functions → Reads text m
 module_read text raw m read meant apart few = (raw, read, free raw m meant apart few, meant.mean)

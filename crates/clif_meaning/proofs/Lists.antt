@@ -7,20 +7,10 @@ use Rattle.std.proofs.lemmas.List.FromFn.{length-enumerate_from}
 use Rattle.ir_core.specs.Lists.{In, Each}
 use Rattle.ir_core.proofs.Members.{in_left, in_right}
 
-pub each_got : {A : Type 0} (P : A → Type 0) (xs : List A) → Each P xs → (i : ℕ) (x : A) → slice_get xs i ≡ Some x → P x
-each_got P [] h i x e = absurd cc
-each_got P (y ∷ ys) h zero x e = let same : y ≡ x = cc in subst P same h.0
-each_got P (y ∷ ys) h (suc i) x e = each_got P ys h.1 i x e
-
 pub in_flat_in : {A B : Type 0} (f : A → List B) (xs : List A) (x : A) (b : B) → In x xs → In b (f x) → In b (flat_map f xs)
 in_flat_in f [] x b i j = absurd i
 in_flat_in f (y ∷ ys) x b (inl e) j = in_left b (f y) (flat_map f ys) (rw (sym e) j)
 in_flat_in f (y ∷ ys) x b (inr i) j = in_right b (f y) (flat_map f ys) (in_flat_in f ys x b i j)
-
-pub in_map : {A B : Type 0} (f : A → B) (xs : List A) (x : A) → In x xs → In (f x) (map f xs)
-in_map f [] x i = absurd i
-in_map f (y ∷ ys) x (inl e) = inl (ap f e)
-in_map f (y ∷ ys) x (inr i) = inr (in_map f ys x i)
 
 pub get_seam : {A : Type 0} (xs : List A) (y : A) (ys : List A) → slice_get (xs ++ y ∷ ys) (length xs) ≡ Some y
 get_seam [] y ys = refl

@@ -13,7 +13,7 @@ use Rattle.ir_core.specs.Size.{total, block_size, line_size, size_of}
 use Rattle.ir_core.specs.Sound.{Counts, counts_of, LineInRange, BlockInRange, instruction_count, IsSmall, IsSound, IsWhole}
 use Rattle.ir_core.specs.WellFormed.{WellFormed}
 use Rattle.ir_core.proofs.Keeping.{length_numbered, types_numbered}
-use Rattle.ir_core.proofs.Members.{in_left, in_right, different_apart, each_by}
+use Rattle.ir_core.proofs.Members.{in_left, in_right, in_map, different_apart, each_by}
 use Rattle.ir_core.proofs.Wholeness.{whole_of}
 use Rattle.ir_core.proofs.Sizing.{sigs_count, blocks_count}
 use Rattle.token_reader.specs.declared.raw.RawName.{RawName}
@@ -30,7 +30,7 @@ use Rattle.name_tables.specs.Chains.{numbered}
 use Rattle.clif_names.specs.Sizes.{raw_size}
 use Rattle.clif_names.specs.Typing.{IsUntyped}
 use Rattle.clif_meaning.specs.Meaning.{numbers, inst_type, decl_sigs, block_with, lines_with, function_with, value_types, FunctionMeans}
-use Rattle.clif_meaning.proofs.Lists.{in_flat_in, in_map, numbered_long}
+use Rattle.clif_meaning.proofs.Lists.{in_flat_in, numbered_long}
 use Rattle.clif_meaning.proofs.OneMeaning.{counts}
 use Rattle.clif_meaning.proofs.SizeLaws.{same_size}
 use Rattle.clif_meaning.proofs.RangeLaws.{WordsInRange, line_in_range}
@@ -237,10 +237,10 @@ module _ (raw : RawFunction) (f : Function) (mf : FunctionMeans raw f)
   def_there : (b : RawBlock) → In b raw.blocks → (s : Step) → In s (block_steps b) → (d : Def) → In d (step_defs s) → mf.value d.name.number < length f.types
   def_there b i s j d k =
       value_there d.name (in_defined (names_of (value_defs raw)) d.name
-      (in_map (λ (x : Def). x.name) (value_defs raw) d (in_flat_in step_defs (steps raw) s d (in_flat_in block_steps raw.blocks b s i j) k)))
+      (in_map (λ (x : Def). x.name) d (value_defs raw) (in_flat_in step_defs (steps raw) s d (in_flat_in block_steps raw.blocks b s i j) k)))
 
   result_there : (b : RawBlock) → In b raw.blocks → (l : RawLine) → In l b.lines → (d : Def) → In d (line_defs l) → mf.value d.name.number < length f.types
-  result_there b i l j d k = def_there b i (Written l) (in_right (Written l) (map Param b.params) (map Written b.lines) (in_map Written b.lines l j)) d k
+  result_there b i l j d k = def_there b i (Written l) (in_right (Written l) (map Param b.params) (map Written b.lines) (in_map Written l b.lines j)) d k
 
   lines_there : (b : RawBlock) → In b raw.blocks → (ls : List RawLine) → ((l : RawLine) → In l ls → In l b.lines) → Each (LineInRange n) (flat_map (lines_with raw mf.value f.types) ls)
   unfolding n
@@ -250,14 +250,14 @@ module _ (raw : RawFunction) (f : Function) (mf : FunctionMeans raw f)
     line_in_range (counts_of F) (numbers raw mf.value) (inst_type raw mf.value f.types inst) location tags results inst
         (words_there (line.Inst location tags results inst) (in_flat_in (λ (x : RawBlock). x.lines) raw.blocks b (line.Inst location tags results inst) i (sub (line.Inst location tags results inst) (inl refl))))
         (each_by (λ (u : RawName). mf.value u.number < length f.types) results
-        (λ u j. result_there b i (line.Inst location tags results inst) (sub (line.Inst location tags results inst) (inl refl)) (value_def u) (in_map value_def results u j))),
+        (λ u j. result_there b i (line.Inst location tags results inst) (sub (line.Inst location tags results inst) (inl refl)) (value_def u) (in_map value_def u results j))),
     lines_there b i ls (λ l j. sub l (inr j)),
   )
 
   params_there : (b : RawBlock) → In b raw.blocks → (ps : List RawBlockParam) → ((p : RawBlockParam) → In p ps → In p b.params) → Below (length f.types) (map (λ p. mf.value p.value.number) ps)
   params_there b i [] sub = tt
   params_there b i (p ∷ ps) sub = (
-    def_there b i (Param p) (in_left (Param p) (map Param b.params) (map Written b.lines) (in_map Param b.params p (sub p (inl refl)))) (value_def p.value) (inl refl),
+    def_there b i (Param p) (in_left (Param p) (map Param b.params) (map Written b.lines) (in_map Param p b.params (sub p (inl refl)))) (value_def p.value) (inl refl),
     params_there b i ps (λ q j. sub q (inr j)),
   )
 

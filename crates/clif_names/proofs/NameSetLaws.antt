@@ -256,11 +256,3 @@ when_new false P Q h e = absurd cc
 pub when_old : (b : Bool) (P Q : Type 0) → MatchBool b P Q → b ≡ false → Q
 when_old true P Q h e = absurd cc
 when_old false P Q h e = h
-
-pub ok_along : {A E : Type 0} (P Q : A → Type 0) (r : Result A E) → ((a : A) → P a → Q a) → IfOk r P → IfOk r Q
-ok_along P Q (Ok a) go h = go a h
-ok_along P Q (Err e) go h = h
-
-pub on_ok_along : {A E : Type 0} (P Q : Type 0) (r : Result A E) → (P → Q) → OnOk r P → OnOk r Q
-on_ok_along P Q (Ok a) go h = go h
-on_ok_along P Q (Err e) go h = h

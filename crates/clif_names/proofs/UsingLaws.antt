@@ -3,6 +3,7 @@ use Rattle.std.proofs.Common.{◌≡◌, ℕ, List, [], ◌∷◌, ◌++◌, Opt
 use Rattle.std.specs.Prelude.{fold, flat_map}
 use Rattle.std.proofs.lemmas.Grind.{fold-append}
 use Rattle.std.proofs.lemmas.List.{append-nil}
+use Rattle.std.proofs.lemmas.List.Concat.{flat_map_single}
 use Rattle.ir_core.specs.declared.signatures.Ty.{Ty}
 use Rattle.token_reader.specs.declared.raw.RawName.{RawName}
 use Rattle.clif_insts.specs.declared.raw.RawArg.{RawArg}
@@ -31,7 +32,7 @@ use Rattle.name_tables.specs.Taking.{refer}
 use Rattle.clif_names.specs.Typing.{asks}
 use Rattle.name_tables.specs.Uses.{decl_uses, line_uses, uses, tag_slots, arg_values, target_values, operand_values, operand_slots, operand_callees, operand_sigs, operand_targets}
 use Rattle.clif_names.specs.Using.{table_at, note_name, use_decl, use_tag, use_arg, use_target, note_operands, use_operands, ask_operand, ask_type, define, use_line, define_param, use_block, use_function}
-use Rattle.name_tables.proofs.ListParts.{flat_none, flat_one, flat_flat}
+use Rattle.name_tables.proofs.ListParts.{flat_none, flat_flat}
 
 -- these words of each kind are used, and these numbers are seen
 pub record Adds (u v : Uses) (words : Kind → List RawName) (numbers : List Limited) : Type 0 where
@@ -200,7 +201,7 @@ module _ (ends : List End) where
       (ap (λ (l : List RawName). flat_map tag_slots tags ++ (operand_slots inst.operands ++ l)) (flat_none (targets inst)) ∙ ap (λ (l : List RawName). flat_map tag_slots tags ++ l) (append-nil (operand_slots inst.operands)))
       (nothing_before tags (operand_sigs inst.operands ++ flat_map (λ t. []) (targets inst)) ∙ ap (λ (l : List RawName). operand_sigs inst.operands ++ l) (flat_none (targets inst)) ∙ append-nil (operand_sigs inst.operands))
       (nothing_before tags (operand_callees inst.operands ++ flat_map (λ t. []) (targets inst)) ∙ ap (λ (l : List RawName). operand_callees inst.operands ++ l) (flat_none (targets inst)) ∙ append-nil (operand_callees inst.operands))
-      (nothing_before tags (flat_map (λ t. t.block ∷ []) (targets inst)) ∙ flat_one (λ (t : RawTarget). t.block) (targets inst))
+      (nothing_before tags (flat_map (λ t. t.block ∷ []) (targets inst)) ∙ flat_map_single (λ (t : RawTarget). t.block) (targets inst))
       (nothing_before tags (operand_values inst.operands ++ flat_map target_values (targets inst)))
       k)
       (append-nil (flat_map tag_limits tags ++ (operand_limits inst.suffix inst.operands ++ ([] ++ flat_map target_limits (operand_targets inst.operands)))) ∙ sym (append_assoc_of tags inst))

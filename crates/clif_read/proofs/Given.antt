@@ -4,7 +4,7 @@ use Rattle.std.specs.Prelude.{◌⊎◌}
 use Rattle.std.proofs.lemmas.List.{append-nil}
 use Rattle.grammar.proofs.Chains.{ends-append}
 use Rattle.grammar.specs.Rules.{Lexeme, Rule, Tok, Seq, Alt, Opt, Many, Chain, Tree, Cut, Each, Links, ByFlag, ends, nullable, good, Derives}
-use Rattle.grammar.proofs.Binds.{ok_is}
+use Rattle.grammar.proofs.Binds.{ok_is, regroup}
 use Rattle.grammar.proofs.Exactness.{complete}
 use Rattle.grammar.proofs.Same.{Splits, SplitsBegun, same_texts, same_beginnings}
 use Rattle.grammar.proofs.Tails.{tok_ends, may_end, Tail, tail_same, tail_end, tail_alt, tail_seq, Or, splits, splits_begun}
@@ -48,9 +48,6 @@ given_alt {Y} {W} {c} {n1} {a1} {n2} {a2} {w} {fn1} {fa1} {fn2} {fa2} {fw} {give
   split = alt_split c n1 a1 n2 a2 w fn1 fa1 fn2 fa2 fw give s t;
 }
 
-further : (ts us ws u1 u2 : List Lexeme) → ts ≡ us ++ ws → ws ≡ u1 ++ u2 → ts ≡ (us ++ u1) ++ u2
-further ts us ws u1 u2 e f = e ∙ ap (λ (l : List Lexeme). us ++ l) f ∙ sym (append_assoc us u1 u2)
-
 -- behind something else
 pub given_seq : {Y W M : Type 0} {c : ℕ} {p n a w : Rule} (m : Tree p → M) {fn : M → Tree n → Y} {fa : M → Tree a → Y} {fw : Tree w → W} {give : W → Y → Y}
     → nullable a ≡ false → M → ((x : M) → Given c n a w (fn x) (fa x) fw give) → Given c (Seq p n) (Seq p a) w (λ v. fn (m v.0) v.1) (λ v. fa (m v.0) v.1) fw give
@@ -58,7 +55,7 @@ given_seq {Y} {W} {M} {c} {p} {n} {a} {w} m {fn} {fa} {fw} {give} some any g = r
   tail = tail_seq c p n a w some (g any).tail;
   split = λ ts v h. (elim ((g (m v.0)).split h.1 v.1 h.3.1) [
     | inl k ↦ inl ((v.0, k.0), (h.0, h.1, h.2, (h.3.0, k.1)), k.2)
-    | inr k ↦ inr (h.0 ++ k.0, k.1, further ts h.0 h.1 k.0 k.1 h.2 k.2, ((v.0, k.3.0), (h.0, k.0, refl, (h.3.0, k.3.1)), (λ f. ends-append c f h.0 k.0 ∙ k.3.2 (ends c f h.0)), k.3.3, k.3.4, k.3.5))
+    | inr k ↦ inr (h.0 ++ k.0, k.1, regroup ts h.0 k.0 h.1 k.1 h.2 k.2, ((v.0, k.3.0), (h.0, k.0, refl, (h.3.0, k.3.1)), (λ f. ends-append c f h.0 k.0 ∙ k.3.2 (ends c f h.0)), k.3.3, k.3.4, k.3.5))
   ]);
 }
 

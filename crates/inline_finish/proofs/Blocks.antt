@@ -6,6 +6,7 @@ use Rattle.ir_core.specs.Edits.{lines_of}
 use Rattle.ir_core.specs.Lists.{In, Different}
 use Rattle.ir_core.specs.Lookup.{block_numbers}
 use Rattle.ir_core.specs.Module.{Block}
+use Rattle.inline_body.proofs.Found.{in_middle}
 use Rattle.inline_pass.proofs.Going.{move_one}
 use Rattle.inline_finish.specs.Midway.{from_block, behind_block, Remaining}
 
@@ -37,15 +38,11 @@ here (b ∷ bs) n i =
           }
     ]
 
-number_in : (bs cs : List Block) (b : Block) → In b.number (block_numbers (bs ++ (b ∷ cs)))
-number_in [] cs b = inl refl
-number_in (a ∷ bs) cs b = inr (number_in bs cs b)
-
 -- behind some blocks
 from_there : (bs cs : List Block) (b : Block) → Different (block_numbers (bs ++ (b ∷ cs))) → (from_block b.number (bs ++ (b ∷ cs)) ≡ b ∷ cs) × (behind_block b.number (bs ++ (b ∷ cs)) ≡ cs)
 from_there [] cs b d = (ap (λ c. if c then b ∷ cs else from_block b.number cs) (eq-eqb b.number b.number refl), ap (λ c. if c then cs else behind_block b.number cs) (eq-eqb b.number b.number refl))
 from_there (a ∷ bs) cs b d =
-    let off = ne_eqb a.number b.number (λ e. d.0 (subst (λ n. In n (block_numbers (bs ++ (b ∷ cs)))) (sym e) (number_in bs cs b))) in
+    let off = ne_eqb a.number b.number (λ e. d.0 (subst (λ n. In n (block_numbers (bs ++ (b ∷ cs)))) (sym e) (in_middle bs b cs))) in
     let t = from_there bs cs b d.1 in
     (ap (λ c. if c then a ∷ (bs ++ (b ∷ cs)) else from_block b.number (bs ++ (b ∷ cs))) off ∙ t.0, ap (λ c. if c then bs ++ (b ∷ cs) else behind_block b.number (bs ++ (b ∷ cs))) off ∙ t.1)
 
@@ -67,7 +64,7 @@ next bs (b ∷ rest) ns n numbers d r e =
     let from_n : from_block n bs ≡ b ∷ rest = ap (λ k. from_block k bs) (sym first) ∙ (ap (from_block b.number) r.all ∙ t.0) in
     let behind_n : behind_block n bs ≡ rest = ap (λ k. behind_block k bs) (sym first) ∙ (ap (behind_block b.number) r.all ∙ t.1) in
     record {
-      there = subst (λ k. In k (block_numbers bs)) first (subst (λ xs. In b.number (block_numbers xs)) (sym r.all) (number_in r.before rest b));
+      there = subst (λ k. In k (block_numbers bs)) first (subst (λ xs. In b.number (block_numbers xs)) (sym r.all) (in_middle r.before b rest));
       from = from_n;
       remaining = subst (Remaining bs numbers) (sym behind_n) (record { before = r.before ++ (b ∷ []); all = r.all ∙ move_one r.before rest b; are = others });
     }

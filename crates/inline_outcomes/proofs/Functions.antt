@@ -12,6 +12,7 @@ use Rattle.ir_semantics.specs.Import.{with_item, with_items, callees_with, calle
 use Rattle.ir_semantics.specs.Splice.{replace}
 use Rattle.ir_core.proofs.Equal.{equal_name, cases_name}
 use Rattle.ir_core.proofs.Gets.{some_same}
+use Rattle.ir_core.proofs.Members.{in_left, in_right, in_cases}
 use Rattle.func_addrs.proofs.Keeping.{Within, in_order_same}
 
 pub function_hit : (x : FuncName) (h : Function) (hs : Module) → h.name ≡ x → find_function x (h ∷ hs) ≡ Some h
@@ -59,20 +60,6 @@ callee_name c = c.name
 abbrev pub own_names : Function → List FuncName
 own_names f = f.name ∷ map callee_name f.callees
 
-in_append_left : (n : FuncName) (xs ys : List FuncName) → In n xs → In n (xs ++ ys)
-in_append_left n [] ys h = elim h [ ]
-in_append_left n (x ∷ xs) ys (inl q) = inl q
-in_append_left n (x ∷ xs) ys (inr q) = inr (in_append_left n xs ys q)
-
-in_append_right : (n : FuncName) (xs ys : List FuncName) → In n ys → In n (xs ++ ys)
-in_append_right n [] ys h = h
-in_append_right n (x ∷ xs) ys h = inr (in_append_right n xs ys h)
-
-in_append : (n : FuncName) (xs ys : List FuncName) → In n (xs ++ ys) → In n xs ⊎ In n ys
-in_append n [] ys h = inr h
-in_append n (x ∷ xs) ys (inl q) = inl (inl q)
-in_append n (x ∷ xs) ys (inr q) = elim (in_append n xs ys q) [ inl r ↦ inl (inr r) | inr r ↦ inr r ]
-
 in_item : (same : Callee → Callee → Bool) (n : FuncName) (ys : List Callee) (x : Callee) → In n (map callee_name (with_item same ys x)) → In n (map callee_name ys) ⊎ (n ≡ x.name)
 in_item same n [] x (inl q) = inr q
 in_item same n [] x (inr q) = elim q [ ]
@@ -112,12 +99,12 @@ own_mentioned x [] f h n i = cc
 own_mentioned x (k ∷ m) f h n i =
     elim (cases_name k.name x) [
       | inl q ↦ (let e : k ≡ f = some_same (sym (function_hit x k m q) ∙ h) in at_head (subst (λ z. In n (own_names z)) (sym e) i))
-      | inr q ↦ inr (in_append_right n (map callee_name k.callees) (mentioned m) (own_mentioned x m f (sym (function_skip x k m q) ∙ h) n i))
+      | inr q ↦ inr (in_right n (map callee_name k.callees) (mentioned m) (own_mentioned x m f (sym (function_skip x k m q) ∙ h) n i))
     ]
   where
     at_head : In n (own_names k) → In n (mentioned (k ∷ m))
     at_head (inl q) = inl q
-    at_head (inr q) = inr (in_append_left n (map callee_name k.callees) (mentioned m) q)
+    at_head (inr q) = inr (in_left n (map callee_name k.callees) (mentioned m) q)
 
 -- f' in f's place
 
@@ -127,12 +114,12 @@ mentioned_replaced f' (k ∷ m) n h = go (λ i. mentioned_replaced f' m n i) (sa
   where
     go : (In n (mentioned (replace f' m)) → In n (own_names f') ⊎ In n (mentioned m)) → (b : Bool) → In n (mentioned (if b then f' ∷ m else k ∷ replace f' m)) → In n (own_names f') ⊎ In n (mentioned (k ∷ m))
     go ih true (inl q) = inl (inl q)
-    go ih true (inr q) = elim (in_append n (map callee_name f'.callees) (mentioned m) q) [ inl r ↦ inl (inr r) | inr r ↦ inr (inr (in_append_right n (map callee_name k.callees) (mentioned m) r)) ]
+    go ih true (inr q) = elim (in_cases n (map callee_name f'.callees) (mentioned m) q) [ inl r ↦ inl (inr r) | inr r ↦ inr (inr (in_right n (map callee_name k.callees) (mentioned m) r)) ]
     go ih false (inl q) = inr (inl q)
     go ih false (inr q) =
-        elim (in_append n (map callee_name k.callees) (mentioned (replace f' m)) q) [
-          | inl r ↦ inr (inr (in_append_left n (map callee_name k.callees) (mentioned m) r))
-          | inr r ↦ elim (ih r) [ inl s ↦ inl s | inr s ↦ inr (inr (in_append_right n (map callee_name k.callees) (mentioned m) s)) ]
+        elim (in_cases n (map callee_name k.callees) (mentioned (replace f' m)) q) [
+          | inl r ↦ inr (inr (in_left n (map callee_name k.callees) (mentioned m) r))
+          | inr r ↦ elim (ih r) [ inl s ↦ inl s | inr s ↦ inr (inr (in_right n (map callee_name k.callees) (mentioned m) s)) ]
         ]
 
 replaced_mentioned : (f' : Function) (m : Module) (f : Function) → find_function f'.name m ≡ Some f → (n : FuncName) → In n (mentioned m) → In n (own_names f) ⊎ In n (mentioned (replace f' m))
@@ -143,12 +130,12 @@ replaced_mentioned f' (k ∷ m) f h n i = go (λ e j. replaced_mentioned f' m f 
     go ih true q (inl r) = let e : k ≡ f = some_same (sym (ap (λ c. if c then Some k else find_function f'.name m) q) ∙ h) in inl (subst (λ z. In n (own_names z)) e (inl r))
     go ih true q (inr r) =
         let e : k ≡ f = some_same (sym (ap (λ c. if c then Some k else find_function f'.name m) q) ∙ h) in
-        elim (in_append n (map callee_name k.callees) (mentioned m) r) [ inl s ↦ inl (subst (λ z. In n (own_names z)) e (inr s)) | inr s ↦ inr (inr (in_append_right n (map callee_name f'.callees) (mentioned m) s)) ]
+        elim (in_cases n (map callee_name k.callees) (mentioned m) r) [ inl s ↦ inl (subst (λ z. In n (own_names z)) e (inr s)) | inr s ↦ inr (inr (in_right n (map callee_name f'.callees) (mentioned m) s)) ]
     go ih false q (inl r) = inr (inl r)
     go ih false q (inr r) =
-        elim (in_append n (map callee_name k.callees) (mentioned m) r) [
-          | inl s ↦ inr (inr (in_append_left n (map callee_name k.callees) (mentioned (replace f' m)) s))
-          | inr s ↦ elim (ih (sym (function_skip f'.name k m q) ∙ h) s) [ inl t ↦ inl t | inr t ↦ inr (inr (in_append_right n (map callee_name k.callees) (mentioned (replace f' m)) t)) ]
+        elim (in_cases n (map callee_name k.callees) (mentioned m) r) [
+          | inl s ↦ inr (inr (in_left n (map callee_name k.callees) (mentioned (replace f' m)) s))
+          | inr s ↦ elim (ih (sym (function_skip f'.name k m q) ∙ h) s) [ inl t ↦ inl t | inr t ↦ inr (inr (in_right n (map callee_name k.callees) (mentioned (replace f' m)) t)) ]
         ]
 
 -- the names of a module are those of the module in which f has g's callees too

@@ -13,7 +13,7 @@ use Rattle.ir_semantics.proofs.SafetyTypes.{then_some}
 use Rattle.ir_core.specs.Uses.{named_callee, callee_of}
 use Rattle.ir_core.specs.Uses.{called_callees, callees_used}
 use Rattle.ir_core.specs.WellFormed.{LineWellFormed, BlockWellFormed, WellFormed, DifferentNames}
-use Rattle.ir_core.proofs.Gets.{some_same}
+use Rattle.ir_core.proofs.Gets.{some_same, each_at}
 use Rattle.ir_core.proofs.Members.{in_left, in_right}
 use Rattle.ir_core.proofs.Equal.{cases_name}
 use Rattle.call_graph.specs.Reach.{called_name, or_nothing, names_in, called_names, calls_of, apart}
@@ -29,11 +29,6 @@ use Rattle.inline_pass.proofs.Passing.{found}
 use Rattle.inline_pass.proofs.Tracking.{Names, name_in, track, splice_here}
 
 -- ---- a function's text calls the names that it calls
-
-each_get : (P : Line → Type 0) (ls : List Line) (i : ℕ) (l : Line) → slice_get ls i ≡ Some l → Each P ls → P l
-each_get P [] i l h e = cc
-each_get P (x ∷ ls) zero l h e = subst P (some_same h) e.0
-each_get P (x ∷ ls) (suc i) l h e = each_get P ls i l h e.1
 
 each_block : (P : Block → Type 0) (bs : List Block) (n : ℕ) (k : Block) → find_block n bs ≡ Some k → Each P bs → P k
 each_block P [] n k h e = cc
@@ -86,7 +81,7 @@ pub own_text : (f : Function) → WellFormed f → (q : Point) → Names (called
 own_text f w q =
     record {
       callee = λ k l j h get is.
-          let line = each_get (LineWellFormed f) k.lines q.1 l get (each_block (BlockWellFormed f) f.blocks q.0 k h w.lines) in
+          let line = each_at (LineWellFormed f) k.lines q.1 l (each_block (BlockWellFormed f) f.blocks q.0 k h w.lines) get in
           let c = get_at f.callees j (callee_used l.inst j (length f.callees) is line.callees) in
           let name : called_name f l ≡ Some c.0.name = ap (λ o. and_then o (λ z. and_then (slice_get f.callees z) (λ d. Some d.name))) is ∙ ap (λ o. and_then o (λ d. Some d.name)) c.1 in
           (c.0, c.1, names_of_block f f.blocks q.0 k c.0.name h (names_of_line f k.lines q.1 l c.0.name get name));

@@ -16,6 +16,8 @@ use Rattle.ir_semantics.specs.Splice.{first_number}
 use Rattle.ir_core.specs.Uses.{targets}
 use Rattle.ir_core.specs.Lookup.{find_block}
 use Rattle.ir_core.specs.Lists.{In, Each}
+use Rattle.ir_core.proofs.Gets.{each_at}
+use Rattle.ir_core.proofs.Members.{each_in}
 use Rattle.ir_semantics.specs.Available.{Reach, begin, next, branch, Available}
 use Rattle.ir_semantics.specs.Accepted.{Rule, no_terminator, entry_target, count_mismatch, type_mismatch, convention, signature_mismatch, slot_range, tag_place, not_available, HoldsAtLine}
 use Rattle.ir_semantics.specs.CallRules.{Declared}
@@ -199,21 +201,11 @@ found_each P (x ∷ bs) each b block q = go (λ e. found_each P bs each.1 b bloc
     go ih true q = subst P (let e : Some x ≡ Some block = q in cc) each.0
     go ih false q = ih q
 
-got_each : (P : Line → Type 0) (ls : List Line) → Each P ls → (i : ℕ) (l : Line) → slice_get ls i ≡ Some l → P l
-got_each P [] each i l q = cc
-got_each P (x ∷ ls) each zero l q = subst P (let e : Some x ≡ Some l = q in cc) each.0
-got_each P (x ∷ ls) each (suc i) l q = got_each P ls each.1 i l q
-
-in_each : (P : BlockCall → Type 0) (ts : List BlockCall) → Each P ts → (t : BlockCall) → In t ts → P t
-in_each P [] each t i = elim i [ ]
-in_each P (x ∷ ts) each t (inl q) = subst P (sym q) each.0
-in_each P (x ∷ ts) each t (inr q) = in_each P ts each.1 t q
-
 not_reached : {b i : ℕ} {defs : List ℕ} → Reach no_path b i defs → b ≢ 3
 not_reached (begin first others q) = λ e. let n : Path ℕ 0 3 = ap first_number q ∙ e in cc
 not_reached (next r block q l p goes) = not_reached r
 not_reached (branch {b = b} {i = i} r block q l p t is entered e) =
-    in_each (λ (t : BlockCall). t.block ≢ 3) (targets l.inst) (got_each (λ (l : Line). NotThird (targets l.inst)) block.lines (found_each (λ (b : Block). Each (λ (l : Line). NotThird (targets l.inst)) b.lines) no_path.blocks lines_lead b block q) i l p) t is
+    each_in (λ (t : BlockCall). t.block ≢ 3) (targets l.inst) (each_at (λ (l : Line). NotThird (targets l.inst)) block.lines i l (found_each (λ (b : Block). Each (λ (l : Line). NotThird (targets l.inst)) b.lines) no_path.blocks lines_lead b block q) p) t is
 
 no_path_available : Available no_path 3 0 1
 no_path_available defs r = absurd (not_reached r refl)

@@ -12,10 +12,6 @@ pub flat_map_map : {X Y A : Type 0} (f : Y → List A) (g : X → Y) (xs : List 
 flat_map_map f g [] = refl
 flat_map_map f g (x ∷ xs) = ap (λ (l : List _). f (g x) ++ l) (flat_map_map f g xs)
 
-pub flat_one : {X A : Type 0} (g : X → A) (xs : List X) → flat_map (λ x. g x ∷ []) xs ≡ map g xs
-flat_one g [] = refl
-flat_one g (x ∷ xs) = ap (λ (l : List _). g x ∷ l) (flat_one g xs)
-
 pub flat_flat : {X Y A : Type 0} (f : Y → List A) (g : X → List Y) (xs : List X) → flat_map f (flat_map g xs) ≡ flat_map (λ x. flat_map f (g x)) xs
 flat_flat f g [] = refl
 flat_flat f g (x ∷ xs) = flat_map-append f (g x) (flat_map g xs) ∙ ap (λ (l : List _). flat_map f (g x) ++ l) (flat_flat f g xs)

@@ -1,6 +1,6 @@
 -- Where words stand behind a run.
 use Rattle.std.proofs.Common.{◌≡◌, ℕ, zero, suc, ◌+◌, ◌-◌, ◌<◌, ◌≤◌, Bool, true, false, inl, inr, List, [], ◌∷◌, ◌++◌, length, length-append, map, Option, None, Some, is_none, refl, sym, ap, ◌∙◌, arith, append_assoc, add-one}
-use Rattle.std.specs.Prelude.{nat_eq, nat_lt, position, option_map, OnOk, Result, Ok, Err}
+use Rattle.std.specs.Prelude.{nat_eq, nat_lt, position, option_map}
 use Rattle.std.specs.Global.{Box}
 use Rattle.std.specs.List.{range_with_len}
 use Rattle.std.proofs.lemmas.Bool.{eq-eqb}
@@ -100,8 +100,3 @@ pub run_longer : (r x : ℕ) (bs : List ℕ) → length bs ≡ 0 → x ≡ r →
 run_longer r x [] none is = let e : 0 + r ≡ x = omega (arith, is) in
     append-nil (range_with_len 0 (r + 1)) ∙ ap (range_with_len 0) (add-one r) ∙ range_more 0 r ∙ ap (λ k. range_with_len 0 r ++ k ∷ []) e ∙ ap (λ ks. ks ++ x ∷ []) (sym (append-nil (range_with_len 0 r)))
 run_longer r x (b ∷ bs) none is = absurd (omega (arith, none))
-
--- what holds on success, where more follows from it
-pub on_ok : {A E P Q : Type 0} (r : Result A E) → (P → Q) → OnOk r P → OnOk r Q
-on_ok (Ok a) then h = then h
-on_ok (Err e) then h = h

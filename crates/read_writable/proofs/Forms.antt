@@ -14,7 +14,7 @@ use Rattle.ir_core.specs.Lookup.{signature_of, param_types, width_of, ty_of}
 use Rattle.ir_core.specs.Module.{CallTarget, Direct, Indirect, Plain, Line, Function}
 use Rattle.ir_core.specs.Uses.{called_callees, called_sigs, callees_used, sigs_used}
 use Rattle.ir_core.proofs.Members.{each_left, each_right}
-use Rattle.ir_core.proofs.Gets.{get_some}
+use Rattle.ir_core.proofs.Gets.{each_at, get_some}
 use Rattle.ir_semantics.specs.Renaming.{Renaming}
 use Rattle.ir_text.specs.Writable.{conversion, ResultTypes, OpForm, AccessForm, StoreForm, CodeWritable, InstructionForm}
 use Rattle.clif_words.specs.declared.class.Class.TheVariants as classes
@@ -35,7 +35,6 @@ use Rattle.clif_meaning.specs.Instructions.{may_leave_out, kept_type, nullary, t
 use Rattle.clif_meaning.specs.Meaning.{operation_types, form_types}
 use Rattle.clif_meaning.specs.Operations.{operation, access_of, stored_bytes}
 use Rattle.clif_meaning.proofs.LimitLaws.{Kept, AllKept}
-use Rattle.clif_meaning.proofs.Lists.{each_got}
 use Rattle.read_writable.proofs.Numbers.{constant_writable, immediate_writable}
 use Rattle.read_writable.proofs.Operations.{unary_count, binary_count, ternary_count, immediate_is, IsNot, is_of, other_form, no_conversion, its_conversion, leaves_out, keeps_suffix, unary_form}
 use Rattle.read_writable.proofs.Parts.{maybe_offset, code_writable, flags_writable, branch_target, branch_targets, normal_target, table_writable}
@@ -52,7 +51,7 @@ signature_there : (f : Function) → Each (λ (c : Callee). c.sig < length f.sig
     → (to : CallTarget) → Each (λ k. k < length f.callees) (called_callees to) → Each (λ s. s < length f.sigs) (called_sigs to) → (s : Sig) × (signature_of f to ≡ Some s)
 signature_there f own (Direct k) c s =
     let (callee, at) = get_some f.callees k c.0 in
-    let below = each_got (λ (c : Callee). c.sig < length f.sigs) f.callees own k callee at in
+    let below = each_at (λ (c : Callee). c.sig < length f.sigs) f.callees k callee own at in
     let (sig, there) = get_some f.sigs callee.sig below in
     (sig, rw at there)
 signature_there f own (Indirect n address) c s = get_some f.sigs n s.0

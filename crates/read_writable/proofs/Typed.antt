@@ -7,7 +7,7 @@ use Rattle.std.proofs.lemmas.List.{map-append}
 use Rattle.ir_core.specs.declared.signatures.Ty.{Ty}
 use Rattle.ir_core.specs.Lists.{In, Different, Each}
 use Rattle.ir_core.specs.Lookup.{type_in}
-use Rattle.ir_core.proofs.Members.{different_apart, each_in}
+use Rattle.ir_core.proofs.Members.{different_apart, each_in, in_map}
 use Rattle.ir_core.proofs.Walking.{type_found}
 use Rattle.ir_text.specs.Writable.{ResultTypes}
 use Rattle.clif_insts.specs.declared.raw.RawInst.{RawInst}
@@ -22,7 +22,7 @@ use Rattle.name_tables.proofs.DefinedWords.{NoRepeats, place_here, place_there}
 use Rattle.clif_meaning.specs.Instructions.{line_of}
 use Rattle.clif_meaning.specs.Meaning.{numbers, inst_type, function_with, step_types, value_types, types_for, form_types}
 use Rattle.clif_meaning.proofs.BoundLaws.{own_place}
-use Rattle.clif_meaning.proofs.Lists.{in_map, get_seam}
+use Rattle.clif_meaning.proofs.Lists.{get_seam}
 use Rattle.clif_meaning.proofs.OneMeaning.{map_names, count, counts}
 
 -- ---- the first place of a number
@@ -78,7 +78,7 @@ module _ (raw : RawFunction) (value : ℕ → ℕ) (types : List (ℕ × Ty)) wh
       apart x i same =
           different_apart (numbers_of before) (numbers_of (r ∷ after)) (value x.number)
           (subst Different (ap numbers_of (sym whole) ∙ map-append (λ (r : RawName). value r.number) before (r ∷ after)) differ)
-          (in_map (λ (r : RawName). value r.number) before x i) (inl (ap value same))
+          (in_map (λ (r : RawName). value r.number) x before i) (inl (ap value same))
 
       stands : (xs : List RawName) → In r (xs ++ r ∷ after)
       stands [] = inl refl

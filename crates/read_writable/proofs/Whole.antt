@@ -7,7 +7,7 @@ use Rattle.ir_core.specs.Lists.{In, Different, Each}
 use Rattle.ir_core.specs.Module.{Block, Function}
 use Rattle.ir_core.specs.Size.{size_of}
 use Rattle.ir_core.specs.WellFormed.{LineWellFormed, BlockWellFormed, WellFormed}
-use Rattle.ir_core.proofs.Members.{each_left, each_right, in_right, each_in}
+use Rattle.ir_core.proofs.Members.{each_left, each_right, in_map, in_right, each_in}
 use Rattle.ir_core.proofs.Gets.{get_some}
 use Rattle.ir_semantics.specs.Renaming.{Renaming}
 use Rattle.ir_text.specs.Writable.{LineWritable, FunctionWritable}
@@ -33,7 +33,7 @@ use Rattle.clif_meaning.specs.Meaning.{numbers, inst_type, function_with, block_
 use Rattle.clif_meaning.specs.Reads.{ReadIsModule}
 use Rattle.clif_meaning.proofs.BoundLaws.{blocks_define}
 use Rattle.clif_meaning.proofs.LimitLaws.{Kept, AllKept, name_kept, decls_kept, lines_kept}
-use Rattle.clif_meaning.proofs.Lists.{in_flat_in, in_map}
+use Rattle.clif_meaning.proofs.Lists.{in_flat_in}
 use Rattle.clif_meaning.proofs.ModuleLaws.{size, meant_is_module}
 use Rattle.clif_meaning.proofs.SizeLaws.{same_size}
 use Rattle.clif_read.proofs.ModuleFormed.{text_formed}
@@ -109,7 +109,7 @@ module _ (len : ℕ) (raw : RawFunction) (f : Function) (mf : FunctionMeans raw 
         (each_right (MarkFormed len) (flat_map tag_marks tags) (names_marks results ++ inst_marks inst)
         (each_right (MarkFormed len) (location_marks location) (flat_map tag_marks tags ++ (names_marks results ++ inst_marks inst)) (line_marked l i)))
         in
-        let step = in_flat_in block_steps raw.blocks b (Written l) there (in_right (Written l) (map Param b.params) (map Written b.lines) (in_map Written b.lines l i)) in (
+        let step = in_flat_in block_steps raw.blocks b (Written l) there (in_right (Written l) (map Param b.params) (map Written b.lines) (in_map Written l b.lines i)) in (
           form_writable len F whole.callees at (line_of at t tags results inst) inst.suffix inst.opcode.kind t inst.operands (record {
             of_form = inst_formed.operands;
             arguments = inst_formed.arguments;

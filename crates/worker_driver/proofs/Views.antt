@@ -112,10 +112,6 @@ count_head t l = let a = ap {B = ℕ} (λ b. cond b 1 0) (eq-eqb t t refl) in om
 pub ticket_low : (n : ℕ) (w : View) (t : ℕ) (rest : List ℕ) → IsDoneBut n w (t ∷ rest) → t < n
 ticket_low n w t rest left = let h = count_head t rest in (left.once t (omega arith)).0
 
-pub none_of : (l : List ℕ) → length l ≡ 0 → l ≡ []
-none_of [] e = refl
-none_of (x ∷ xs) e = absurd (omega arith)
-
 -- ---- a turn: the next ticket is taken, bodies are read, and the ticket is filled
 
 module _ (m : Module) (n : ℕ) (v w x : View) (t : ℕ) (rest : List ℕ) (drew : OnlyDrew n v w) (left : IsDoneBut n w (t ∷ rest)) (read : OnlyRead w x) where

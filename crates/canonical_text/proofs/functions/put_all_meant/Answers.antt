@@ -1,7 +1,7 @@
 use Rattle.std.proofs.Common.{◌≡◌, ◌+◌, [], ◌∷◌, ◌++◌, length, take, refl, rules}
 use Rattle.std.proofs.lemmas.List.{take_more}
 use Rattle.std.proofs.lemmas.Option.{slice_get_read}
-use Rattle.clif_meaning.proofs.Lists.{each_got}
+use Rattle.ir_core.proofs.Gets.{each_at}
 use Rattle.canonical_text.proofs.PrintedLaws.{puts_none, puts_join}
 use Rattle.canonical_text.proofs.functions.put_all_meant.Goals as goal
 
@@ -11,7 +11,7 @@ loop-raw-init g c = rw c.new-heads.ensures.items puts_none
 pub put_meant-requires : goal.put_meant-requires
 put_meant-requires g c =
     let raws = c.args.raws.now in
-    each_got _ raws c.requires c.loop-raw.raw-index c.raw-item.result
+    each_at _ raws c.loop-raw.raw-index c.raw-item.result c.requires
     (slice_get_read raws (length raws) c.loop-raw.raw-index c.raw-item.result refl c.loop-raw-test.true c.raw-item.is)
 
 pub loop-raw-preserved : goal.loop-raw-preserved

@@ -1,7 +1,7 @@
 use Rattle.std.proofs.Common.{◌≡◌, ◌+◌, [], ◌∷◌, ◌++◌, length, take, refl, rules}
 use Rattle.std.proofs.lemmas.List.{take_more}
 use Rattle.std.proofs.lemmas.Option.{slice_get_read}
-use Rattle.clif_meaning.proofs.Lists.{each_got}
+use Rattle.ir_core.proofs.Gets.{each_at}
 use Rattle.clif_check.proofs.MeantLaws.{kept_none, kept_join}
 use Rattle.clif_check.proofs.stretches.keep_functions.Goals as goal
 
@@ -11,7 +11,7 @@ loop-raw-init c = rw c.new-functions.ensures.items (kept_none c.args.part)
 pub keep_function-requires : goal.keep_function-requires
 keep_function-requires c =
     let raws = c.args.raws.now in
-    each_got _ raws c.requires c.loop-raw.raw-index c.raw-item.result
+    each_at _ raws c.loop-raw.raw-index c.raw-item.result c.requires
     (slice_get_read raws (length raws) c.loop-raw.raw-index c.raw-item.result refl c.loop-raw-test.true c.raw-item.is)
 
 pub loop-raw-preserved : goal.loop-raw-preserved

@@ -1,5 +1,6 @@
 use Rattle.std.proofs.Common.{refl}
-use Rattle.clif_names.proofs.NameSetLaws.{new_text, adds_text, new_user, adds_user, ok_along, on_ok_along}
+use Rattle.std.proofs.lemmas.Result.{IfOk-weaker, on_ok_weaker}
+use Rattle.clif_names.proofs.NameSetLaws.{new_text, adds_text, new_user, adds_user}
 use Rattle.clif_names.proofs.repeated.NameSet.insert.Goals as goal
 
 pub returns-in_ok-is_new-in-Text-clause-added : goal.returns-in_ok-is_new-in-Text-clause-added
@@ -12,8 +13,8 @@ returns-in_ok-is_new-in-Text-clause-names c =
 
 pub returns-in-User-clause-added : goal.returns-in-User-clause-added
 returns-in-User-clause-added c =
-    rw c.in-User.is (ok_along _ _ c.insert_user.result (λ is_new added. new_user c.args.self.now c.in-User.space c.in-User.number is_new added) c.insert_user.ensures.added)
+    rw c.in-User.is (IfOk-weaker c.insert_user.result _ _ (λ is_new added. new_user c.args.self.now c.in-User.space c.in-User.number is_new added) c.insert_user.ensures.added)
 
 pub returns-in-User-clause-names : goal.returns-in-User-clause-names
 returns-in-User-clause-names c =
-    rw c.in-User.is (on_ok_along _ _ c.insert_user.result (λ added. adds_user c.args.self.now (record { texts = c.args.self.now.texts; users = c.insert_user.new.users }) c.in-User.space c.in-User.number added refl) c.insert_user.ensures.keys)
+    rw c.in-User.is (on_ok_weaker c.insert_user.result (λ added. adds_user c.args.self.now (record { texts = c.args.self.now.texts; users = c.insert_user.new.users }) c.in-User.space c.in-User.number added refl) c.insert_user.ensures.keys)

@@ -1,7 +1,8 @@
 use Rattle.std.proofs.Common.{rules, ◌≡◌, ◌≤◌, ◌-◌, ◌++◌, ◌∷◌, [], nat_eq, None, ap, sym, ◌∙◌}
 use Rattle.std.specs.Prelude.{position}
+use Rattle.std.proofs.lemmas.Result.{on_ok_weaker}
 use Rattle.name_tables.specs.Dense.{words_of, or_no_words}
-use Rattle.name_tables.proofs.RunLaws.{behind_run, none_behind, words_more, on_ok}
+use Rattle.name_tables.proofs.RunLaws.{behind_run, none_behind, words_more}
 use Rattle.name_tables.proofs.words.Words.push_behind.Goals as goal
 
 pub overflow_sub-word : goal.overflow_sub-word
@@ -22,7 +23,7 @@ returns-in-Some c =
     let words = or_no_words c.self.inside.behind in
     let after : run ≤ c.args.word = behind_run run words c.args.word (ap (position (nat_eq c.args.word)) c.self.view_is ∙ c.requires) in
     let was : words ≡ c.deref_mut.result.now = ap or_no_words c.in-Some.is ∙ sym c.deref_mut.ensures.value in
-    on_ok c.push.result (λ e. ap (words_of run) (e ∙ ap (λ ws. ws ++ (c.args.word - run) ∷ []) (sym was)) ∙ words_more run words c.args.word after ∙ ap (λ ws. ws ++ c.args.word ∷ []) c.self.view_is) c.push.ensures
+    on_ok_weaker c.push.result (λ e. ap (words_of run) (e ∙ ap (λ ws. ws ++ (c.args.word - run) ∷ []) (sym was)) ∙ words_more run words c.args.word after ∙ ap (λ ws. ws ++ c.args.word ∷ []) c.self.view_is) c.push.ensures
 
 pub returns-in_ok-new-in-None : goal.returns-in_ok-new-in-None
 returns-in_ok-new-in-None c =

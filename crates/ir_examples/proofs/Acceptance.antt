@@ -1,6 +1,6 @@
 -- Worked examples: which rule of acceptance refuses a line, and which values are available.
-use Rattle.std.specs.Prelude.{◌≡◌, ◌≢◌, ℕ, zero, suc, pos, Bool, nat_eq, length, if◌then◌else◌, List, [], ◌∷◌, Option, Some, None, false, true, IsSomeAnd, slice_get}
-use Rattle.std.proofs.Common.{refl, inl, inr, sym, ap, ◌∙◌, subst}
+use Rattle.std.specs.Prelude.{◌≡◌, ◌≢◌, ℕ, pos, Bool, nat_eq, length, if◌then◌else◌, List, [], ◌∷◌, Option, Some, None, false, true, IsSomeAnd, slice_get}
+use Rattle.std.proofs.Common.{refl, inl, inr, ap, ◌∙◌, subst}
 use Rattle.clk_num.specs.Operations.{value_of}
 use Rattle.clk_num.specs.declared.width.Width.TheVariants.{W32, W128}
 use Rattle.clk_num.specs.declared.op.Op.TheVariants.{Iadd, Udiv, Iconcat}
@@ -15,7 +15,7 @@ use Rattle.ir_core.specs.declared.instructions.BlockCall.{BlockCall}
 use Rattle.ir_semantics.specs.Splice.{first_number}
 use Rattle.ir_core.specs.Uses.{targets}
 use Rattle.ir_core.specs.Lookup.{find_block}
-use Rattle.ir_core.specs.Lists.{In, Each}
+use Rattle.ir_core.specs.Lists.{Each}
 use Rattle.ir_core.proofs.Gets.{each_at}
 use Rattle.ir_core.proofs.Members.{each_in}
 use Rattle.ir_semantics.specs.Available.{Reach, begin, next, branch, Available}

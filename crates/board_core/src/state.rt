@@ -16,7 +16,7 @@ pub enum Mark {
 }
 
 /// What happens to a cell. Workers go by their numbers.
-#[derive(Clone, Copy, PartialEq, Eq, Debug)]
+#[derive(Clone, Copy, PartialEq, Eq)]
 pub enum Phase {
     /// Nobody has filled it.
     Vacant,
@@ -44,7 +44,7 @@ pub enum BoardEvent {
 }
 
 /// The board: one ticket and one cell for each function. Contracts see it as a `Board`.
-#[derive(Debug, Drop)]
+#[derive(Drop)]
 pub struct BoardState {
     next: u64,
     owners: Vec<Option<u32>>,

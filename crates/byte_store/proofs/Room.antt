@@ -2,7 +2,7 @@
 use Rattle.std.proofs.Common.{◌≡◌, ℕ, zero, suc, ◌+◌, ◌<◌, ◌≤◌, List, [], ◌∷◌, ◌++◌, length, Option, Some, None, get_or, set, refl, arith, if◌then◌else◌, nat_eq, ap, sym, ◌∙◌}
 use Rattle.std.proofs.Math.Dec.{eqb-suc-zero, eqb-zero-suc, eqb-suc-suc}
 use Rattle.std.proofs.Math.Path.{fun_ext}
-use Rattle.std.specs.Prelude.{Result, Ok, Err, OnOk, OnErr}
+use Rattle.std.specs.Prelude.{Result, Ok, Err, OnErr}
 use Rattle.byte_store.specs.Cells.{cell_of, put_cell}
 
 pub cell_within : {A : Type 0} → (xs : List (Option A)) (i : ℕ) (d : Option A) → i < length xs → get_or xs i d ≡ cell_of xs i
@@ -38,11 +38,3 @@ set_is_put xs i x h = fun_ext (λ v. cell_set xs i x h v)
 pub on_err : {T E : Type 0} (r : Result T E) (P : Type 0) → P → OnErr r P
 on_err (Ok x) P p = tt
 on_err (Err e) P p = p
-
-pub on_ok_then : {T E : Type 0} (r : Result T E) (P Q : Type 0) → OnOk r P → (P → Q) → OnOk r Q
-on_ok_then (Ok x) P Q p go = go p
-on_ok_then (Err e) P Q p go = tt
-
-pub on_err_then : {T E : Type 0} (r : Result T E) (P Q : Type 0) → OnErr r P → (P → Q) → OnErr r Q
-on_err_then (Ok x) P Q p go = tt
-on_err_then (Err e) P Q p go = go p

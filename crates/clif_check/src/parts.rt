@@ -13,7 +13,7 @@ use std::alloc::Global;
 
 /// What stays in memory of each function of a text, once it is known to keep every rule but that on its callee
 /// declarations.
-#[derive(Clone, Copy, Debug)]
+#[derive(Clone, Copy)]
 pub(crate) enum Part {
     /// All of it.
     Whole,

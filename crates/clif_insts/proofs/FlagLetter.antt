@@ -1,7 +1,7 @@
 -- The flags of the grammar are those of the text form: any number of the nine, `big` and `little` not together.
 use Rattle.std.proofs.Common.{◌≡◌, ℕ, ◌==◌, ◌&&◌, ◌||◌, Bool, true, false, cond, List, [], ◌∷◌, ◌++◌, map, Option, Some, None, refl, sym, ap, subst, ◌∙◌, inl, inr}
 use Rattle.std.specs.Prelude.{◌⊎◌}
-use Rattle.std.proofs.lemmas.Bool.{eqb-true, eq-eqb, and_parts, or_cases, or_parts}
+use Rattle.std.proofs.lemmas.Bool.{eqb-true, eq-eqb, and_left, and_right, and_parts, or_cases, or_from, or_parts}
 use Rattle.std.proofs.lemmas.List.{append-nil, map-append}
 use Rattle.std.proofs.lemmas.List.Folds.{list_any-append}
 use Rattle.grammar.specs.Rules.{Lexeme, Kind, Rule, Many, Unsupported, Tree, Cut, Derives, Begins, Refuses, member}
@@ -69,14 +69,6 @@ two_no false b h e = refl
 two_no true true h e = absurd cc
 two_no true false h e = absurd cc
 
-no_first : (a b : Bool) → a ≡ false → (a && b) ≡ false
-no_first false b h = refl
-no_first true b h = absurd cc
-
-no_second : (a b : Bool) → b ≡ false → (a && b) ≡ false
-no_second false b h = refl
-no_second true b h = h
-
 -- a text without tokens of a class
 spared : (class : Class) (cs ds : List ℕ) → ((n : ℕ) → (code class == n) ≡ false → member n cs ≡ true → member n ds ≡ true)
     → (ts : List Lexeme) → has class ts ≡ false → all_in cs ts ≡ true → all_in ds ts ≡ true
@@ -92,22 +84,18 @@ wider cs ds more (x ∷ xs) all =
     let a = and_parts (member x.class cs) (all_in cs xs) all in
     all_cons ds x xs (more x.class a.0) (wider cs ds more xs a.1)
 
-or_none : (a b : Bool) → a ≡ false → b ≡ false → (a || b) ≡ false
-or_none true b e f = absurd cc
-or_none false b e f = f
-
 none_of : (class : Class) (cs : List ℕ) → member (code class) cs ≡ false → (ts : List Lexeme) → all_in cs ts ≡ true → has class ts ≡ false
 none_of class cs out [] all = refl
 none_of class cs out (x ∷ xs) all =
     let a = and_parts (member x.class cs) (all_in cs xs) all in
-    or_none (code class == x.class) (has class xs) (go (one_way (code class == x.class)) a.0) (none_of class cs out xs a.1)
+    or_from (code class == x.class) (has class xs) (go (one_way (code class == x.class)) a.0) (none_of class cs out xs a.1)
   where
     go : ((code class == x.class) ≡ true) ⊎ ((code class == x.class) ≡ false) → member x.class cs ≡ true → (code class == x.class) ≡ false
     go (inr e) h = e
     go (inl e) h = absurd (let same : code class ≡ x.class = eqb-true (code class) x.class e in let k : member (code class) cs ≡ true = rw same h in let f : true ≡ false = sym k ∙ out in cc)
 
 has_append : (class : Class) (us ws : List Lexeme) → has class us ≡ false → has class ws ≡ false → has class (us ++ ws) ≡ false
-has_append class us ws h k = list_any-append (λ (x : Lexeme). code class == x.class) us ws ∙ or_none (has class us) (has class ws) h k
+has_append class us ws h k = list_any-append (λ (x : Lexeme). code class == x.class) us ws ∙ or_from (has class us) (has class ws) h k
 
 -- the four classes
 any_of : (n : ℕ) → member n any ≡ true → (n ≡ code classes.Flag) ⊎ (n ≡ code classes.Vmctx) ⊎ (n ≡ code classes.Little) ⊎ (n ≡ code classes.Big)
@@ -165,20 +153,20 @@ abbrev Shape : List Lexeme → Type 0
 Shape ts = (all_in plain ts ≡ true) ⊎ Cut ts (λ us ws. (all_in plain us ≡ true) × (Ordered classes.Big ws ⊎ Ordered classes.Little ws))
 
 shape_any : (ts : List Lexeme) → Shape ts → (all_in any ts ≡ true) × (both_orders ts ≡ false)
-shape_any ts (inl h) = (wider plain any plain_any ts h, no_first (has classes.Big ts) (has classes.Little ts) (none_of classes.Big plain refl ts h))
+shape_any ts (inl h) = (wider plain any plain_any ts h, and_left (has classes.Big ts) (has classes.Little ts) (none_of classes.Big plain refl ts h))
 shape_any ts (inr (us, ws, e, (h, inl (x, xs, f, c, k)))) =
     let whole : ts ≡ us ++ (x ∷ xs) = e ∙ ap (λ (l : List Lexeme). us ++ l) f in
     subst (λ (l : List Lexeme). (all_in any l ≡ true) × (both_orders l ≡ false)) (sym whole) (
       all_append any us (x ∷ xs) (wider plain any plain_any us h) (all_cons any x xs (rw c refl) (wider (with_order classes.Big) any big_any xs k)),
-      no_second (has classes.Big (us ++ (x ∷ xs))) (has classes.Little (us ++ (x ∷ xs)))
-          (has_append classes.Little us (x ∷ xs) (none_of classes.Little plain refl us h) (or_none (code classes.Little == x.class) (has classes.Little xs) (rw c refl) (none_of classes.Little (with_order classes.Big) refl xs k))),
+      and_right (has classes.Big (us ++ (x ∷ xs))) (has classes.Little (us ++ (x ∷ xs)))
+          (has_append classes.Little us (x ∷ xs) (none_of classes.Little plain refl us h) (or_from (code classes.Little == x.class) (has classes.Little xs) (rw c refl) (none_of classes.Little (with_order classes.Big) refl xs k))),
     )
 shape_any ts (inr (us, ws, e, (h, inr (x, xs, f, c, k)))) =
     let whole : ts ≡ us ++ (x ∷ xs) = e ∙ ap (λ (l : List Lexeme). us ++ l) f in
     subst (λ (l : List Lexeme). (all_in any l ≡ true) × (both_orders l ≡ false)) (sym whole) (
       all_append any us (x ∷ xs) (wider plain any plain_any us h) (all_cons any x xs (rw c refl) (wider (with_order classes.Little) any little_any xs k)),
-      no_first (has classes.Big (us ++ (x ∷ xs))) (has classes.Little (us ++ (x ∷ xs)))
-          (has_append classes.Big us (x ∷ xs) (none_of classes.Big plain refl us h) (or_none (code classes.Big == x.class) (has classes.Big xs) (rw c refl) (none_of classes.Big (with_order classes.Little) refl xs k))),
+      and_left (has classes.Big (us ++ (x ∷ xs))) (has classes.Little (us ++ (x ∷ xs)))
+          (has_append classes.Big us (x ∷ xs) (none_of classes.Big plain refl us h) (or_from (code classes.Big == x.class) (has classes.Big xs) (rw c refl) (none_of classes.Big (with_order classes.Little) refl xs k))),
     )
 
 -- another flag in front

@@ -15,7 +15,7 @@ use std::alloc::Global;
 use token_reader::{Reader, Stop};
 
 /// The order of bytes that a flag gives.
-#[derive(Clone, Copy, Debug)]
+#[derive(Clone, Copy)]
 pub(crate) enum Order {
     Little,
     Big,

@@ -9,7 +9,7 @@ ghost use Rattle.clif_insts.specs.Grammar.{excepted, words_but};
 use clif_words::Class;
 
 /// What stands before an instruction. By that a word which is no opcode may begin something else in its place.
-#[derive(Clone, Copy, Debug, PartialEq, Eq)]
+#[derive(Clone, Copy, PartialEq, Eq)]
 pub enum Opening {
     /// Results and `=`: nothing but an opcode goes on.
     AfterResults,

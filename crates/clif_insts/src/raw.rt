@@ -6,7 +6,7 @@ use std::mem::size_of;
 use token_reader::{RawName, RawNumber, RawOpcode};
 
 /// An argument of a target: `vN`, `retN` or `exnN`.
-#[derive(Clone, Copy, Debug, PartialEq, Eq)]
+#[derive(Clone, Copy, PartialEq, Eq)]
 pub enum RawArg {
     Value(RawName),
     Ret(RawName),
@@ -28,7 +28,7 @@ pub struct RawEntry {
 }
 
 /// A trap code. `User` has the number of a `userN`.
-#[derive(Clone, Copy, Debug, PartialEq, Eq)]
+#[derive(Clone, Copy, PartialEq, Eq)]
 pub enum RawTrap {
     StkOvf,
     IntOvf,
@@ -39,7 +39,7 @@ pub enum RawTrap {
 }
 
 /// A flag of a memory access.
-#[derive(Clone, Copy, Debug, PartialEq, Eq)]
+#[derive(Clone, Copy, PartialEq, Eq)]
 pub enum RawFlag {
     Notrap,
     Aligned,

@@ -14,7 +14,7 @@ use token_reader::{Items, Reader, Stop, read_few_items, read_items};
 
 /// Where a target stands: at a branch, as the normal target of a `try_call`, or in its table.
 /// `retN` stands only in the second, `exnN` only in the third.
-#[derive(Clone, Copy, Debug, PartialEq, Eq)]
+#[derive(Clone, Copy, PartialEq, Eq)]
 pub enum TargetRole {
     Branch,
     Normal,

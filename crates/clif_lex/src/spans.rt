@@ -6,7 +6,7 @@ ghost use Rattle.clif_lex.specs.Spans as spec;
 use std::marker::Model;
 
 /// What a token is.
-#[derive(Clone, Copy, Debug, PartialEq, Eq)]
+#[derive(Clone, Copy, PartialEq, Eq)]
 pub enum TokenKind {
     /// A line before the first function that begins with `test`, `set` or `target`.
     Header,
@@ -27,7 +27,7 @@ pub enum TokenKind {
 }
 
 /// A token, and the bytes that it takes: from `start` up to `end`.
-#[derive(Clone, Copy, Debug, PartialEq, Eq)]
+#[derive(Clone, Copy, PartialEq, Eq)]
 pub struct Token {
     pub kind: TokenKind,
     pub start: usize,
@@ -35,7 +35,7 @@ pub struct Token {
 }
 
 /// A token as it is kept, in 12 bytes.
-#[derive(Clone, Copy, Debug)]
+#[derive(Clone, Copy)]
 pub(crate) struct Span {
     pub kind: TokenKind,
     pub start: u32,
@@ -69,7 +69,7 @@ impl Span {
 }
 
 /// The tokens of a text.
-#[derive(Debug, Drop)]
+#[derive(Drop)]
 pub struct Tokens {
     pub(crate) spans: Vec<Span>,
 }

@@ -9,7 +9,7 @@ use ir_core::GREATEST_SIZE;
 use name_tables::earlier_of;
 
 /// The least spot of a fault of each kind, where there is one.
-#[derive(Clone, Copy, Debug)]
+#[derive(Clone, Copy)]
 pub struct LeastSpots {
     pub duplicate: Option<usize>,
     pub undefined: Option<usize>,

@@ -9,7 +9,7 @@ use name_tables::earlier_spot;
 use token_reader::{RawName, RawNumber};
 
 /// What a number is the number of.
-#[derive(Clone, Copy, Debug, PartialEq, Eq)]
+#[derive(Clone, Copy, PartialEq, Eq)]
 pub enum Limit {
     /// An entity's word, a `ret` or `exn` word, a tag, or a name.
     Entity,
@@ -22,7 +22,7 @@ pub enum Limit {
 }
 
 /// A number of the text, with its limit.
-#[derive(Clone, Copy, Debug)]
+#[derive(Clone, Copy)]
 pub struct Limited {
     pub value: i128,
     /// The number's or the word's first byte.

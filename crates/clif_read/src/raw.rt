@@ -6,7 +6,7 @@ use ir_core::{Boxed, Conv, Few, List, NameBytes, Ty};
 use token_reader::{RawName, RawNumber};
 
 /// A word behind the type of a parameter or result.
-#[derive(Clone, Copy, Debug, PartialEq, Eq)]
+#[derive(Clone, Copy, PartialEq, Eq)]
 pub enum RawAttribute {
     Uext,
     Sext,
@@ -86,7 +86,7 @@ pub enum RawDecl {
 }
 
 /// A debug tag: a number of the user, or a slot.
-#[derive(Clone, Copy, Debug, PartialEq, Eq)]
+#[derive(Clone, Copy, PartialEq, Eq)]
 pub enum RawTag {
     User(RawNumber),
     Slot(RawName),
@@ -111,7 +111,7 @@ pub enum RawLine {
 }
 
 /// A parameter of a block.
-#[derive(Clone, Copy, Debug, PartialEq, Eq)]
+#[derive(Clone, Copy, PartialEq, Eq)]
 pub struct RawBlockParam {
     pub value: RawName,
     pub ty: Ty,

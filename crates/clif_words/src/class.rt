@@ -2,7 +2,7 @@
 
 /// What a token is to the grammar. Words are told apart by their spelling; of an opcode the class says its form.
 /// The words that are no opcodes stand together, from `Function` to `Other`.
-#[derive(Clone, Copy, Debug, PartialEq, Eq)]
+#[derive(Clone, Copy, PartialEq, Eq)]
 pub enum Class {
     /// A line of a filetest's head.
     Header,

@@ -9,14 +9,14 @@ use clk_num::Cc;
 use ir_core::{Conv, Ty};
 
 /// How a parameter or a result is extended.
-#[derive(Clone, Copy, Debug)]
+#[derive(Clone, Copy)]
 pub enum Extension {
     Uext,
     Sext,
 }
 
 /// A flag of a memory access but `little`, `big` and `vmctx`.
-#[derive(Clone, Copy, Debug)]
+#[derive(Clone, Copy)]
 pub enum Flag {
     Notrap,
     Aligned,
@@ -27,7 +27,7 @@ pub enum Flag {
 }
 
 /// A trap code but `userN`.
-#[derive(Clone, Copy, Debug)]
+#[derive(Clone, Copy)]
 pub enum NamedTrap {
     StkOvf,
     IntOvf,
@@ -37,7 +37,7 @@ pub enum NamedTrap {
 }
 
 /// What a word with a number behind it names.
-#[derive(Clone, Copy, Debug, PartialEq, Eq)]
+#[derive(Clone, Copy, PartialEq, Eq)]
 pub enum Entity {
     /// `vN`.
     Value,
@@ -110,7 +110,7 @@ fn find_type_number(ty: Ty) -> u64
 }
 
 /// What a word is to the grammar.
-#[derive(Clone, Copy, Debug)]
+#[derive(Clone, Copy)]
 pub enum Word {
     /// An opcode that is read.
     Opcode(Opcode),
@@ -224,7 +224,7 @@ impl Word {
 }
 
 /// What a token is to the grammar.
-#[derive(Clone, Copy, Debug)]
+#[derive(Clone, Copy)]
 pub enum Terminal {
     /// A word.
     Word(Word),

@@ -189,7 +189,7 @@ impl Opcode {
 
 /// A row of the table: how an opcode is spelled, which one it is, the class of the words of its form, and, of an
 /// operation that has a form with an immediate, the opcode of that form.
-#[derive(Clone, Copy, Debug)]
+#[derive(Clone, Copy)]
 pub struct OpcodeRow(pub &'static str, pub Opcode, pub Class, pub Option<Opcode>);
 
 /// The opcodes, grouped by form.

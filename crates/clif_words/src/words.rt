@@ -5,11 +5,11 @@ use clk_num::Cc;
 use ir_core::{Conv, Ty};
 
 /// How a word that is no opcode of the table is spelled, and what it is.
-#[derive(Clone, Copy, Debug)]
+#[derive(Clone, Copy)]
 pub struct Entry(pub &'static str, pub Word);
 
 /// What stands before the number of a word, and what such a word names.
-#[derive(Clone, Copy, Debug)]
+#[derive(Clone, Copy)]
 pub struct Stem(pub &'static str, pub Entity);
 
 /// The words behind the opcodes, in the order of the grammar: the opcodes that are refused, and the other words by

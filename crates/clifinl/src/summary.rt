@@ -28,7 +28,7 @@ use std::thread::Threads;
 use worker_driver::{Steps, pass_with};
 
 /// What the pass does to a module, in numbers.
-#[derive(Clone, Copy, Debug)]
+#[derive(Clone, Copy)]
 pub(crate) struct Summary {
     /// How many functions the module has.
     pub functions: usize,

@@ -207,7 +207,7 @@ impl Sink for MemSink {
 }
 
 /// A sink that takes everything and keeps nothing.
-#[derive(Clone, Copy, PartialEq, Eq, Debug)]
+#[derive(Clone, Copy, PartialEq, Eq)]
 pub struct NullSink;
 
 impl NullSink {

@@ -6,7 +6,7 @@ ghost use Rattle.clk_num.specs.Numbers.{signed, wrapped, fits};
 use crate::width::Width;
 
 /// A value of an integer type: its width, and its bits as a number below two to the power of the width.
-#[derive(Clone, Copy, Debug, PartialEq, Eq)]
+#[derive(Clone, Copy, PartialEq, Eq)]
 pub struct Bits {
     pub width: Width,
     pub value: u128,

@@ -3,7 +3,7 @@
 use crate::width::Width;
 
 /// The condition of `icmp`, signed (`S`) or unsigned (`U`).
-#[derive(Clone, Copy, Debug, PartialEq, Eq)]
+#[derive(Clone, Copy, PartialEq, Eq)]
 pub enum Cc {
     Eq,
     Ne,
@@ -18,7 +18,7 @@ pub enum Cc {
 }
 
 /// Why a run trapped. `User` has the number of a `userN`.
-#[derive(Clone, Copy, Debug, PartialEq, Eq)]
+#[derive(Clone, Copy, PartialEq, Eq)]
 pub enum TrapCode {
     StkOvf,
     IntOvf,
@@ -30,7 +30,7 @@ pub enum TrapCode {
 
 /// An opcode that computes on values, by its CLIF name. `Icmp` has its condition, and `Uextend`, `Sextend` and
 /// `Ireduce` have the width of their result.
-#[derive(Clone, Copy, Debug, PartialEq, Eq)]
+#[derive(Clone, Copy, PartialEq, Eq)]
 pub enum Op {
     Iadd,
     Isub,

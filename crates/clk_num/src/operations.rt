@@ -18,7 +18,7 @@ use crate::op::{Op, TrapCode};
 use crate::shifts::{ishl, rotl, rotr, sshr, ushr};
 
 /// The result of an operation: one value, two values, or a trap.
-#[derive(Clone, Copy, Debug, PartialEq, Eq)]
+#[derive(Clone, Copy, PartialEq, Eq)]
 pub enum Evaled {
     One(Bits),
     Two(Bits, Bits),

@@ -12,7 +12,7 @@ use std::alloc::{AllocError, Global};
 use std::marker::Model;
 
 /// One debug tag.
-#[derive(Clone, Copy, PartialEq, Eq, Debug, Drop)]
+#[derive(Clone, Copy, PartialEq, Eq, Drop)]
 pub enum Tag {
     /// A number of the user's.
     User(u32),
@@ -34,7 +34,7 @@ impl Tag {
 }
 
 /// The tags of one instruction, in written order. Contracts see them as a list.
-#[derive(Debug, Drop)]
+#[derive(Drop)]
 pub struct Tags {
     list: Vec<Tag>,
 }

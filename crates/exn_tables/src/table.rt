@@ -10,7 +10,7 @@ use std::alloc::{AllocError, Global};
 use std::marker::Model;
 
 /// One entry of an exception table: a tag and where its exceptions go.
-#[derive(Clone, PartialEq, Eq, Debug, Drop)]
+#[derive(Clone, PartialEq, Eq, Drop)]
 pub struct Entry<T> {
     /// The tag whose exceptions the entry takes; `None` is `default`, which takes every tag.
     pub tag: Option<u32>,
@@ -28,7 +28,7 @@ impl<T> Entry<T> {
 }
 
 /// The exception table of one call, in written order. Contracts see it as the list of its entries.
-#[derive(Debug, Drop)]
+#[derive(Drop)]
 pub struct Table<T> {
     entries: Vec<Entry<T>>,
 }

@@ -6,7 +6,7 @@ ghost use Rattle.inline_caller.specs.Replacing.{kind_of_call};
 use ir_core::Inst;
 
 /// How a call goes on: behind it in its block, nowhere in its function, or in its normal target.
-#[derive(Clone, Copy, Debug, PartialEq, Eq)]
+#[derive(Clone, Copy, PartialEq, Eq)]
 pub enum CallKind {
     Plain,
     Tail,

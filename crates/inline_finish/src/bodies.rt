@@ -10,7 +10,7 @@ use ir_core::Func;
 use splice_size::Counts;
 
 /// Which calls are inlined: a body of at most `callee_size` goes into a function that then has at most `caller_size`.
-#[derive(Clone, Copy, Debug, PartialEq, Eq)]
+#[derive(Clone, Copy, PartialEq, Eq)]
 pub struct Policy {
     pub callee_size: usize,
     pub caller_size: usize,

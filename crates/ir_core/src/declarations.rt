@@ -6,7 +6,7 @@ use crate::numbers::SigRef;
 use std::alloc::AllocError;
 
 /// An explicit stack slot: its size and alignment in bytes.
-#[derive(Clone, Copy, Debug, PartialEq, Eq)]
+#[derive(Clone, Copy, PartialEq, Eq)]
 pub struct SlotDecl {
     pub size: u32,
     pub align: u32,

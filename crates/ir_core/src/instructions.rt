@@ -15,7 +15,7 @@ use exn_tables::Table;
 use std::mem::size_of;
 
 /// An argument of a target: a value, a result of the call, or a payload of the exception.
-#[derive(Clone, Copy, Debug, PartialEq, Eq)]
+#[derive(Clone, Copy, PartialEq, Eq)]
 pub enum Arg {
     Value(Value),
     Ret(u32),
@@ -30,7 +30,7 @@ pub struct BlockCall {
 }
 
 /// The flags of a memory access.
-#[derive(Clone, Copy, Debug, PartialEq, Eq)]
+#[derive(Clone, Copy, PartialEq, Eq)]
 pub struct Flags {
     pub notrap: bool,
     pub aligned: bool,
@@ -44,7 +44,7 @@ pub struct Flags {
 }
 
 /// What a load reads: the whole type, or a number of bytes that are extended to the type.
-#[derive(Clone, Copy, Debug, PartialEq, Eq)]
+#[derive(Clone, Copy, PartialEq, Eq)]
 pub enum Access {
     Full(Ty),
     Uload(Ty, u8),

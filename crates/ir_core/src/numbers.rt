@@ -4,7 +4,7 @@ ghost use Rattle.std.specs.Prelude.{◌≡◌, ℕ};
 use std::marker::Model;
 
 /// The number of a value: a block parameter or a result of an instruction, as in `v7`.
-#[derive(Clone, Copy, Debug, PartialEq, Eq)]
+#[derive(Clone, Copy, PartialEq, Eq)]
 pub struct Value {
     number: u32,
 }
@@ -72,7 +72,7 @@ impl Block {
 }
 
 /// The number of an explicit stack slot, as in `ss0`.
-#[derive(Clone, Copy, Debug, PartialEq, Eq)]
+#[derive(Clone, Copy, PartialEq, Eq)]
 pub struct Slot {
     number: u32,
 }
@@ -106,7 +106,7 @@ impl Slot {
 }
 
 /// The number of a signature of the function's list, as in `sig0`.
-#[derive(Clone, Copy, Debug, PartialEq, Eq)]
+#[derive(Clone, Copy, PartialEq, Eq)]
 pub struct SigRef {
     number: u32,
 }
@@ -140,7 +140,7 @@ impl SigRef {
 }
 
 /// The number of a callee declaration, as in `fn0`.
-#[derive(Clone, Copy, Debug, PartialEq, Eq)]
+#[derive(Clone, Copy, PartialEq, Eq)]
 pub struct FuncRef {
     number: u32,
 }

@@ -1,7 +1,7 @@
 //! Spare room of a function.
 
 /// How many more of each kind.
-#[derive(Clone, Copy, Debug, PartialEq, Eq)]
+#[derive(Clone, Copy, PartialEq, Eq)]
 pub struct Room {
     pub slots: usize,
     pub sigs: usize,

@@ -59,7 +59,7 @@ impl Ty {
 }
 
 /// A calling convention.
-#[derive(Clone, Copy, Debug, PartialEq, Eq)]
+#[derive(Clone, Copy, PartialEq, Eq)]
 pub enum Conv {
     Fast,
     Cold,

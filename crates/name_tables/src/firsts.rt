@@ -9,7 +9,7 @@ use token_reader::RawName;
 const FIRST_ROOM: usize = 8;
 
 /// A definition of a value, and the word that it stands for where it is an alias line.
-#[derive(Clone, Copy, Debug)]
+#[derive(Clone, Copy)]
 pub struct Def {
     pub name: RawName,
     pub target: Option<RawName>,

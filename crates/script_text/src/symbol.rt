@@ -6,7 +6,7 @@ ghost use Rattle.script_text.specs.declared.terminal.Terminal.TheVariants.{Byte,
 use crate::terminal::Terminal;
 
 /// A token of a script.
-#[derive(Clone, Copy, Debug)]
+#[derive(Clone, Copy)]
 pub struct Symbol {
     pub terminal: Terminal,
     /// Which of the words of its terminal it is, or what a number is modulo 2^64.

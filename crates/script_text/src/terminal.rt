@@ -1,7 +1,7 @@
 //! The terminals of the grammar of scripts.
 
 /// What a token of a script is to the grammar.
-#[derive(Clone, Copy, Debug, PartialEq, Eq)]
+#[derive(Clone, Copy, PartialEq, Eq)]
 pub enum Terminal {
     /// `return`.
     Return,

@@ -2,7 +2,7 @@
 ghost use Rattle.std.specs.Prelude.{◌≤◌};
 
 /// The command that the words name, with the values of its options.
-#[derive(Debug, Drop)]
+#[derive(Drop)]
 pub enum Settings {
     /// `check`: whether the module is accepted.
     Check,
@@ -19,7 +19,7 @@ pub enum Settings {
 }
 
 /// The options of `inline`.
-#[derive(Clone, Copy, Debug)]
+#[derive(Clone, Copy)]
 pub struct InlineSettings {
     /// The largest size of a callee that is inlined.
     pub callee_size: usize,
@@ -34,7 +34,7 @@ pub struct InlineSettings {
 }
 
 /// The options of `run`.
-#[derive(Debug, Drop)]
+#[derive(Drop)]
 pub struct RunSettings {
     /// The name of the function that is run, as the canonical text spells it.
     pub entry: String,
@@ -51,7 +51,7 @@ pub struct RunSettings {
 }
 
 /// The options of `gen`.
-#[derive(Clone, Copy, Debug)]
+#[derive(Clone, Copy)]
 pub struct GenSettings {
     /// The number from which the module is made.
     pub number: u64,

@@ -11,7 +11,7 @@ use crate::sizes::{take_line, take_sig};
 use ir_core::{Block, Func, Inst, InstData, Sig};
 
 /// What of a callee counts where its body comes in place of a call.
-#[derive(Clone, Copy, Debug, PartialEq, Eq)]
+#[derive(Clone, Copy, PartialEq, Eq)]
 pub struct Counts {
     /// The size of its blocks, without the operands of its returns.
     pub blocks: usize,

@@ -24,7 +24,7 @@ pub enum Wanted {
 }
 
 /// What a line of text is to be.
-#[derive(Clone, Copy, Debug, PartialEq, Eq)]
+#[derive(Clone, Copy, PartialEq, Eq)]
 pub enum LineCheck {
     /// A line further on contains the text.
     Check,

@@ -7,7 +7,7 @@ ghost use Rattle.test_directives.specs.Marks as spec;
 use clif_lex::is_blank;
 
 /// What a byte of a `run:` is to its grammar.
-#[derive(Clone, Copy, Debug, PartialEq, Eq)]
+#[derive(Clone, Copy, PartialEq, Eq)]
 pub(crate) enum Mark {
     Blank,
     /// `(`.

@@ -1,4 +1,4 @@
 pub mod Digits
 pub mod Puts
-pub mod Results
+pub mod Sinkless
 pub mod Sinks

@@ -4,7 +4,7 @@ use clif_words::Opcode;
 use ir_core::NameBytes;
 
 /// An entity, a tag or a result by its word, as `v7`.
-#[derive(Clone, Copy, Debug, PartialEq, Eq)]
+#[derive(Clone, Copy, PartialEq, Eq)]
 pub struct RawName {
     /// The number in the word, or `u64::MAX` where it is above that.
     pub number: u64,
@@ -13,7 +13,7 @@ pub struct RawName {
 }
 
 /// An opcode.
-#[derive(Clone, Copy, Debug, PartialEq, Eq)]
+#[derive(Clone, Copy, PartialEq, Eq)]
 pub struct RawOpcode {
     /// Which one it is.
     pub kind: Opcode,
@@ -22,7 +22,7 @@ pub struct RawOpcode {
 }
 
 /// A number.
-#[derive(Clone, Copy, Debug, PartialEq, Eq)]
+#[derive(Clone, Copy, PartialEq, Eq)]
 pub struct RawNumber {
     pub value: i128,
     /// The number's first byte.

@@ -2,7 +2,7 @@ use Rattle.std.proofs.Common.{◌≡◌, [], ◌∙◌}
 use Rattle.std.proofs.lemmas.List.{append-nil}
 use Rattle.ir_text.specs.TextTree.{spelled}
 use Rattle.ir_text.specs.Text.{more_functions}
-use Rattle.text_output.proofs.Results.{no_sink}
+use Rattle.text_output.proofs.Sinkless.{no_sink}
 use Rattle.canonical_text.proofs.PrintedLaws.{but_first}
 use Rattle.canonical_text.proofs.making.print_module.Goals as goal
 

@@ -1,5 +1,5 @@
 use Rattle.std.proofs.Common.{◌≡◌, [], sym, subst, ◌∙◌, rules}
-use Rattle.text_output.proofs.Results.{no_sink}
+use Rattle.text_output.proofs.Sinkless.{no_sink}
 use Rattle.canonical_text.specs.Printed.{ArePrinted}
 use Rattle.canonical_text.proofs.stretches.print_tokens.Goals as goal
 

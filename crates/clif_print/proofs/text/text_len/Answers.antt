@@ -1,5 +1,5 @@
 use Rattle.std.proofs.Common.{[], ◌∙◌, arith}
-use Rattle.text_output.proofs.Results.{no_sink}
+use Rattle.text_output.proofs.Sinkless.{no_sink}
 use Rattle.clif_print.proofs.text.text_len.Goals as goal
 
 pub returns : goal.returns

@@ -1,6 +1,6 @@
 use Rattle.std.proofs.Common.{[], ◌∙◌}
 use Rattle.std.proofs.lemmas.Result.{IfOk-weaker}
-use Rattle.text_output.proofs.Results.{no_sink}
+use Rattle.text_output.proofs.Sinkless.{no_sink}
 use Rattle.program_run.proofs.text.run_text.Goals as goal
 
 pub returns : goal.returns

@@ -29,14 +29,39 @@ pub fn meant_function(alloc: Global, raw: &RawFunction) -> Result<Option<Func>, 
     ensures whole { IfOk result (λ built. IfSome built (λ func. IsWhole func.function)) }
 {
     let names = FunctionNames::of(alloc, raw)?;
+    meant_by_names(alloc, raw, &names)
+}
+
+/// The same by the names of its text.
+fn meant_by_names(
+    alloc: Global,
+    raw: &RawFunction,
+    names: &FunctionNames,
+) -> Result<Option<Func>, AllocError>
+    requires begins { raw.now.blocks ≢ [] }
+    requires names { AreNamesOf raw.now names.now }
+    ensures free { IfOk result
+        (λ built. MatchOption built (¬ NoFunctionFault raw.now) (λ _. NoFunctionFault raw.now)) }
+    ensures meant { IfOk result (λ built. IfSome built (λ func. FunctionMeans raw.now func.function)) }
+    ensures whole { IfOk result (λ built. IfSome built (λ func. IsWhole func.function)) }
+{
     if !names.least(raw).is_none() {
         return Ok(None);
     }
+    let mut func = undeclared(alloc, raw)?;
+    build_by_names(alloc, raw, names, &mut func)?;
+    Ok(Some(func))
+}
+
+/// A function with the name and the signature that are meant, and nothing else.
+fn undeclared(alloc: Global, raw: &RawFunction) -> Result<Func, AllocError>
+    requires { NoFunctionFault raw.now }
+    ensures { IfOk result (λ func. func.function ≡ declaring.undeclared raw.now) }
+{
     let name = func_name(&raw.name)?;
     let sig = signature(alloc, &raw.signature)?;
-    let mut func = Func::new(alloc, name, sig)?;
-    build_by_names(alloc, raw, &names, &mut func)?;
-    Ok(Some(func))
+    let func = Func::new(alloc, name, sig)?;
+    Ok(func)
 }
 
 /// Makes a function with its name and signature alone the one that is meant, by the names of its text.

@@ -1,4 +1,4 @@
-use Rattle.std.proofs.Common.{◌≡◌, ◌∙◌, sym, ap, rules, length, ◌<◌, ◌≤◌, ◌++◌, ◌∷◌, []}
+use Rattle.std.proofs.Common.{◌≡◌, ◌∙◌, ap, rules, length, ◌<◌, ◌≤◌, ◌++◌, ◌∷◌, []}
 use Rattle.byte_store.specs.Cells.{cell_of, put_cell, bytes_at}
 use Rattle.byte_store.proofs.SlotRoom.{more_slots, put_slot, same_slot}
 use Rattle.std.proofs.lemmas.Result.{on_ok_weaker, on_err_weaker}

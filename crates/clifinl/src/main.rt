@@ -3,8 +3,6 @@
 
 mod bodies;
 mod command;
-#[cfg(test)]
-mod command_tests;
 mod commands;
 mod generating;
 #[cfg(test)]

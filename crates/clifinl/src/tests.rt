@@ -1,15 +1,15 @@
-//! What no clause says: that memory suffices for small texts, one outside row, what `clap` says of words, and each call
-//! of the outside failing in turn. `command_tests` tries each command by these runs.
+//! What no clause says: that memory suffices for small texts, and each call of the outside failing in turn. What each
+//! command writes and tells is tried on the built program, by `cases/`.
 use crate::{Status, command};
 use clk_flow::{Gate, MemSink, MemSource, NoGate};
 use std::alloc::{AllocError, Global};
 use std::sync::Wait;
 use std::thread::Threads;
 
-pub(crate) const INPUT: &[u8] = b"function %f(i64) -> i64 {\n\
+const INPUT: &[u8] = b"function %f(i64) -> i64 {\n\
     block3(v5: i64):\n    v7 = iconst.i64 0xffff_ffff_ffff_ffff\n    v2 = iadd v5, v7\n    return v2\n}\n";
 
-pub(crate) const OUTPUT: &[u8] = b"function %f(i64) -> i64 fast {\n\
+const OUTPUT: &[u8] = b"function %f(i64) -> i64 fast {\n\
     block0(v0: i64):\n    v1 = iconst.i64 -1\n    v2 = iadd v0, v1\n    return v2\n}\n";
 
 /// The words of a command line: the program's name, and these.
@@ -59,34 +59,25 @@ pub(crate) fn run_at_gate<R: Threads + Wait + Sync, G: Gate>(
 
 /// What a run is to answer, as an exit status, and to write and tell.
 #[derive(Clone, Copy)]
-pub(crate) struct Wanted<'a> {
-    pub(crate) code: u8,
-    pub(crate) out: &'a [u8],
-    pub(crate) told: &'a str,
+struct Wanted<'a> {
+    code: u8,
+    out: &'a [u8],
+    told: &'a str,
 }
 
 impl<'a> Wanted<'a> {
     /// A run that writes this and tells nothing.
-    pub(crate) fn done(out: &'a [u8]) -> Wanted<'a> {
+    fn done(out: &'a [u8]) -> Wanted<'a> {
         Wanted {
             code: Status::Done.code(),
             out,
             told: "",
         }
     }
-
-    /// A run of a text that is refused: it writes nothing and tells this.
-    pub(crate) fn refused(told: &'a str) -> Wanted<'a> {
-        Wanted {
-            code: 1,
-            out: EMPTY,
-            told,
-        }
-    }
 }
 
 /// Whether a run with such an outside gives what is wanted.
-pub(crate) fn gives_at<R: Threads + Wait + Sync>(
+fn gives_at<R: Threads + Wait + Sync>(
     rt: &R,
     alloc: Global,
     words: &[&str],
@@ -103,22 +94,11 @@ pub(crate) fn gives_at<R: Threads + Wait + Sync>(
     )
 }
 
-/// Whether a run gives what is wanted, where the outside does not fail.
-pub(crate) fn gives<R: Threads + Wait + Sync>(
-    rt: &R,
-    alloc: Global,
-    words: &[&str],
-    bytes: &[u8],
-    wanted: Wanted<'_>,
-) -> Result<bool, AllocError> {
-    gives_at(rt, alloc, words, bytes, 99, 1000, wanted)
-}
-
-pub(crate) const PRINT: &[&str] = &["print"];
+const PRINT: &[&str] = &["print"];
 
 pub(crate) const INLINE: &[&str] = &["inline"];
 
-pub(crate) const EMPTY: &[u8] = b"";
+const EMPTY: &[u8] = b"";
 
 const COMMENTS: &[u8] = b"; a\n; b";
 
@@ -131,7 +111,8 @@ fn the_row_and_its_output(rt: HostRuntime) -> Result<(), AllocError> {
         (COMMENTS, EMPTY),
     ] {
         for &words in &[INLINE, PRINT] {
-            let is_so = gives(&rt, rt.alloc(), words, input, Wanted::done(output))?;
+            let wanted = Wanted::done(output);
+            let is_so = gives_at(&rt, rt.alloc(), words, input, 99, 1000, wanted)?;
             assert!(rt; is_so);
         }
     }
@@ -170,37 +151,50 @@ fn each_fault_of_the_sink(rt: HostRuntime) -> Result<(), AllocError> {
 #[test]
 fn a_text_beyond_the_limit(rt: HostRuntime) -> Result<(), AllocError> {
     let blanks = vec![in rt.alloc(); b' '; 67_108_865]?;
-    let wanted = Wanted::refused("error TooLong\n");
+    let wanted = Wanted {
+        code: 1,
+        out: EMPTY,
+        told: "error TooLong\n",
+    };
     let bytes = blanks.as_slice();
     let is_so = gives_at(&rt, rt.alloc(), INLINE, bytes, u64::MAX, 1000, wanted)?;
     assert!(rt; is_so);
     Ok(())
 }
 
-/// Words that are refused, each with what `clap` says of them.
-const REFUSED: &[(&[&str], &str)] = &[
+const SUMMARY: &[u8] = b"functions 1\nsites 0\ninlined 0\nsize before 10\nsize after 10\nsteps 1\n";
+
+const GENERATED: &[u8] = b"function %g0(i64) -> i64 fast {\n\
+    block0(v0: i64):\n    v1 = iconst.i64 774\n    v2 = iadd v0, v1\n    return v2\n}\n";
+
+/// Words of `gen`, each with what is written where there is room, and where there is room for 20 bytes.
+const NUMBERS: &[(&[&str], &[u8], &[u8])] = &[
     (
-        &["run"],
-        "error: the following required arguments were not provided:\n  --entry <entry>\n\n\
-         Usage: clifinl run --entry <entry>\n\nFor more information, try '--help'.\n",
+        &["gen", "--number", "1", "--functions", "1"],
+        SUMMARY,
+        b"functions 1\nsites 0\n",
     ),
     (
-        &["frob"],
-        "error: unrecognized subcommand 'frob'\n\n\
-         Usage: clifinl <COMMAND>\n\nFor more information, try '--help'.\n",
+        &["gen", "--number", "1", "--functions", "1", "--text"],
+        GENERATED,
+        b"function %g0(i64) ->",
     ),
 ];
 
 #[test]
-fn refused_words(rt: HostRuntime) -> Result<(), AllocError> {
-    for &(words, told) in REFUSED {
+fn a_generated_module(rt: HostRuntime) -> Result<(), AllocError> {
+    // The source, whose first call fails, is not read.
+    for &(words, output, cut) in NUMBERS {
+        let whole = Wanted::done(output);
+        let is_so = gives_at(&rt, rt.alloc(), words, INPUT, 0, 1000, whole)?;
+        assert!(rt; is_so);
         let wanted = Wanted {
-            code: Status::Usage.code(),
-            out: EMPTY,
-            told,
+            code: Status::WriteFault.code(),
+            out: cut,
+            told: "error WriteFault\n",
         };
-        let is_so = gives(&rt, rt.alloc(), words, INPUT, wanted)?;
-        assert!(rt; is_so, "at {told}");
+        let is_so = gives_at(&rt, rt.alloc(), words, INPUT, 0, 20, wanted)?;
+        assert!(rt; is_so);
     }
     Ok(())
 }

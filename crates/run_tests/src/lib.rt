@@ -1,6 +1,0 @@
-//! Tests of runs of a module. They stand in a crate of their own, since a crate with tests is proved once more with
-//! them.
-#![tactic(auto)]
-
-#[cfg(test)]
-mod running;

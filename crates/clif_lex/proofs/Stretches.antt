@@ -14,7 +14,7 @@ use Rattle.clif_lex.proofs.Readings.{token_inside_text}
 use Rattle.clif_lex.proofs.Joins.{then_tokens, none_before, lines_join}
 
 -- nothing stands between a place and itself
-nothing_between : (text : List ℕ) (at : ℕ) → drop at (take at text) ≡ []
+pub nothing_between : (text : List ℕ) (at : ℕ) → drop at (take at text) ≡ []
 nothing_between text at = nil_from_length (drop at (take at text)) (omega (arith, length-drop at (take at text), length-take at text))
 
 nothing_more : (preamble : Bool) (at : ℕ) (read : Result (List Token) LexErr) → read ≡ (read >>= then_tokens preamble at [])

@@ -12,7 +12,7 @@ use Rattle.clif_names.specs.Faults.{FunctionFault, IsFault, IsOneTooMany, ListFa
 use Rattle.clif_names.specs.FirstOf.{IsFirstFault, or_earlier, first_of}
 use Rattle.name_tables.specs.Least.{IsLeast}
 use Rattle.clif_names.specs.LeastSpots.{AreLeast, joined, no_spots}
-use Rattle.name_tables.proofs.LeastLaws.{get_push, get_front, get_last, least_along, least_of_both}
+use Rattle.name_tables.proofs.LeastLaws.{get_push, get_front, get_last, least_same, least_of_both}
 
 -- two sets of faults together
 pub joined_least : (P Q : TextKind → ℕ → Type 0) (a b : LeastSpots) → AreLeast P a → AreLeast Q b → AreLeast (λ k s. P k s ⊎ Q k s) (joined a b)
@@ -152,11 +152,11 @@ in_split fs f k s (i, g, at, h) = elim (get_push fs f i g at) [ inl a ↦ inl (i
 
 pub along : (P Q : TextKind → ℕ → Type 0) (least : LeastSpots) → ((k : TextKind) (s : ℕ) → P k s → Q k s) → ((k : TextKind) (s : ℕ) → Q k s → P k s) → AreLeast P least → AreLeast Q least
 along P Q least up down h = record {
-  duplicate = least_along (P Duplicate) (Q Duplicate) least.duplicate (up Duplicate) (down Duplicate) h.duplicate;
-  undefined = least_along (P Undefined) (Q Undefined) least.undefined (up Undefined) (down Undefined) h.undefined;
-  number_range = least_along (P NumberRange) (Q NumberRange) least.number_range (up NumberRange) (down NumberRange) h.number_range;
-  untyped = least_along (P Untyped) (Q Untyped) least.untyped (up Untyped) (down Untyped) h.untyped;
-  too_large = least_along (P TooLarge) (Q TooLarge) least.too_large (up TooLarge) (down TooLarge) h.too_large;
+  duplicate = least_same (P Duplicate) (Q Duplicate) least.duplicate h.duplicate (up Duplicate) (down Duplicate);
+  undefined = least_same (P Undefined) (Q Undefined) least.undefined h.undefined (up Undefined) (down Undefined);
+  number_range = least_same (P NumberRange) (Q NumberRange) least.number_range h.number_range (up NumberRange) (down NumberRange);
+  untyped = least_same (P Untyped) (Q Untyped) least.untyped h.untyped (up Untyped) (down Untyped);
+  too_large = least_same (P TooLarge) (Q TooLarge) least.too_large h.too_large (up TooLarge) (down TooLarge);
 }
 
 pub one_more_function : (fs : List RawFunction) (i : ℕ) (f d : RawFunction) (a b : LeastSpots) → i < length fs → f ≡ get_or fs i d

@@ -14,11 +14,12 @@ use Rattle.ir_core.specs.Uses.{callee_of}
 use Rattle.ir_core.proofs.Gets.{get_mapped}
 use Rattle.ir_core.proofs.Members.{in_cases, map_in}
 use Rattle.inline_acceptance.specs.Alone.{CallSite, standing}
+use Rattle.ir_semantics.proofs.SafetyPlaces.{From}
 use Rattle.inline_outcomes.proofs.Related.{Distinct, RestF, RestG}
 use Rattle.inline_outcomes.proofs.Frames.{Embeds}
 use Rattle.inline_outcomes.proofs.Linking.{embeds_f, embeds_g}
 use Rattle.inline_acceptance.proofs.KeptLists.{table_under, table_append, target_from, map_get, none_map, Cut_get, before, last, cut_get, get_after, get_site, get_before}
-use Rattle.inline_acceptance.proofs.Points.{From, from_line, from_is, Goes, ends_under, Ending, EndsWell, IsTail, Trans, piece_line, NewOf, GBlock, BlockOf, of_f, of_cut, of_g, of_after, block_of}
+use Rattle.inline_acceptance.proofs.Points.{from_line, from_is, Goes, ends_under, Ending, EndsWell, IsTail, Trans, piece_line, NewOf, GBlock, BlockOf, of_f, of_cut, of_g, of_after, block_of}
 
 -- what paths need of a function
 pub record Sound (h : Function) : Type 0 where

@@ -15,15 +15,11 @@ use Rattle.ir_semantics.specs.Import.{sig_after}
 use Rattle.ir_semantics.specs.Available.{terminates, simple_terminates}
 use Rattle.ir_semantics.specs.EndRules.{EndsRightly}
 use Rattle.ir_semantics.specs.Splice.{Kind, Last, Fragment, Splicing, Tries, Within, after_block, after_blocks, body, callee_line, callee_names, caller_names, cut_block, from, front, kind_of, line_with, named_sig, new_results, fragment, fragment_by, spliced_blocks, to_after, to_normal, tries_fragment, try_with, within_fragment, try_target}
+use Rattle.ir_semantics.proofs.SafetyPlaces.{From}
 use Rattle.inline_outcomes.proofs.Related.{Distinct}
 use Rattle.inline_outcomes.proofs.Places.{find_hit, find_skip}
 
 -- ---- the rest of a block's lines from the line i on
-
-abbrev pub From : List Line → ℕ → List Line → Type 0
-From ls zero rest = ls ≡ rest
-From [] (suc i) rest = ⊥
-From (l ∷ ls) (suc i) rest = From ls i rest
 
 pub from_line : (ls : List Line) (t : ℕ) (rest : List Line) (i : ℕ) (l : Line) → From ls t rest → slice_get rest i ≡ Some l → slice_get ls (t + i) ≡ Some l
 from_line ls zero rest i l h q = let e : 0 + i ≡ i = omega arith in ap (slice_get ls) e ∙ ap (λ z. slice_get z i) h ∙ q

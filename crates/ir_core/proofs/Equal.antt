@@ -30,6 +30,16 @@ pub bytes_same : (as' : List ℕ) → same_bytes as' as' ≡ true
 bytes_same [] = refl
 bytes_same (a ∷ as') = and_from (nat_eq a a) (same_bytes as' as') (eq-eqb a a refl) (bytes_same as')
 
+-- which of two comes first makes no difference
+pub number_flip : (a b : ℕ) → nat_eq a b ≡ nat_eq b a
+number_flip a b = elim (cases_eq a b) [ inl e ↦ eq-eqb a b e ∙ sym (eq-eqb b a (sym e)) | inr e ↦ ne_eqb a b e ∙ sym (ne_eqb b a (λ q. e (sym q))) ]
+
+pub bytes_flip : (as' bs : List ℕ) → same_bytes as' bs ≡ same_bytes bs as'
+bytes_flip [] [] = refl
+bytes_flip [] (b ∷ bs) = refl
+bytes_flip (a ∷ as') [] = refl
+bytes_flip (a ∷ as') (b ∷ bs) = ap₂ (λ p q. p && q) (number_flip a b) (bytes_flip as' bs)
+
 pub eq_bytes : (as' bs : List ℕ) → bytes_eq as' bs ≡ same_bytes as' bs
 eq_bytes [] [] = refl
 eq_bytes (a ∷ as') (b ∷ bs) = ap (λ x. nat_eq a b && x) (eq_bytes as' bs)

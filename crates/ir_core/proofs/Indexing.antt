@@ -9,7 +9,6 @@ use Rattle.std.specs.declared.cmp.Ordering.TheVariants.{Less, Equal, Greater}
 use Rattle.std.specs.Ordering.{is_eq, nat_cmp, ordering_then, match_ordering}
 use Rattle.std.specs.Cmp.Lexicographic.{slice_cmp}
 use Rattle.std.specs.List.{position_from}
-use Rattle.std.specs.Str.{bytes_eq}
 use Rattle.std.specs.Map.{lookup}
 use Rattle.std.specs.BTreeMap.{insert_entry, is_at}
 use Rattle.std.specs.declared.alloc.Global.{Global}
@@ -19,21 +18,12 @@ use Rattle.ir_core.specs.Module.{Function}
 use Rattle.ir_core.specs.Lookup.{same_bytes, same_name, find_function}
 use Rattle.ir_core.specs.Lists.{Each}
 use Rattle.ir_core.specs.Named.{place_of, compare_users, compare_texts}
-use Rattle.ir_core.proofs.Equal.{bytes_same, bytes_equal}
+use Rattle.ir_core.proofs.Equal.{bytes_same, bytes_equal, bytes_flip, eq_bytes}
 
 -- bytes
 
-nat_eq_flip : (x y : ℕ) → nat_eq x y ≡ nat_eq y x
-nat_eq_flip x y = elim (cases_eq x y) [ inl e ↦ eq-eqb x y e ∙ sym (eq-eqb y x (sym e)) | inr e ↦ ne_eqb x y e ∙ sym (ne_eqb y x (λ q. e (sym q))) ]
-
-bytes_flip : (xs ys : List ℕ) → bytes_eq xs ys ≡ same_bytes ys xs
-bytes_flip [] [] = refl
-bytes_flip [] (y ∷ ys) = refl
-bytes_flip (x ∷ xs) [] = refl
-bytes_flip (x ∷ xs) (y ∷ ys) = ap₂ (λ a b. a && b) (nat_eq_flip x y) (bytes_flip xs ys)
-
 pub text_test : (xs ys : List ℕ) → is_eq (slice_cmp nat_cmp xs ys) ≡ same_bytes ys xs
-text_test xs ys = is_eq-slice_cmp xs ys ∙ bytes_flip xs ys
+text_test xs ys = is_eq-slice_cmp xs ys ∙ eq_bytes xs ys ∙ bytes_flip xs ys
 
 pub equal_from_test : (o : Ordering) → is_eq o ≡ true → o ≡ Equal
 equal_from_test Less h = cc

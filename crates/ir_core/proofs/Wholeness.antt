@@ -1,19 +1,20 @@
 -- A function that keeps what every function keeps, and is whole in its values and blocks, is whole as the definitions of
 -- meaning say it; and a function that a module gets after others leaves the names different.
-use Rattle.std.proofs.Common.{◌≡◌, ℕ, suc, ◌+◌, ◌<◌, ◌≤◌, inl, inr, List, [], ◌∷◌, ◌++◌, map, length, refl, sym, ap, ap₂, subst, ◌∙◌, Bool, true, false, cond, Option, Some, None, arith, eq-eqb, ne_eqb}
-use Rattle.std.specs.Prelude.{nat_eq, ◌&&◌}
+use Rattle.std.proofs.Common.{◌≡◌, ℕ, suc, ◌+◌, ◌<◌, ◌≤◌, inl, inr, List, [], ◌∷◌, ◌++◌, map, length, refl, sym, ap, ap₂, subst, ◌∙◌, Bool, true, false, cond, Option, Some, None, arith}
+use Rattle.std.specs.Prelude.{◌&&◌}
 use Rattle.std.specs.List.{enumerate_from}
 use Rattle.std.proofs.lemmas.Bool.{cases_eq}
 use Rattle.ir_core.specs.declared.signatures.Ty.{Ty}
 use Rattle.ir_core.specs.declared.names.FuncName.{FuncName}
 use Rattle.ir_core.specs.declared.names.FuncName.TheVariants as name
 use Rattle.ir_core.specs.Module.{Line, Block, Function, Module}
-use Rattle.ir_core.specs.Lookup.{same_bytes, same_name, find_function, definitions, block_numbers}
+use Rattle.ir_core.specs.Lookup.{same_name, find_function, definitions, block_numbers}
 use Rattle.ir_core.specs.Lists.{In, Different}
 use Rattle.ir_core.specs.Sound.{counts_of, LineInRange, BlockInRange, IsSound, IsWhole}
 use Rattle.ir_core.specs.WellFormed.{declared, LineWellFormed, BlockWellFormed, WellFormed, DifferentNames}
 use Rattle.ir_core.proofs.Members.{each_more, below_in}
 use Rattle.ir_core.proofs.Counting.{definitions_below, all_in}
+use Rattle.ir_core.proofs.Equal.{number_flip, bytes_flip}
 use Rattle.ir_core.proofs.Keeping.{length_numbered}
 
 -- ---- the numbers of declared values
@@ -91,18 +92,9 @@ module _ (f : Function) (s : IsSound f) where
 
 -- ---- names
 
-eq_flip : (a b : ℕ) → nat_eq a b ≡ nat_eq b a
-eq_flip a b = elim (cases_eq a b) [ inl e ↦ eq-eqb a b e ∙ sym (eq-eqb b a (sym e)) | inr e ↦ ne_eqb a b e ∙ sym (ne_eqb b a (λ q. e (sym q))) ]
-
-bytes_flip : (as' bs : List ℕ) → same_bytes as' bs ≡ same_bytes bs as'
-bytes_flip [] [] = refl
-bytes_flip [] (b ∷ bs) = refl
-bytes_flip (a ∷ as') [] = refl
-bytes_flip (a ∷ as') (b ∷ bs) = ap₂ (λ p q. p && q) (eq_flip a b) (bytes_flip as' bs)
-
 pub name_flip : (m n : FuncName) → same_name m n ≡ same_name n m
 name_flip (name.Text a) (name.Text b) = bytes_flip a b
-name_flip (name.User a i) (name.User b j) = ap₂ (λ p q. p && q) (eq_flip a b) (eq_flip i j)
+name_flip (name.User a i) (name.User b j) = ap₂ (λ p q. p && q) (number_flip a b) (number_flip i j)
 name_flip (name.Text a) (name.User b j) = refl
 name_flip (name.User a i) (name.Text b) = refl
 

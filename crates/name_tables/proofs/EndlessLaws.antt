@@ -13,7 +13,7 @@ use Rattle.name_tables.specs.Least.{IsLeast}
 use Rattle.name_tables.specs.Links as places
 use Rattle.name_tables.proofs.ChainPlaces.{number, place, look_place, Firsts, chain_same}
 use Rattle.name_tables.proofs.ChainWords.{endless_words, words_endless}
-use Rattle.name_tables.proofs.LeastLaws.{SomeBad, least_of_list, add_spot, add_none, least_along}
+use Rattle.name_tables.proofs.LeastLaws.{SomeBad, least_of_list, add_spot, add_none, least_same}
 
 abbrev bad_pair : Def × End → ℕ → Type 0
 bad_pair p s = (p.1 ≡ Endless) × (p.0.name.spot ≡ s)
@@ -66,4 +66,4 @@ module _ (defs : List Def) (t : Tables) (first : Firsts defs t) (ends : List End
       (place (map number fs) n, (d, Endless), zip_at fs ends (place (map number fs) n) d Endless at (slice_get-get_or ends (place (map number fs) n) Nowhere within ∙ ap (λ (x : End). Some x) end), (refl, spot))
 
   pub endless_least : IsLeast (IsEndless defs) (least_endless fs ends)
-  endless_least = least_along (SomeBad bad_pair note_pair one_pair (zip fs ends)) (IsEndless defs) (least_endless fs ends) up down (least_of_list bad_pair note_pair one_pair (zip fs ends))
+  endless_least = least_same (SomeBad bad_pair note_pair one_pair (zip fs ends)) (IsEndless defs) (least_endless fs ends) (least_of_list bad_pair note_pair one_pair (zip fs ends)) up down

@@ -44,10 +44,6 @@ least_of_both P Q (Some x) (Some y) h k = elim (leb_tells x y) [
   | inr t ↦ rw t.0 (inr k.0, λ s e. elim e [ inl p ↦ (let lt : y < x = t.1 in let l : x ≤ s = h.1 s p in omega arith) | inr q ↦ k.1 s q ])
 ]
 
--- where one set is the other
-pub least_along : (P Q : ℕ → Type 0) (o : Option ℕ) → ((s : ℕ) → P s → Q s) → ((s : ℕ) → Q s → P s) → IsLeast P o → IsLeast Q o
-least_along P Q o up down h = least_same P Q o h up down
-
 -- ---- the first of a list
 
 module _ {X : Type 0} (bad : X → ℕ → Type 0) (step : Option ℕ → X → Option ℕ)

@@ -1,5 +1,5 @@
 -- The tokens of a text before a place where none stands are the longest that stand in the whole text up to there.
-use Rattle.std.proofs.Common.{◌≡◌, ℕ, ◌+◌, ◌-◌, ◌≤◌, ◌<◌, Bool, true, false, ◌||◌, ◌&&◌, List, [], ◌∷◌, length, take, drop, Ok, Err, refl, sym, ap, subst, ◌∙◌, arith, length-take, length-drop}
+use Rattle.std.proofs.Common.{◌≡◌, ℕ, ◌+◌, ◌-◌, ◌≤◌, ◌<◌, Bool, true, false, ◌||◌, ◌&&◌, List, [], ◌∷◌, length, take, drop, Ok, Err, refl, sym, ap, subst, ◌∙◌, arith, length-take}
 use Rattle.std.proofs.lemmas.List.{drop-take}
 use Rattle.std.specs.List.{list_all}
 use Rattle.clif_lex.specs.declared.spans.TokenKind.{TokenKind}
@@ -12,6 +12,7 @@ use Rattle.clif_lex.specs.Spelling.{IsLongest, is_bad, Stands, IsDivided, IsAtEn
 use Rattle.clif_lex.proofs.Spelled.{take_of_take, first_take}
 use Rattle.clif_lex.proofs.OneReading.{only_reading}
 use Rattle.clif_lex.proofs.Readings.{reading, never_want}
+use Rattle.clif_lex.proofs.Stretches.{nothing_between}
 use Rattle.script_text.specs.Lexed.{AreBefore, TokensBefore}
 
 -- ---- a token that ends before a cut stands before it
@@ -51,13 +52,6 @@ stands_cut preamble at m text t le (start, some, longest, good) =
 
 -- ---- all tokens before the cut
 
-nothing_left : (n : ℕ) (text : List ℕ) → drop n (take n text) ≡ []
-nothing_left n text = go (drop n (take n text)) (let a = length-drop n (take n text) in let b = length-take n text in omega arith)
-  where
-    go : (xs : List ℕ) → length xs ≡ 0 → xs ≡ []
-    go [] e = refl
-    go (x ∷ xs) e = absurd (omega arith)
-
 -- a fault that stands at this place stands at no other
 abbrev StandsAt : LexErr → ℕ → Type 0
 StandsAt fault s = (preamble : Bool) (at : ℕ) (rest : List ℕ) → IsAtFault fault preamble at rest → at ≡ s
@@ -73,7 +67,7 @@ divided_cut fault s stands preamble at text [] (n, within, blank, here) =
     let e : at + n ≡ s = stands preamble (at + n) (drop n text) here in
     let m : s - at ≡ n = omega arith in
     let b = blanks_cut n n text (omega arith) within blank in
-    (omega arith, subst (λ k. IsDivided IsAtEnd preamble at (take k text) []) (sym m) (n, b.0, b.1, nothing_left n text))
+    (omega arith, subst (λ k. IsDivided IsAtEnd preamble at (take k text) []) (sym m) (n, b.0, b.1, nothing_between text n))
 divided_cut fault s stands preamble at text (t ∷ ts) (n, within, blank, (here, behind)) =
     let some : at + n < t.end = here.1 in
     let rest = drop n text in

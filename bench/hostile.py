@@ -5,21 +5,19 @@
 
 `rt ci`, or `rt run` in crates/clifinl, builds the program and leaves it in out/. SCALE (1) makes the large texts
 smaller. It runs:
-- each command with a sink that takes every number of bytes below the output's length: status 4, and exactly the
-  output's beginning;
-- each command that reads with a source that fails (a folder in place of a file): status 3;
 - `check` of two texts cut behind each of their tokens: Syntax at the end, and nothing written, but behind a function;
 - `inline`, `test` and `gen` by two workers under limits on memory (`ulimit -v`), each a little further than the one
   before, from what the program cannot begin with to what it needs in all: done with the same bytes, or status 5 and
   nothing written;
-- a text at each limit and one past it: functions of a module, parts of a function, bytes of a text; a chain of 65,536
-  callers; the values and the parameters of a block; the longest chain of aliases that a text has room for (3,400,000);
-  one name of 60 MB; brackets 1,000,000 deep;
+- a chain of 65,536 callers; the values and the parameters of a block; the longest chain of aliases that a text has room
+  for (3,400,000); one name of 60 MB; brackets 1,000,000 deep;
 - `run`: 1,000,000,000 steps of an endless loop, the last byte of the greatest memory and the one behind it, arguments
   at each end of each type and one past it, the longest script that a command line holds (a word of it has at most
   131,072 bytes), and by `test` one of a megabyte; and scripts and arguments that are none;
 - `inline` of a text of exactly 64 MiB, filled by 65,000 functions of about 1,030 bytes, by one, two and four workers on
   as many processors, under limits on memory: done with the same bytes, or status 5 and nothing written.
+Texts at the limits and one past them, a sink that is full and a source that fails are tried by `cases/run.py`.
+
 Where the kit is at hand, three runs in crates/clifinl refuse the Nth allocation, for each N from 1 up to the first that
 is never asked for:
 
@@ -27,12 +25,12 @@ is never asked for:
     rt try --fail-alloc N -- test < ../../filetests/directives/expectations.clif
     rt try --fail-alloc N -- gen --number 1 --functions 50 --workers 2"""
 import os
+import pathlib
 import re
-import resource
-import signal
-import subprocess
 import sys
-import tempfile
+
+sys.path.insert(0, str(pathlib.Path(__file__).resolve().parent.parent / 'cases'))
+from program import call
 
 EXAMPLE = '''function %risky(i64) -> i64 {
     ss0 = explicit_slot 8
@@ -134,14 +132,6 @@ LIMITED = [
     (['test'], TESTED, 6),
     (['gen', '--number', '1', '--functions', '50', '--workers', '2'], '', 0),
 ]
-COMMANDS = [
-    (['check'], EXAMPLE, 0),
-    (['print'], EXAMPLE, 0),
-    (['inline'], EXAMPLE, 0),
-    (['run', '--entry', '%guarded', '--args=5', '--script=return(7)'], EXAMPLE, 0),
-    (['test'], TESTED, 6),
-    (['gen', '--functions', '3', '--text'], '', 0),
-]
 TOKEN = re.compile(r'->|%\w+|\w+|[(){}\[\],:=.<>]')
 FAULTS = []
 
@@ -150,42 +140,6 @@ def expect(holds, what):
     if not holds:
         FAULTS.append(what)
         print('FAULT', what)
-
-
-def call(program, words, text, room=None, memory=None, processors=None):
-    """The status, what was written, and the line on standard error. `room` is how many bytes the sink takes."""
-    def limit():
-        if room is not None:
-            signal.signal(signal.SIGXFSZ, signal.SIG_IGN)
-            resource.setrlimit(resource.RLIMIT_FSIZE, (room, room))
-        if processors is not None:
-            os.sched_setaffinity(0, processors)
-
-    with tempfile.TemporaryFile() as source, tempfile.TemporaryFile() as sink:
-        source.write(text)
-        source.seek(0)
-        limited = [] if memory is None else ['sh', '-c', f'ulimit -v {memory >> 10}; exec "$0" "$@"']
-        done = subprocess.run([*limited, program, *words], stdin=source, stdout=sink, stderr=subprocess.PIPE,
-                              preexec_fn=limit, check=False)
-        sink.seek(0)
-        return done.returncode, sink.read(), done.stderr
-
-
-def rooms(program):
-    for words, text, wanted in COMMANDS:
-        status, whole, err = call(program, words, text.encode())
-        expect((status, err) == (wanted, b''), f'{words[0]}: {status} {err!r}')
-        for room in range(len(whole)):
-            found = call(program, words, text.encode(), room=room)
-            expect(found == (4, whole[:room], b'error WriteFault\n'), f'{words[0]} with room for {room}')
-
-
-def sources(program):
-    folder = os.open('/', os.O_RDONLY)
-    for words, _, _ in COMMANDS[:-1]:
-        done = subprocess.run([program, *words], stdin=folder, capture_output=True, check=False)
-        expect((done.returncode, done.stdout, done.stderr) == (3, b'', b'error ReadFault\n'), f'{words[0]} of a folder')
-    os.close(folder)
 
 
 def cuts(program, whole):
@@ -220,10 +174,6 @@ def one_block(lines):
     return f'function %f() {{\nblock0:\n{lines}    return\n}}\n'
 
 
-def nops(count):
-    return one_block('    nop\n' * count)
-
-
 def chain_of_callers(count):
     return returning('f0') + ''.join(
         f'function %f{i}() {{\n    fn0 = %f{i - 1}()\nblock0:\n    call fn0()\n    return\n}}\n'
@@ -245,19 +195,12 @@ def aliases(count):
 
 
 def large(program, scale):
-    functions = ''.join(returning(f'f{i}') for i in range(65_536))
-    expect(answered(program, '65,536 functions', ['check'], functions) == b'ok 65536\n', 'the count')
-    answered(program, 'one function more', ['check'], functions + returning('more'), 'TooLarge')
-    answered(program, 'the greatest function', ['check'], nops(262_142))
-    answered(program, 'a function with one part more', ['check'], nops(262_143), 'TooLarge')
     answered(program, 'a chain of callers', ['inline'], chain_of_callers(65_536))
     answered(program, 'values of a block', ['inline'], values(130_000))
     answered(program, 'parameters of a block', ['check'], params(262_000))
     answered(program, 'aliases', ['check'], aliases(int(3_400_000 * scale)))
     answered(program, 'one name', ['check'], returning('x' * int(60_000_000 * scale)))
     answered(program, 'brackets', ['check'], '[' * 1_000_000, 'Syntax')
-    answered(program, 'the longest text', ['check'], ' ' * 67_108_864)
-    answered(program, 'a text that is too long', ['check'], ' ' * 67_108_865, 'TooLong')
 
 
 def ran(program, name, words, text, wanted):
@@ -342,8 +285,6 @@ def main():
         sys.exit(__doc__)
     program = os.path.abspath(sys.argv[1])
     scale = float(sys.argv[2]) if len(sys.argv) > 2 else 1.0
-    rooms(program)
-    sources(program)
     cuts(program, EXAMPLE)
     cuts(program, JOINED)
     refusals(program)

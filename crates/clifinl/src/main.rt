@@ -5,8 +5,6 @@ mod bodies;
 mod command;
 mod commands;
 mod generating;
-#[cfg(test)]
-mod held_gate;
 mod inlining;
 mod pieces;
 mod reading;
@@ -15,8 +13,6 @@ mod running;
 mod status;
 mod summary;
 mod testing;
-#[cfg(test)]
-mod tests;
 mod writing;
 
 use clk_flow::{NoGate, Sink, StdSink, StdSource};

@@ -1,52 +1,10 @@
-//! Names, signatures, declarations and heads of blocks in texts: what is read, and where reading stops.
+//! What is read of names, signatures and declarations.
 
-use crate::modules::{fault, read};
+use crate::modules::read;
 use clif_read::{RawAttribute, RawCalleeSig, RawDecl, RawFuncName, RawFunction, RawSignature};
 use ir_core::{Conv, Ty};
 use std::test::Fail;
 use token_reader::{RawName, RawNumber};
-
-#[test]
-fn names_the_first_fault_of_a_declaration(rt: HostRuntime) {
-    for &(text, kind, row, column) in &[
-        // names
-        ("function", "Syntax", 1, 9),
-        ("function f", "Syntax", 1, 10),
-        ("function u0 %f", "Syntax", 1, 13),
-        ("function u0:%f", "Syntax", 1, 13),
-        // signatures
-        ("function %f {", "Syntax", 1, 13),
-        ("function %f(uext) {", "Syntax", 1, 13),
-        ("function %f(i64,) {", "Syntax", 1, 17),
-        ("function %f() -> fast {", "Syntax", 1, 18),
-        ("function %f() fast cold {", "Syntax", 1, 20),
-        // slots
-        ("function %f() {\nss0 = 8", "Syntax", 2, 7),
-        ("function %f() {\nss0 = explicit_slot 8, 4", "Syntax", 2, 24),
-        (
-            "function %f() {\nss0 = explicit_slot 8, align 4",
-            "Syntax",
-            2,
-            30,
-        ),
-        // signatures and callees
-        ("function %f() {\nsig0 = %g", "Syntax", 2, 8),
-        ("function %f() {\nfn0 = colocated sig0", "Syntax", 2, 17),
-        ("function %f() {\nfn0 = %g sig0 fast", "Syntax", 2, 15),
-        ("function %f() {\nfn0 = %g() fast cold", "Syntax", 2, 17),
-        // heads of blocks
-        ("function %f() {\nblock0(v0):", "Syntax", 2, 10),
-        ("function %f() {\nblock0(v0: f32):", "Unsupported", 2, 12),
-        ("function %f() {\nblock0(v0: i64,):", "Syntax", 2, 16),
-        ("function %f() {\nblock0 cold cold:", "Syntax", 2, 13),
-    ] {
-        assert_eq!(rt;
-            fault(&rt, rt.alloc(), text),
-            (kind, row, column),
-            "at {text}"
-        );
-    }
-}
 
 const DECLARED: &str = "function %ab(i64 sret uext, i8) -> i16 cold {
     ss3 = explicit_slot 8, align = 4

@@ -1,7 +1,7 @@
-//! What no clause says: that the faults are those that the text form of CLIF asks for, and that they are found.
+//! What no clause says: that the words of a function have numbers on an example, and what its size is.
 
 use clif_lex::{TextErr, tokens};
-use clif_names::{FunctionNames, first_fault, function_size};
+use clif_names::{FunctionNames, function_size};
 use clif_read::{RawFunction, RawModule, read_raw_alone};
 use std::alloc::{AllocError, Global};
 use std::test::Fail;
@@ -11,66 +11,6 @@ fn read(alloc: Global, text: &str) -> Result<RawModule, TextErr> {
     let bytes = text.as_bytes();
     let list = tokens(alloc, bytes)?;
     read_raw_alone(alloc, bytes, &list)
-}
-
-/// The kind of the first fault of functions and its spot, or nothing where there is none.
-fn fault_among(alloc: Global, functions: &[RawFunction]) -> Result<(&'static str, usize), TextErr> {
-    match first_fault(alloc, functions) {
-        Ok(None) => Ok(("", 0)),
-        Ok(Some(fault)) => Ok((fault.kind.name(), fault.spot)),
-        Err(_) => Err(TextErr::NoMemory),
-    }
-}
-
-/// The kind of a text's first fault and its spot, or nothing where there is none.
-fn fault_of(alloc: Global, text: &str) -> Result<(&'static str, usize), TextErr> {
-    let raw = read(alloc, text)?;
-    fault_among(alloc, raw.functions.as_slice())
-}
-
-#[test]
-fn finds_the_first_fault(rt: HostRuntime) {
-    for &(text, kind, spot) in &[
-        ("function %f() {\nblock0:\nreturn\n}", "", 0),
-        (
-            "function %f() {\nblock0:\nreturn\nblock0:\nreturn\n}",
-            "Duplicate",
-            31,
-        ),
-        ("function %f() {\nblock0:\nreturn v7\n}", "Undefined", 31),
-        (
-            "function %f() {\nblock0:\nv1 -> v2\nv2 -> v1\nreturn\n}",
-            "Undefined",
-            24,
-        ),
-        (
-            "function %f() {\nblock0:\nv1 = iconst.i8 300\nreturn\n}",
-            "NumberRange",
-            39,
-        ),
-        (
-            "function %f() {\nblock0:\nv1 = iadd v1, v1\nreturn\n}",
-            "Untyped",
-            29,
-        ),
-        (
-            "function u0:1() {\nblock0:\nreturn\n}\nfunction u0:0x1() {\nblock0:\nreturn\n}",
-            "Duplicate",
-            44,
-        ),
-        (
-            "function %f() {\nblock0:\nreturn v4294967295\n}",
-            "Undefined",
-            31,
-        ),
-        (
-            "function %f() {\nss0 = explicit_slot 65537\nblock0:\njump block1\n}",
-            "NumberRange",
-            36,
-        ),
-    ] {
-        assert_eq!(rt; fault_of(rt.alloc(), text), Ok((kind, spot)), "in {text}");
-    }
 }
 
 /// The numbers of a slot's word, a signature's and a callee's, of two blocks' words and of four values'.

@@ -9,6 +9,4 @@ mod printing;
 #[cfg(test)]
 mod seats;
 #[cfg(test)]
-mod stretches;
-#[cfg(test)]
 mod turns;

@@ -11,14 +11,14 @@ use crossbeam_utils::Backoff;
 use inline_finish::{Passed, Policy};
 use ir_check::Checked;
 use module_pass::pass;
-use std::alloc::{AllocError, Global};
+use std::alloc::Global;
 use std::marker::Brand;
 use std::sync::Wait;
 use std::sync::atomic::{AtomicBool, Ordering};
 use std::sync::ledger::{Blank, Ledger};
 use std::thread::Threads;
 use text_output::{MemoryOutput, Output};
-use worker_driver::{Finished, Steps, finish_with, pass_with};
+use worker_driver::{Finished, Steps, finish_with};
 
 /// A function that calls none, which has ticket 0; a chain of calls, `%a`, `%b` and `%c`, which have the tickets 3, 2
 /// and 1; and two functions that call each other.
@@ -132,36 +132,6 @@ fn told(alloc: Global, passed: &Passed) -> Option<(Vec<u8>, u128)> {
     Some((text, passed.inlined))
 }
 
-/// What so many workers make of a module, who announce at the gate what they start.
-fn made_by<R: Threads + Wait + Sync, G: Gate, L: Ledger>(
-    rt: &R,
-    alloc: Global,
-    module: &Checked,
-    workers: usize,
-    gate: &G,
-    blank: Blank,
-) -> Option<(Vec<u8>, u128)>
-    requires workers { (1 ≤ workers) × (workers ≤ 64) }
-    requires blank { (blank.name ≡ L.name) × (blank.parts ≡ L.parts) × (0 < blank.parts) }
-{
-    let mut steps: Steps<L> = Steps::open(blank);
-    let passed = pass_with(rt, alloc, module, policy(), workers, gate, &mut steps).ok()?;
-    told(alloc, &passed)
-}
-
-/// The same by a counter that is made here.
-fn made<R: Threads + Wait + Sync, G: Gate>(
-    rt: &R,
-    alloc: Global,
-    module: &Checked,
-    workers: usize,
-    gate: &G,
-) -> Option<(Vec<u8>, u128)>
-    requires { (1 ≤ workers) × (workers ≤ 64) }
-{
-    made_by::<R, G, Brand>(rt, alloc, module, workers, gate, Blank::new(1))
-}
-
 /// The canonical text of finished bodies, which stay where they stand.
 fn text_of(alloc: Global, finished: &Finished) -> Option<Vec<u8>> {
     let mut out = MemoryOutput::new(alloc);
@@ -176,32 +146,34 @@ fn text_of(alloc: Global, finished: &Finished) -> Option<Vec<u8>> {
     out.finish().ok()
 }
 
-/// The canonical text of the finished bodies that so many workers hand on.
-fn handed_on_by<R: Threads + Wait + Sync, L: Ledger>(
+/// The canonical text of the finished bodies that so many workers make, who announce at the gate what they start.
+fn made_by<R: Threads + Wait + Sync, G: Gate, L: Ledger>(
     rt: &R,
     alloc: Global,
     module: &Checked,
     workers: usize,
+    gate: &G,
     blank: Blank,
 ) -> Option<Vec<u8>>
     requires workers { (1 ≤ workers) × (workers ≤ 64) }
     requires blank { (blank.name ≡ L.name) × (blank.parts ≡ L.parts) × (0 < blank.parts) }
 {
     let mut steps: Steps<L> = Steps::open(blank);
-    let finished = finish_with(rt, alloc, module, policy(), workers, &NoGate, &mut steps).ok()?;
+    let finished = finish_with(rt, alloc, module, policy(), workers, gate, &mut steps).ok()?;
     text_of(alloc, &finished)
 }
 
 /// The same by a counter that is made here.
-fn handed_on<R: Threads + Wait + Sync>(
+fn made<R: Threads + Wait + Sync, G: Gate>(
     rt: &R,
     alloc: Global,
     module: &Checked,
     workers: usize,
+    gate: &G,
 ) -> Option<Vec<u8>>
     requires { (1 ≤ workers) × (workers ≤ 64) }
 {
-    handed_on_by::<R, Brand>(rt, alloc, module, workers, Blank::new(1))
+    made_by::<R, G, Brand>(rt, alloc, module, workers, gate, Blank::new(1))
 }
 
 /// What one thread makes of a module.
@@ -234,74 +206,15 @@ fn workers_make_what_one_thread_makes(rt: HostRuntime) {
     assert_eq!(rt; inlined, 5);
     for workers in [1, 3, 64] {
         let made = made(&rt, alloc, &module, workers, &NoGate);
-        assert!(rt;
-            made.is_some_and(|made| made.0 == text && made.1 == inlined),
-            "{workers} workers"
-        );
+        assert!(rt; made.is_some_and(|made| made == text), "{workers} workers");
     }
     for workers in [2, 4] {
         let gate = HeldGate::new();
         let made = made(&rt, alloc, &module, workers, &gate);
         assert!(rt;
-            made.is_some_and(|made| made.0 == text && made.1 == inlined),
+            made.is_some_and(|made| made == text),
             "{workers} held workers"
         );
         assert!(rt; gate.saw_both());
     }
-}
-
-#[test]
-fn workers_hand_on_what_one_thread_makes(rt: HostRuntime) {
-    let alloc = rt.alloc();
-    let Ok(module) = check_text(&rt, alloc, TEXT.as_bytes(), 1) else {
-        panic!(&rt; "refused");
-    };
-    let Some((text, _inlined)) = made_alone(alloc, &module) else {
-        panic!(&rt; "no memory");
-    };
-    for workers in [1, 3, 64] {
-        let handed = handed_on(&rt, alloc, &module, workers);
-        assert!(rt;
-            handed.is_some_and(|handed| handed == text),
-            "{workers} workers"
-        );
-    }
-}
-
-/// So many functions that each call the one before, behind one that calls none.
-fn chain(alloc: Global, calls: u32) -> Result<String, AllocError> {
-    let mut text = String::from_str(
-        alloc,
-        "function %f0(i64) -> i64 fast {\nblock0(v0: i64):\n    v1 = iadd v0, v0\n    return v1\n}\n",
-    )?;
-    for callee in 0..calls {
-        let caller = callee + 1;
-        let function = format!(in alloc;
-            "function %f{caller}(i64) -> i64 fast {{\n    fn0 = colocated %f{callee}(i64) -> i64 fast\n\
-             block0(v0: i64):\n    v1 = call fn0(v0)\n    return v1\n}}\n"
-        )?;
-        text.push_str(function.as_str())?;
-    }
-    Ok(text)
-}
-
-/// With so many functions a worker draws several tickets at a time.
-#[test]
-fn workers_make_it_by_runs_of_tickets(rt: HostRuntime) -> Result<(), AllocError> {
-    let alloc = rt.alloc();
-    let written = chain(alloc, 599)?;
-    let Ok(module) = check_text(&rt, alloc, written.as_bytes(), 1) else {
-        panic!(&rt; "refused");
-    };
-    let Some((text, inlined)) = made_alone(alloc, &module) else {
-        panic!(&rt; "no memory");
-    };
-    for workers in [1, 2, 3, 8] {
-        let made = made(&rt, alloc, &module, workers, &NoGate);
-        assert!(rt;
-            made.is_some_and(|made| made.0 == text && made.1 == inlined),
-            "{workers} workers"
-        );
-    }
-    Ok(())
 }

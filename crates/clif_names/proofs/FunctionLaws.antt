@@ -36,7 +36,7 @@ use Rattle.name_tables.proofs.ChainPlaces.{number, Firsts, firsts}
 use Rattle.name_tables.proofs.DefiningLaws.{names_at, defined_names, defined_values}
 use Rattle.name_tables.proofs.EndlessLaws.{endless_least}
 use Rattle.clif_names.proofs.LateLaws.{use_step, steps_used, UntypedAt, late}
-use Rattle.name_tables.proofs.LeastLaws.{least_of_both, least_along, SomeBad, least_of_list, add_spot, add_none}
+use Rattle.name_tables.proofs.LeastLaws.{least_of_both, least_same, SomeBad, least_of_list, add_spot, add_none}
 use Rattle.name_tables.proofs.TakingLaws.{IsAbove, declared, taken}
 use Rattle.clif_names.proofs.UntypedLaws.{untyped_up, untyped_down}
 use Rattle.clif_names.proofs.UsingLaws.{each_kind, Adds, adds_function}
@@ -45,10 +45,11 @@ use Rattle.clif_names.proofs.UsingLaws.{each_kind, Adds, adds_function}
 
 of_kinds : (P : Kind → ℕ → Type 0) (o : Kind → Option ℕ) → ((k : Kind) → IsLeast (P k) (o k)) → IsLeast (λ s. (k : Kind) × P k s) (earliest (o Slots) (o Sigs) (o Callees) (o Blocks) (o Values))
 unfolding earliest
-of_kinds P o h = least_along (λ s. (((P Slots s ⊎ P Sigs s) ⊎ P Callees s) ⊎ P Blocks s) ⊎ P Values s) (λ s. (k : Kind) × P k s) _ up (λ s (k, p). down s k p)
+of_kinds P o h = least_same (λ s. (((P Slots s ⊎ P Sigs s) ⊎ P Callees s) ⊎ P Blocks s) ⊎ P Values s) (λ s. (k : Kind) × P k s) _
     (least_of_both (λ s. ((P Slots s ⊎ P Sigs s) ⊎ P Callees s) ⊎ P Blocks s) (P Values) _ _
     (least_of_both (λ s. (P Slots s ⊎ P Sigs s) ⊎ P Callees s) (P Blocks) _ _
     (least_of_both (λ s. P Slots s ⊎ P Sigs s) (P Callees) _ _ (least_of_both (P Slots) (P Sigs) _ _ (h Slots) (h Sigs)) (h Callees)) (h Blocks)) (h Values))
+    up (λ s (k, p). down s k p)
   where
     up : (s : ℕ) → (((P Slots s ⊎ P Sigs s) ⊎ P Callees s) ⊎ P Blocks s) ⊎ P Values s → (k : Kind) × P k s
     up s (inr p) = (Values, p)
@@ -78,8 +79,8 @@ one_number n P o h = by (keeps n.limit n.value) refl
     by false e = add_spot P (bad_number n) o n.spot h (refl, e) (λ s (at, bad). sym at)
 
 pub numbers_least : (ns : List Limited) → IsLeast (IsOutside ns) (fold note None ns)
-numbers_least ns = least_along (SomeBad bad_number note one_number ns) (IsOutside ns) (fold note None ns) (λ s (i, n, at, (is, bad)). (i, n, at, is, bad)) (λ s (i, n, at, is, bad). (i, n, at, (is, bad)))
-    (least_of_list bad_number note one_number ns)
+numbers_least ns = least_same (SomeBad bad_number note one_number ns) (IsOutside ns) (fold note None ns) (least_of_list bad_number note one_number ns)
+    (λ s (i, n, at, (is, bad)). (i, n, at, is, bad)) (λ s (i, n, at, is, bad). (i, n, at, (is, bad)))
 
 outside_left : (xs ys : List Limited) (s : ℕ) → IsOutside xs s → IsOutside (xs ++ ys) s
 outside_left [] ys s (i, n, at, is, bad) = absurd cc
@@ -235,15 +236,16 @@ module _ (f : RawFunction) where
     same_late = sym (ap (λ (t : Names). t.words) (defined_names f Values)) ∙ same_words
 
     untyped : IsLeast (IsUntyped f) after.untyped
-    untyped = least_along (UntypedAt W ends (steps f)) (IsUntyped f) after.untyped
+    untyped = least_same (UntypedAt W ends (steps f)) (IsUntyped f) after.untyped untyped_at
         (untyped_up f (fold define_value no_tables (value_defs f)) first ends right_firsts same_late)
-        (untyped_down f (fold define_value no_tables (value_defs f)) first ends right_firsts same_late) untyped_at
+        (untyped_down f (fold define_value no_tables (value_defs f)) first ends right_firsts same_late)
 
     number_range : IsLeast (IsOutside (limits f)) (earlier_of (earliest after.slots.outside after.sigs.outside after.callees.outside after.blocks.outside after.values.outside) after.outside)
-    number_range = least_along (λ s. ((k : Kind) × IsAbove (words f k) s) ⊎ IsOutside others s) (IsOutside (limits f)) _ up_limits down_limits
+    number_range = least_same (λ s. ((k : Kind) × IsAbove (words f k) s) ⊎ IsOutside others s) (IsOutside (limits f)) _
         (least_of_both (λ s. (k : Kind) × IsAbove (words f k) s) (IsOutside others) _ _
         (of_kinds (λ k. IsAbove (words f k)) (λ k. (table_at after k).outside) above)
         (rw adds.numbers_seen (numbers_least others)))
+        up_limits down_limits
 
     pub function_least : AreLeast (FunctionFault f) (least_of after (least_endless (defined f).firsts ends) f)
     function_least = record {

@@ -5,6 +5,8 @@ mod bodies;
 mod command;
 mod commands;
 mod generating;
+#[cfg(test)]
+mod held_gate;
 mod inlining;
 mod pieces;
 mod reading;

@@ -1,20 +1,17 @@
-//! What no clause says: that memory suffices for a small module, of which several workers make what one thread makes,
-//! also where the first of them is held.
+//! What no clause says: that memory suffices for a small module, of which several workers make what one thread makes.
 ghost use Rattle.std.specs.Prelude.{◌≡◌, ◌≤◌, ◌<◌};
 ghost use Rattle.inline_finish.specs.Building.{IsLimited};
 
 use clif_check::check_text;
 use clif_numbers::{func_numbers, numbering};
 use clif_print::{print, put_function};
-use clk_flow::{Gate, MemSink, NoGate};
-use crossbeam_utils::Backoff;
+use clk_flow::{MemSink, NoGate};
 use inline_finish::{Passed, Policy};
 use ir_check::Checked;
 use module_pass::pass;
 use std::alloc::Global;
 use std::marker::Brand;
 use std::sync::Wait;
-use std::sync::atomic::{AtomicBool, Ordering};
 use std::sync::ledger::{Blank, Ledger};
 use std::thread::Threads;
 use text_output::{MemoryOutput, Output};
@@ -68,50 +65,6 @@ block0(v0: i64):
 }
 ";
 
-/// How often a held worker looks whether it may go on.
-const TURNS: u64 = 100_000_000;
-
-/// Holds the worker that starts ticket 0 until ticket 2 is started.
-#[derive(Drop)]
-struct HeldGate {
-    later: AtomicBool,
-    /// Whether the worker went on while ticket 2 was not started.
-    gave_up: AtomicBool,
-}
-
-impl HeldGate {
-    /// The gate at which nothing was started.
-    fn new() -> HeldGate {
-        HeldGate {
-            later: AtomicBool::new(false),
-            gave_up: AtomicBool::new(false),
-        }
-    }
-
-    /// Whether ticket 2 was started while ticket 0 was held.
-    fn saw_both(&self) -> bool {
-        self.later.load(Ordering::SeqCst) && !self.gave_up.load(Ordering::SeqCst)
-    }
-}
-
-impl Gate for HeldGate {
-    fn started(&self, _worker: usize, ticket: usize) {
-        if ticket == 2 {
-            self.later.store(true, Ordering::SeqCst);
-        }
-        if ticket == 0 {
-            let backoff = Backoff::new();
-            for _ in 0..TURNS {
-                if self.later.load(Ordering::SeqCst) {
-                    return;
-                }
-                backoff.snooze();
-            }
-            self.gave_up.store(true, Ordering::SeqCst);
-        }
-    }
-}
-
 /// Sizes that allow each call of the text to be inlined.
 fn policy() -> Policy
     ensures { IsLimited result }
@@ -146,34 +99,32 @@ fn text_of(alloc: Global, finished: &Finished) -> Option<Vec<u8>> {
     out.finish().ok()
 }
 
-/// The canonical text of the finished bodies that so many workers make, who announce at the gate what they start.
-fn made_by<R: Threads + Wait + Sync, G: Gate, L: Ledger>(
+/// The canonical text of the finished bodies that so many workers make.
+fn made_by<R: Threads + Wait + Sync, L: Ledger>(
     rt: &R,
     alloc: Global,
     module: &Checked,
     workers: usize,
-    gate: &G,
     blank: Blank,
 ) -> Option<Vec<u8>>
     requires workers { (1 ≤ workers) × (workers ≤ 64) }
     requires blank { (blank.name ≡ L.name) × (blank.parts ≡ L.parts) × (0 < blank.parts) }
 {
     let mut steps: Steps<L> = Steps::open(blank);
-    let finished = finish_with(rt, alloc, module, policy(), workers, gate, &mut steps).ok()?;
+    let finished = finish_with(rt, alloc, module, policy(), workers, &NoGate, &mut steps).ok()?;
     text_of(alloc, &finished)
 }
 
 /// The same by a counter that is made here.
-fn made<R: Threads + Wait + Sync, G: Gate>(
+fn made<R: Threads + Wait + Sync>(
     rt: &R,
     alloc: Global,
     module: &Checked,
     workers: usize,
-    gate: &G,
 ) -> Option<Vec<u8>>
     requires { (1 ≤ workers) × (workers ≤ 64) }
 {
-    made_by::<R, G, Brand>(rt, alloc, module, workers, gate, Blank::new(1))
+    made_by::<R, Brand>(rt, alloc, module, workers, Blank::new(1))
 }
 
 /// What one thread makes of a module.
@@ -205,16 +156,7 @@ fn workers_make_what_one_thread_makes(rt: HostRuntime) {
     };
     assert_eq!(rt; inlined, 5);
     for workers in [1, 3, 64] {
-        let made = made(&rt, alloc, &module, workers, &NoGate);
+        let made = made(&rt, alloc, &module, workers);
         assert!(rt; made.is_some_and(|made| made == text), "{workers} workers");
-    }
-    for workers in [2, 4] {
-        let gate = HeldGate::new();
-        let made = made(&rt, alloc, &module, workers, &gate);
-        assert!(rt;
-            made.is_some_and(|made| made == text),
-            "{workers} held workers"
-        );
-        assert!(rt; gate.saw_both());
     }
 }

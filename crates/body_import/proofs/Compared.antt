@@ -1,17 +1,13 @@
 -- Items compared with one another: the walk that finds the first equal one, and the walk that puts items behind others.
 use Rattle.std.proofs.Common.{◌≡◌, ℕ, suc, ◌+◌, ◌<◌, ◌≤◌, List, [], ◌∷◌, ◌++◌, map, length, Bool, true, false, refl, sym, ap, ◌∙◌, arith, eq-eqb, append_assoc, append-nil, length-append}
 use Rattle.std.proofs.lemmas.Bool.{eqb-true}
-use Rattle.std.specs.Prelude.{if◌then◌else◌, nat_eq, Option, Some, None}
-use Rattle.ir_core.specs.declared.signatures.Sig.{Sig}
+use Rattle.std.specs.Prelude.{if◌then◌else◌, nat_eq}
 use Rattle.ir_core.specs.Lookup.{same_bytes}
-use Rattle.ir_core.specs.Signatures.{same_sig}
 use Rattle.ir_core.proofs.Equal.{bytes_same}
-use Rattle.ir_semantics.specs.Import.{with_item, with_items, first_place, same_sigs}
+use Rattle.ir_semantics.specs.Import.{with_item, with_items, first_place}
 use Rattle.body_import.specs.Merged.{is_new, keep}
 use Rattle.body_import.specs.Compared.{IsPlaced}
 use Rattle.body_import.proofs.Lists.{old_stays, new_goes, old_left, new_left, place_not_new, longer}
-use Rattle.body_import.proofs.SigsDecided.{sigs_decide}
-use Rattle.body_import.specs.SigKeys.{sig_key}
 
 module _ {A : Type 0} (same : A → A → Bool) where
   place_within : (xs : List A) (x : A) → first_place same xs x ≤ length xs
@@ -112,7 +108,3 @@ walk_step same self own added added' places places' all rest x p w s e =
 
 pub same_self : {A : Type 0} (same : A → A → Bool) (key : A → List ℕ) → ((x y : A) → same x y ≡ same_bytes (key x) (key y)) → (x : A) → same x x ≡ true
 same_self same key decide x = decide x x ∙ bytes_same (key x)
-
-pub sigs_self : (o : Option Sig) → same_sigs o o ≡ true
-sigs_self None = refl
-sigs_self (Some s) = same_self same_sig sig_key sigs_decide s

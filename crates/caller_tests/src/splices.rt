@@ -8,7 +8,7 @@ use crate::sites::{can_replace, first_line, function};
 use clif_check::check_text;
 use clif_numbers::func_numbers;
 use clif_print::put_function;
-use inline_caller::{prepare, put_piece, splice};
+use inline_caller::{prepare, put_prepared, splice};
 use ir_check::Checked;
 use ir_core::{Func, Point};
 use std::alloc::Global;
@@ -141,7 +141,7 @@ fn text_of(alloc: Global, func: &Func) -> Option<Vec<u8>> {
     out.finish().ok()
 }
 
-/// How a call is replaced: by `prepare` and then `put_piece`, or by `splice`.
+/// How a call is replaced: by `prepare` and then `put_prepared`, or by `splice`.
 #[derive(Clone, Copy)]
 enum Way {
     TwoSteps,
@@ -163,7 +163,7 @@ fn replace<L: Ledger>(
     match way {
         Way::TwoSteps => {
             let call = prepare(alloc, caller, site, callee).ok()?;
-            put_piece(caller, call, steps);
+            put_prepared(caller, call, steps);
             Some(())
         }
         Way::OneStep => splice(alloc, caller, site, callee, steps).ok(),

@@ -18,6 +18,7 @@ use Rattle.clif_meaning.proofs.OneMeaning.{one_meaning}
 use Rattle.clif_meaning.specs.Spots.{spots, spot_of}
 use Rattle.ir_core.specs.Module.{Module}
 use Rattle.ir_core.specs.declared.places.Item.{Item}
+use Rattle.ir_core.proofs.Gets.{some_same}
 use Rattle.ir_check.specs.Faults as rules
 use Rattle.ir_check.proofs.Firsts.{at_most_one}
 use Rattle.clif_check.specs.Faults.{FirstOfRaw, BreaksRule, kind_of}
@@ -52,9 +53,6 @@ unread_once text (Err fault) k l s t p q = let e : errors.Fault k s ≡ errors.F
 
 -- ---- rules
 
-some_is : (a b : ℕ) → Some a ≡ Some b → a ≡ b
-some_is a b e = cc
-
 broken_rule_once : (raw : RawModule) (k l : TextKind) (s t : ℕ) → BreaksRule raw k s → BreaksRule raw l t → (k ≡ l) × (s ≡ t)
 broken_rule_once raw k l s t p q =
     let same : p.meant ≡ q.meant = one_meaning raw p.meant q.meant p.free p.means q.means in
@@ -62,7 +60,7 @@ broken_rule_once raw k l s t p q =
     let one = at_most_one p.meant p.func q.func p.item q.item p.rule q.rule p.first first in
     let spot : spot_of (spots raw) p.func p.item ≡ spot_of (spots raw) q.func q.item =
     ap (λ (n : ℕ). spot_of (spots raw) n p.item) one.0 ∙ ap (λ (i : Item). spot_of (spots raw) q.func i) one.1 in
-    (p.kind_is ∙ (ap kind_of one.2 ∙ sym q.kind_is), some_is s t (sym p.spot_is ∙ (spot ∙ q.spot_is)))
+    (p.kind_is ∙ (ap kind_of one.2 ∙ sym q.kind_is), some_same (sym p.spot_is ∙ (spot ∙ q.spot_is)))
 
 raw_once : (raw : RawModule) (k l : TextKind) (s t : ℕ) → FirstOfRaw raw k s → FirstOfRaw raw l t → (k ≡ l) × (s ≡ t)
 raw_once raw k l s t (inl p) (inl q) = names_laws.one_first_fault raw k l s t p q

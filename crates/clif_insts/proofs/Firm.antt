@@ -6,6 +6,7 @@ use Rattle.grammar.specs.Rules.{Lexeme, Kind, Rule, Empty, Tok, Seq, Alt, Opt, M
 use Rattle.grammar.proofs.Sets.{one_way, heads_split, heads_append, heads_some, disjoint_heads}
 use Rattle.grammar.proofs.Exactness.{front, front_each, complete, some_front}
 use Rattle.grammar.proofs.Past.{Left, shrinks, left_bind, left_more}
+use Rattle.token_reader.proofs.Takes.{or_false}
 
 -- no word is refused where the rule begins
 abbrev pub early : Rule → Bool
@@ -72,10 +73,6 @@ right_of cs ds (x ∷ xs) h f = let q : (member x.class cs || member x.class ds)
 when_true : (a b : Bool) → (not a || b) ≡ true → a ≡ true → b ≡ true
 when_true true b h e = h
 when_true false b h e = absurd cc
-
-or_false : (b : Bool) → (b || false) ≡ b
-or_false true = refl
-or_false false = refl
 
 -- a rule that may be left out reads nothing where none of its first tokens is next
 skips : (r : Rule) → good r ≡ true → nullable r ≡ true → (ts : List Lexeme) → heads (firsts r) ts ≡ false → (w : Tree r) × (read r ts ≡ Ok (w, ts))

@@ -33,14 +33,15 @@ abbrev pub StatesCaller : Splicing → Type 0
 StatesCaller p =
     (c : Callee) → In c p.callee.callees → c.name ≡ p.caller.name → slice_get p.callee.sigs c.sig ≡ Some p.caller.sig
 
--- two functions, each whole and accepted alone
+-- two functions, each well-formed and accepted alone
 pub record AloneParts (p : Splicing) : Type 0 where
   pub caller_whole : WellFormed p.caller
   pub callee_whole : WellFormed p.callee
   pub caller_accepted : AcceptedAlone p.caller
   pub callee_accepted : AcceptedAlone p.callee
 
--- their splice is whole, and accepted alone where what comes in states the signature of the function that it comes into
+-- their splice is well-formed, and accepted alone where what comes in states the signature of the function that it
+-- comes into
 abbrev pub SpliceAlone : Type 0
 SpliceAlone =
     (p : Splicing) → p.naming ≡ sides → CallSite p → AloneParts p

@@ -14,9 +14,9 @@ pub fn splice_stays_writable()
     ensures { SpliceWritable }
 {}
 
-/// The splice of two functions, each whole and accepted alone, is whole; and it is accepted alone where the callee
-/// states the caller's signature wherever it declares the caller.
-pub fn splice_stays_whole_alone()
+/// The splice of two functions, each well-formed and accepted alone, is well-formed; and it is accepted alone where the
+/// callee states the caller's signature wherever it declares the caller.
+pub fn splice_is_accepted_alone()
     ensures { SpliceAlone }
 {}
 

@@ -5,7 +5,7 @@ ghost use Rattle.inline_body.specs.PlainCall.{IsSplice};
 ghost use Rattle.inline_caller.specs.Replacing.{CanReplace};
 
 use crate::prepared::{blocks_added, prepare_planned};
-use crate::putting::put_piece;
+use crate::putting::put_prepared;
 use body_import::{Import, Index, extend_index, index_declarations, plan_import};
 use ir_core::{Func, Point};
 use std::alloc::{AllocError, Global};
@@ -124,7 +124,7 @@ impl Caller {
             callee,
         )?;
         self.block_count += blocks_added(&call);
-        put_piece(&mut self.func, call, steps);
+        put_prepared(&mut self.func, call, steps);
         self.indexed = true;
         Ok(())
     }

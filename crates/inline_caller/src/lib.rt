@@ -13,5 +13,5 @@ pub use caller::Caller;
 pub use kinds::{CallKind, call_kind};
 pub use one_call::splice;
 pub use prepared::{PreparedCall, prepare};
-pub use putting::put_piece;
+pub use putting::put_prepared;
 pub use sizing::size_with_body;

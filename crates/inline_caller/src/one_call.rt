@@ -4,13 +4,13 @@ ghost use Rattle.inline_body.specs.PlainCall.{IsSplice};
 ghost use Rattle.inline_caller.specs.Replacing.{CanReplace};
 
 use crate::prepared::prepare;
-use crate::putting::put_piece;
+use crate::putting::put_prepared;
 use ir_core::{Func, Point};
 use std::alloc::{AllocError, Global};
 use std::sync::ledger::Ledger;
 use step_counter::Steps;
 
-/// Replaces the call at the place by its callee's body, and counts a step: `prepare`, then `put_piece`. After
+/// Replaces the call at the place by its callee's body, and counts a step: `prepare`, then `put_prepared`. After
 /// `AllocError` the caller is as before, and no step was counted. Time is the size of both, times the logarithm of the
 /// number of declarations; for many calls of one function a `Caller` takes less.
 pub fn splice<L: Ledger>(
@@ -27,6 +27,6 @@ pub fn splice<L: Ledger>(
     ensures uncounted { OnErr result (steps.new ≡ steps.old) }
 {
     let call = prepare(alloc, caller, site, callee)?;
-    put_piece(caller, call, steps);
+    put_prepared(caller, call, steps);
     Ok(())
 }

@@ -127,7 +127,7 @@ pub(crate) fn prepare_planned(
     with_room(caller, call, room)
 }
 
-/// Prepares the callee's body for the call at the place: all that `put_piece` takes memory for is taken, the room in
+/// Prepares the callee's body for the call at the place: all that `put_prepared` takes memory for is taken, the room in
 /// the caller too, and the caller is as before. Only `AllocError` refuses. Time is the size of both, times the
 /// logarithm of the number of declarations.
 pub fn prepare(

@@ -14,7 +14,7 @@ use step_counter::Steps;
 
 /// Puts a prepared body in the place of its call, and counts a step: the caller is then the splice. No memory is taken.
 /// Time is the size of the body, and of the lines behind the call in its block.
-pub fn put_piece<L: Ledger>(caller: &mut Func, call: PreparedCall, steps: &mut Steps<L>)
+pub fn put_prepared<L: Ledger>(caller: &mut Func, call: PreparedCall, steps: &mut Steps<L>)
     requires room { HasRoomFor call caller.old.room }
     requires ready { CanPut caller.old.function call }
     ensures spliced { (g : Function) (at : Point) → IsPreparedFor caller.old.function g at call

@@ -35,7 +35,7 @@ SpliceRenamed =
     → WellFormed (spliced p) → WellFormed (spliced (splicing_under r m c h p))
     → Renamed t (spliced p) (spliced (splicing_under r m c h p))
 
--- a splice whose numbers are in range, as the code's are, is whole where the splice of the definition is
+-- a splice whose numbers are in range, as the code's are, is whole where the splice of the definition is well-formed
 abbrev pub SpliceStaysWhole : Type 0
 SpliceStaysWhole =
     (t r s : Renaming) (p : Splicing) (m : Naming) (c h : Function) → Carrying t r s m c h p → SiteUnder r s p c h

@@ -38,7 +38,7 @@ SameIsRenamed = (f g : Function) → SameFunction f g → (r : Renaming) × Rena
 abbrev pub NumberingKeepsText : Type 0
 NumberingKeepsText = (m r : Module) → SameUpToNumbering m r → text_of m ≡ text_of r
 
--- a whole function is the same as its canonical form, and so is a module
+-- a well-formed function is the same as its canonical form, and so is a module
 abbrev pub CanonicalIsSame : Type 0
 CanonicalIsSame = (f : Function) → WellFormed f → SameFunction f (canonical f)
 

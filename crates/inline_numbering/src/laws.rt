@@ -40,7 +40,7 @@ pub fn splice_renamed()
     ensures { SpliceRenamed }
 {}
 
-/// A splice whose numbers are in range, as the code's are, is whole where the splice of the definition is.
+/// A splice whose numbers are in range, as the code's are, is whole where the splice of the definition is well-formed.
 pub fn splice_stays_whole()
     ensures { SpliceStaysWhole }
 {}
@@ -56,12 +56,12 @@ pub fn numbering_keeps_text()
     ensures { NumberingKeepsText }
 {}
 
-/// A whole function is the same as its canonical form.
+/// A well-formed function is the same as its canonical form.
 pub fn canonical_is_same()
     ensures { CanonicalIsSame }
 {}
 
-/// So is a module of whole functions.
+/// So is a module of well-formed functions.
 pub fn canonical_module_is_same()
     ensures { CanonicalModuleIsSame }
 {}

@@ -11,6 +11,7 @@ use Rattle.ir_core.specs.Lookup.{same_name}
 use Rattle.ir_semantics.specs.Import.{same_bool, with_item, with_items, first_place, new_place, same_sigs, same_callee, sigs_after, sig_after, callee_with, callees_with, callees_after, callee_after}
 use Rattle.ir_core.proofs.Equal.{name_equal, name_same, sig_equal, sig_same}
 use Rattle.ir_core.proofs.Gets.{some_same}
+use Rattle.ir_semantics.proofs.Importing.{same_sigs_self}
 
 -- an item of the list that is the same as x
 pub record Has {A : Type 0} (same : A → A → Bool) (ys : List A) (x : A) : Type 0 where
@@ -75,10 +76,6 @@ first_there {A} same (z ∷ zs) x h = go (λ k. first_there same zs x k) (same z
 same_bool_self : (b : Bool) → same_bool b b ≡ true
 same_bool_self true = refl
 same_bool_self false = refl
-
-same_sigs_self : (o : Option Sig) → same_sigs o o ≡ true
-same_sigs_self None = refl
-same_sigs_self (Some s) = sig_same s
 
 same_sigs_equal : (o : Option Sig) (s : Sig) → same_sigs o (Some s) ≡ true → o ≡ Some s
 same_sigs_equal None s h = cc

@@ -116,7 +116,7 @@ abbrev pub Onward : Task → List Block → Twins → ℕ → Type 0
 Onward task [] twins count = Done task twins count
 Onward task (own ∷ rest) twins count = Going task (before_block own rest) twins (own.number, 0) count
 
--- whole, accepted where no other function is known, and its declarations of what has a body state the body's signature
+-- well-formed, keeps its own rules, and its declarations of what has a body state the body's signature
 pub record Fit (bodies : FuncName → Option Function) (f : Function) : Type 0 where
   pub whole : WellFormed f
   pub accepted : RulesHold [] f

@@ -1,6 +1,7 @@
 pub mod Firsts
 pub mod Tests
 pub mod ByTests
+pub mod Faultless
 pub mod Walking
 pub mod Targets
 pub mod Signed

@@ -92,10 +92,7 @@ some_is t P h (Some a) = h a
 
 if_is : {A : Type 0} (t : A → Bool) (P : A → Type 0) → ((a : A) → Twin (t a) (P a)) → (o : Option A) → Twin (test.if_some o t) ((a : A) → o ≡ Some a → P a)
 if_is t P h None = record { yes = λ k a q. cc; back = λ f. refl }
-if_is t P h (Some b) = record { yes = λ k a q. subst P (same_some q) ((h b).yes k); back = λ f. (h b).back (f b refl) }
-  where
-    same_some : {A : Type 0} {a b : A} → Some a ≡ Some b → a ≡ b
-    same_some q = cc
+if_is t P h (Some b) = record { yes = λ k a q. subst P (some_same q) ((h b).yes k); back = λ f. (h b).back (f b refl) }
 
 empty_is : {A : Type 0} (xs : List A) → Twin (test.empty xs) (xs ≡ [])
 empty_is [] = record { yes = λ h. refl; back = λ h. refl }

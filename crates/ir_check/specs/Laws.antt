@@ -26,6 +26,11 @@ FaultIsReal =
 abbrev pub AcceptedHasNone : Type 0
 AcceptedHasNone = (m : Module) (n : ℕ) (place : Item) (rule : Rule) → Accepted m → FirstFault m n place rule → ⊥
 
+-- and a module without one is accepted
+abbrev pub FaultlessIsAccepted : Type 0
+FaultlessIsAccepted =
+    (m : Module) → ((n : ℕ) (place : Item) (rule : Rule) → FirstFault m n place rule → ⊥) → Accepted m
+
 -- a module is accepted exactly where all that is tried passes
 abbrev pub AllPassed : Type 0
 AllPassed = (m : Module) → (Each (Passed m) (checks m) → Accepted m) × (Accepted m → Each (Passed m) (checks m))

@@ -1,6 +1,7 @@
 //! Laws of the definitions: functions without a body, each of which has its law as its contract.
 ghost use Rattle.ir_check.specs.Laws.{AcceptedHasNone, AcceptedOrFault, AllPassed, AtBlock, AtCallee, AtLine};
-ghost use Rattle.ir_check.specs.Laws.{AtMostOne, EarlyFault, FaultByTests, FaultIsReal, InParts, RulesAreTests};
+ghost use Rattle.ir_check.specs.Laws.{AtMostOne, EarlyFault, FaultByTests, FaultIsReal, FaultlessIsAccepted};
+ghost use Rattle.ir_check.specs.Laws.{InParts, RulesAreTests};
 
 /// A module has at most one first fault.
 pub fn at_most_one()
@@ -15,6 +16,11 @@ pub fn fault_is_real()
 /// An accepted module has no first fault.
 pub fn accepted_has_none()
     ensures { AcceptedHasNone }
+{}
+
+/// A module without a first fault is accepted.
+pub fn faultless_is_accepted()
+    ensures { FaultlessIsAccepted }
 {}
 
 /// A module is accepted exactly where all that is tried passes.

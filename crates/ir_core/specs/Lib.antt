@@ -1,7 +1,6 @@
 pub mod Alike
 pub mod Calling
 pub mod Edits
-pub mod Fewer
 pub mod Forms
 pub mod Headed
 pub mod Layout
@@ -11,7 +10,6 @@ pub mod Lookup
 pub mod Module
 pub mod Named
 pub mod Shift
-pub mod Short
 pub mod Signatures
 pub mod Size
 pub mod Sound

@@ -1,5 +1,6 @@
--- A whole function: it has a block, every number in it is that of something it has, its blocks have different numbers,
--- and each of its values is declared once and defined once. A module is a list of whole functions with different names.
+-- A well-formed function: it has a block, every number in it is that of something it has, its blocks have different
+-- numbers, and each of its values is declared once and defined once. A module is a list of well-formed functions with
+-- different names.
 use Rattle.std.specs.Prelude.{◌≡◌, ◌≢◌, ◌<◌, ⊤, ℕ, List, [], ◌∷◌, length, map, None}
 use Rattle.ir_core.specs.declared.declarations.Callee.{Callee}
 use Rattle.ir_core.specs.Module.{Line, Block, Function, Module}

@@ -2,11 +2,10 @@
 ghost use Rattle.std.specs.Prelude.{◌≡◌, IfOk};
 ghost use Rattle.ir_core.specs.declared.instructions.Inst.TheVariants.{Brif, BrTable, TryCall, TryCallIndirect};
 
-use crate::boxed::Boxed;
 use crate::instructions::{BlockCall, Inst, InstData};
-use crate::lists::List;
 use crate::numbers::{FuncRef, SigRef, Value};
 use crate::values::Values;
+use containers::{Boxed, List};
 use exn_tables::Table;
 use std::alloc::AllocError;
 

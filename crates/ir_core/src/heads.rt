@@ -3,10 +3,10 @@ ghost use Rattle.std.specs.Prelude.{◌≡◌, Some, None, map, MatchOption, IfO
 ghost use Rattle.ir_core.specs.Lookup.{find_function};
 ghost use Rattle.ir_core.specs.WellFormed.{DifferentNames};
 
-use crate::boxed::Boxed;
 use crate::func::Func;
 use crate::index::Names;
 use crate::names::FuncName;
+use containers::Boxed;
 use std::alloc::{AllocError, Global};
 use std::marker::Model;
 

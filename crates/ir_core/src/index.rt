@@ -6,9 +6,9 @@ ghost use Rattle.ir_core.specs.Named.{IsIndex, functions_in, name_hash, place_of
 ghost use Rattle.ir_core.specs.Sound.{IsSound};
 ghost use Rattle.ir_core.specs.WellFormed.{DifferentNames};
 
-use crate::boxed::Boxed;
 use crate::func::Func;
 use crate::names::FuncName;
+use containers::Boxed;
 use std::alloc::{AllocError, Global};
 use std::collections::{BTreeMap, HashMap};
 

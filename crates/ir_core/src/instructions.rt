@@ -3,13 +3,11 @@ ghost use Rattle.std.specs.Prelude.{◌≡◌};
 ghost use Rattle.ir_core.specs.Uses.{callee_of};
 ghost use Rattle.ir_core.specs.Viewed.{instruction_of};
 
-use crate::boxed::Boxed;
-use crate::few::Few;
-use crate::lists::List;
 use crate::numbers::{Block, FuncRef, SigRef, Slot, Value};
 use crate::signatures::Ty;
 use crate::values::Values;
 use clk_num::{Bits, Op, TrapCode};
+use containers::{Boxed, Few, List};
 use debug_tags::Tags;
 use exn_tables::Table;
 use std::mem::size_of;

@@ -3,17 +3,13 @@
 //! Contracts see a function as lists over natural numbers (`specs/Module.antt`).
 #![tactic(auto)]
 
-mod boxed;
 mod copies;
 mod declarations;
-mod few;
 mod func;
 mod heads;
 mod index;
 mod instructions;
-mod lists;
 mod module;
-mod name_bytes;
 mod names;
 mod numbers;
 mod places;
@@ -22,15 +18,12 @@ mod signatures;
 mod size;
 mod values;
 
-pub use boxed::Boxed;
+pub use containers::{Boxed, Few, List, NameBytes, are_same_bytes};
 pub use declarations::{Callee, SlotDecl};
-pub use few::Few;
 pub use func::{Blocks, Func, Insts};
 pub use heads::Heads;
 pub use instructions::{Access, Arg, BlockCall, Flags, Inst, InstData};
-pub use lists::List;
 pub use module::Module;
-pub use name_bytes::{NameBytes, are_same_bytes};
 pub use names::FuncName;
 pub use numbers::{Block, FuncRef, SigRef, Slot, Value};
 pub use places::{Item, Point};

@@ -7,10 +7,10 @@ ghost use Rattle.ir_core.specs.Lookup.{same_name, find_function};
 ghost use Rattle.ir_core.specs.Sound.{IsWhole};
 ghost use Rattle.ir_core.specs.WellFormed.{WellFormed, DifferentNames, IsModule};
 
-use crate::boxed::Boxed;
 use crate::func::Func;
 use crate::index::Names;
 use crate::names::FuncName;
+use containers::Boxed;
 use std::alloc::{AllocError, Global};
 use std::marker::Model;
 

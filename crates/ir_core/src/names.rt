@@ -3,7 +3,7 @@ ghost use Rattle.std.specs.Prelude.{◌≡◌};
 ghost use Rattle.ir_core.specs.Lookup.{same_name};
 ghost use Rattle.ir_core.specs.Named.{name_hash};
 
-use crate::name_bytes::NameBytes;
+use containers::{NameBytes, are_same_bytes};
 use std::alloc::AllocError;
 use std::hash::{FoldHasher, Hasher};
 
@@ -43,11 +43,14 @@ impl FuncName {
     }
 
     /// Whether the two are the same name.
+    #[tactic(auto, using(crate::proofs::Equal::eq_bytes))]
     pub fn is(&self, other: &FuncName) -> bool
         ensures { result ≡ same_name self.now other.now }
     {
         match (self, other) {
-            (FuncName::Text(text), FuncName::Text(others)) => text.is(others),
+            (FuncName::Text(text), FuncName::Text(others)) => {
+                are_same_bytes(text.as_slice(), others.as_slice())
+            }
             (FuncName::User(first, second), FuncName::User(others_first, others_second)) => {
                 first == others_first && second == others_second
             }

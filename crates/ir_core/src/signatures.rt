@@ -3,8 +3,8 @@ ghost use Rattle.std.specs.Prelude.{◌≡◌};
 ghost use Rattle.ir_core.specs.Lookup.{ty_of, width_of};
 ghost use Rattle.ir_core.specs.Signatures.{same_type};
 
-use crate::few::Few;
 use clk_num::Width;
+use containers::Few;
 use std::alloc::AllocError;
 
 /// The type of a value: an integer of 8, 16, 32, 64 or 128 bits.

@@ -1,4 +1,5 @@
 pub mod Arguments
+pub mod Importing
 pub mod Ranges
 pub mod SafetyPlaces
 pub mod SafetyRuns

@@ -87,7 +87,7 @@ abbrev pub with_type : ℕ → Option Ty → List (ℕ × Ty)
 with_type v None = []
 with_type v (Some t) = (v, t) ∷ []
 
--- a block of the callee in pieces: its lines, and the blocks that follow it
+-- what a block of the callee becomes: its lines, and the blocks that follow it
 pub record Fragment : Type 0 where
   pub lines : List Line
   pub more : List Block

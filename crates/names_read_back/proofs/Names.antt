@@ -4,16 +4,10 @@ use Rattle.std.specs.List.{range_with_len}
 use Rattle.std.proofs.lemmas.Bool.{eqb-true}
 use Rattle.std.proofs.lemmas.Bool.Decides.{nat_tests}
 use Rattle.ir_core.specs.Lists.{Each}
+use Rattle.ir_core.proofs.Equal.{number_flip}
 use Rattle.name_tables.specs.declared.firsts.Def.{Def}
 use Rattle.name_tables.specs.Words.{place_among, place_in}
 use Rattle.name_tables.specs.Chains.{look, chain, Ends, ComesTo, numbered, HasNumber, IsNumbering}
-
-equal_either : (a b : ℕ) → nat_eq a b ≡ nat_eq b a
-equal_either a b = go (nat_eq a b) refl
-  where
-    go : (t : Bool) → nat_eq a b ≡ t → nat_eq a b ≡ nat_eq b a
-    go true h = grind (arith, nat_tests)
-    go false h = grind (arith, nat_tests)
 
 -- among the numbers from a on, each stands at its own place
 in_range : (a k j v : ℕ) → v ≡ a + j → j < k → place_among (range_with_len a k) v ≡ j
@@ -36,7 +30,7 @@ not_found (d ∷ ds) v h e = rw h.0 (go (nat_eq v d.name.number) refl e (not_fou
   where
     go : (b : Bool) → nat_eq v d.name.number ≡ b → cond b (Some d) (look ds v) ≡ None → (look ds v ≡ None → place_in (numbered ds) v ≡ length (numbered ds)) → cond (nat_eq d.name.number v) 0 (suc (place_in (numbered ds) v)) ≡ suc (length (numbered ds))
     go true s e more = absurd cc
-    go false s e more = rw (equal_either d.name.number v ∙ s) (ap suc (more e))
+    go false s e more = rw (number_flip d.name.number v ∙ s) (ap suc (more e))
 
 pub found_is : (defs : List Def) (v : ℕ) (d : Def) → Each IsNoAlias defs → look defs v ≡ Some d → (d.name.number ≡ v) × IsNoAlias d
 found_is [] v d h e = absurd cc

@@ -11,8 +11,8 @@ use Rattle.inline_body.specs.PlainCall.{IsPlainCall, CanSplice}
 use Rattle.inline_ends.specs.TailCall.{IsTailCall, CanSpliceTail}
 use Rattle.inline_ends.specs.TryCallSite.{IsTryCall, CanSpliceTry}
 
--- caller f and callee g are whole and accepted by themselves, the line l of f stands at the place, and neither g nor f
--- with g in place of the line is larger than a function may be
+-- caller f and callee g are well-formed and keep their own rules, the line l of f stands at the place, and neither g
+-- nor f with g in place of the line is larger than a function may be
 pub record WithinLimit (n : Naming) (f g : Function) (at : Point) (l : Line) : Type 0 where
   pub caller_whole : WellFormed f
   pub callee_whole : WellFormed g

@@ -17,7 +17,7 @@ use Rattle.splice_size.specs.declared.counts.Counts.{Counts}
 use Rattle.splice_size.specs.Counts.{counts_of, declared_size, sum_size}
 use Rattle.splice_size.specs.SizeAfter.{added_size, size_after}
 
--- the site stands in its caller, and both functions are accepted where no other one is known
+-- the site stands in its caller, and both functions keep their own rules
 pub record Sited (p : Splicing) : Type 0 where
   pub stands : Stands p
   pub caller : RulesHold [] p.caller

@@ -1,28 +1,19 @@
 -- A token of the class that is looked for is read, and no other.
 use Rattle.std.proofs.Common.{◌≡◌, ℕ, Bool, true, false, ◌==◌, ◌||◌, List, [], ◌∷◌, drop, Ok, Err, refl, sym, ◌∙◌}
-use Rattle.std.proofs.lemmas.Bool.{eqb-true, eq-eqb}
 use Rattle.grammar.specs.Rules.{Lexeme, Syntax}
 use Rattle.clif_words.specs.declared.class.Class.{Class}
 use Rattle.token_reader.specs.declared.raw.RawName.{RawName}
 use Rattle.token_reader.specs.declared.raw.RawNumber.{RawNumber}
 use Rattle.clif_words.specs.Classes.{code}
+use Rattle.ir_core.proofs.Equal.{number_flip}
 use Rattle.token_reader.specs.Reading.{next_is, name, name_at, amount, amount_at}
 
-or_false : (b : Bool) → (b || false) ≡ b
+pub or_false : (b : Bool) → (b || false) ≡ b
 or_false true = refl
 or_false false = refl
 
-eqb-sym : (a b : ℕ) → (a == b) ≡ (b == a)
-eqb-sym a b = go (a == b) (b == a) refl refl
-  where
-    go : (p q : Bool) → (a == b) ≡ p → (b == a) ≡ q → p ≡ q
-    go true true e f = refl
-    go true false e f = absurd (let g = eq-eqb b a (sym (eqb-true a b e)) in cc)
-    go false true e f = absurd (let g = eq-eqb a b (sym (eqb-true b a f)) in cc)
-    go false false e f = refl
-
 pub same_class : (class : Class) (x : Lexeme) (xs : List Lexeme) → next_is class (x ∷ xs) ≡ (x.class == code class)
-same_class class x xs = or_false (code class == x.class) ∙ eqb-sym (code class) x.class
+same_class class x xs = or_false (code class == x.class) ∙ number_flip (code class) x.class
 
 pub takes_name : (class : Class) (ts : List Lexeme) → next_is class ts ≡ true → (n : RawName) (after : List Lexeme) → ((x : Lexeme) (xs : List Lexeme) → ts ≡ x ∷ xs → n ≡ name x) → after ≡ drop 1 ts
     → name_at class ts ≡ Ok (n, after)

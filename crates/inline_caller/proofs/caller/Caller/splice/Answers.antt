@@ -15,17 +15,17 @@ pub invariant_of-self-2 : goal.invariant_of-self-2
 invariant_of-self-2 g c =
     let f : Function = c.self.inside.func.function in
     let h : Function = c.args.callee.now.function in
-    let k : Function = c.put_piece.new.caller.function in
+    let k : Function = c.put_prepared.new.caller.function in
     let can = replaced f h c.args.site (subst (λ (z : Function). CanReplace z h c.args.site) (sym c.self.view_is) c.requires.can) in
     let imported = subst (λ (z : Function). IsImportOf z h c.args.import) (sym c.self.view_is) c.requires.imported in
     let same : c.prepare_planned.new.caller.function ≡ f = c.in_ok-call.ensures.same in
     let prepared = subst (λ (z : Function). IsPreparedFor z h c.args.site c.in_ok-call.call) (sym same) c.in_ok-call.ensures.prepared in
-    let spliced : IsSplice f h c.args.site k = subst (λ (z : Function). IsSplice z h c.args.site k) same (c.put_piece.ensures.spliced h c.args.site prepared) in
+    let spliced : IsSplice f h c.args.site k = subst (λ (z : Function). IsSplice z h c.args.site k) same (c.put_prepared.ensures.spliced h c.args.site prepared) in
     record {
       counted =
           let before = c.self.invariant.counted in
           let added = c.blocks_added.ensures in
-          let now = c.put_piece.ensures.blocks h c.args.site prepared in
+          let now = c.put_prepared.ensures.blocks h c.args.site prepared in
           let as_before = ap (λ (z : Function). length z.blocks) same in
           omega (arith, before, added, now, as_before);
       indexed = λ is.

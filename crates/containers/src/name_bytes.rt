@@ -1,7 +1,6 @@
 //! The bytes of names.
 ghost use Rattle.std.specs.Prelude.{◌≡◌, ◌≤◌, length, IfOk};
 ghost use Rattle.std.specs.Str.{bytes_eq};
-ghost use Rattle.ir_core.specs.Lookup.{same_bytes};
 
 use std::alloc::{AllocError, Global};
 use std::marker::Model;
@@ -26,7 +25,7 @@ impl Model for NameBytes {
 
     ghost Value = { List ℕ };
 
-    ghost use Rattle.ir_core.specs.Short.{bytes_of, IsWithin};
+    ghost use Rattle.containers.specs.Names.{bytes_of, IsWithin};
 
     ghost view = { λ name. bytes_of name.kept };
 
@@ -71,15 +70,6 @@ impl NameBytes {
             ShortOrLong::Short { length, bytes } => &bytes[..*length as usize],
             ShortOrLong::Long(bytes) => bytes.as_slice(),
         }
-    }
-
-    /// Whether the two have the same bytes.
-    #[inline]
-    #[tactic(auto, using(crate::proofs::Equal::eq_bytes))]
-    pub(crate) fn is(&self, other: &NameBytes) -> bool
-        ensures { result ≡ same_bytes self.now other.now }
-    {
-        are_same_bytes(self.as_slice(), other.as_slice())
     }
 }
 

@@ -1,7 +1,7 @@
 -- The bytes of a name, wherever it keeps them.
 use Rattle.std.specs.Prelude.{ℕ, ◌≤◌, ⊤, List, take}
-use Rattle.ir_core.specs.declared.name_bytes.ShortOrLong.{ShortOrLong}
-use Rattle.ir_core.specs.declared.name_bytes.ShortOrLong.TheVariants as form
+use Rattle.containers.specs.declared.name_bytes.ShortOrLong.{ShortOrLong}
+use Rattle.containers.specs.declared.name_bytes.ShortOrLong.TheVariants as form
 
 abbrev pub bytes_of : ShortOrLong → List ℕ
 bytes_of (form.Short length bytes) = take length bytes

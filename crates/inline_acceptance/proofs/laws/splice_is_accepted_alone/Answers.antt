@@ -1,6 +1,6 @@
 -- The lemma is the law.
 use Rattle.inline_acceptance.proofs.Alone.{splice_alone}
-use Rattle.inline_acceptance.proofs.laws.splice_stays_whole_alone.Goals as goal
+use Rattle.inline_acceptance.proofs.laws.splice_is_accepted_alone.Goals as goal
 
 pub returns : goal.returns
 returns c = splice_alone

@@ -1,5 +1,5 @@
 use Rattle.inline_caller.proofs.PreparedCalls.{splice_within, blocks_within, splice_last, blocks_last}
-use Rattle.inline_caller.proofs.putting.put_piece.Goals as goal
+use Rattle.inline_caller.proofs.putting.put_prepared.Goals as goal
 
 pub returns-in-Within-clause-spliced : goal.returns-in-Within-clause-spliced
 returns-in-Within-clause-spliced g c = λ f at is. splice_within c.args.caller.now.function f c.put_within.new.caller.function at c.args.call is c.in-Within.body c.in-Within.is c.put_within.ensures.spliced

@@ -1,7 +1,7 @@
 -- The items of a list, however it keeps them.
 use Rattle.std.specs.Prelude.{List}
-use Rattle.ir_core.specs.declared.few.OneOrMany.{OneOrMany}
-use Rattle.ir_core.specs.declared.few.OneOrMany.TheVariants as form
+use Rattle.containers.specs.declared.few.OneOrMany.{OneOrMany}
+use Rattle.containers.specs.declared.few.OneOrMany.TheVariants as form
 
 abbrev pub items_of : {T : Type 0} → OneOrMany T → List T
 items_of (form.One items) = items

@@ -22,7 +22,7 @@ impl<T> Model for Few<T> {
 
     ghost Value = { List T };
 
-    ghost use Rattle.ir_core.specs.Fewer.{items_of};
+    ghost use Rattle.containers.specs.Few.{items_of};
 
     ghost view = { λ few. items_of few.kept };
 }

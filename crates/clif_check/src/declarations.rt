@@ -8,7 +8,7 @@ ghost use Rattle.clif_check.specs.Declarations.{DeclareWithin, DeclaresAt, IsFun
 
 use body_import::is_same_sig;
 use ir_core::{Callee, Func, FuncName, Heads, Module};
-use range_workers::{Ranges, read_by_workers};
+use range_workers::{Ranges, end_behind, read_by_workers};
 use std::alloc::Global;
 use std::thread::Threads;
 
@@ -118,10 +118,7 @@ impl<'n, N: Named + Sync> Ranges<()> for NamedRanges<'n, N> {
     ghost stand = { λ ranges from to items. DeclareWithin (N.functions ranges.all.now) from to };
 
     fn find_stretch_end(&self, from: usize, end: usize, size: usize) -> usize {
-        if end - from <= size {
-            return end;
-        }
-        from + size.max(1)
+        end_behind(from, end, size)
     }
 
     fn read_stretch(&self, alloc: Global, from: usize, end: usize) -> Option<Vec<()>> {

@@ -4,7 +4,7 @@ ghost use Rattle.graph_workers.specs.Ranges.{AreCalls, IsRange};
 
 use call_graph::find_calls;
 use ir_core::{List, Module};
-use range_workers::Ranges;
+use range_workers::{Ranges, end_behind};
 use std::alloc::{AllocError, Global};
 
 /// A module, the calls of whose functions are found range by range.
@@ -19,10 +19,7 @@ impl<'m> Ranges<List<usize>> for CallRanges<'m> {
     ghost stand = { λ ranges from to calls. AreCalls ranges.«module».now from to calls };
 
     fn find_stretch_end(&self, from: usize, end: usize, size: usize) -> usize {
-        if end - from <= size {
-            return end;
-        }
-        from + size.max(1)
+        end_behind(from, end, size)
     }
 
     fn read_stretch(&self, alloc: Global, from: usize, end: usize) -> Option<Vec<List<usize>>> {

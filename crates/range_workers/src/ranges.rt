@@ -69,6 +69,18 @@ fn read_range<T: Drop, P: Ranges<T>>(
     Some(found)
 }
 
+/// Where a stretch ends that may end before any item: so many items on, but at least one, or with the range.
+pub fn end_behind(from: usize, end: usize, size: usize) -> usize
+    requires { from ≤ «end» }
+    ensures within { (from ≤ result) × (result ≤ «end») }
+    ensures forward { from < «end» → from < result }
+{
+    if end - from <= size {
+        return end;
+    }
+    from + size.max(1)
+}
+
 /// The places at which the parts of a range begin, each about as long as the share, and the place at which the last of
 /// them ends. None where memory runs out.
 fn find_cuts<T, P: Ranges<T>>(

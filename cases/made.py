@@ -1,17 +1,6 @@
 """Cases whose texts are too long for a file."""
 
-from typing import NamedTuple
-
-
-class Case(NamedTuple):
-    """Where a case stands or what it is, the words, what is read, the status and what is written: to standard output
-    with status 0 or 6, to standard error with any other."""
-
-    name: str
-    words: list
-    text: bytes
-    status: int
-    written: bytes
+from case import Case
 
 
 def nops(count):
@@ -34,6 +23,7 @@ def limits():
         Case("65,537 functions", ["check"], returning(65_537), 1, too_large % (4 * 65_536 + 1)),
         Case("a text of 67,108,864 bytes", ["check"], b" " * 67_108_864, 0, b"ok 0\n"),
         Case("a text of 67,108,865 bytes", ["check"], b" " * 67_108_865, 1, b"error TooLong\n"),
+        Case("a text of 67,108,865 bytes", ["test"], b" " * 67_108_865, 1, b"error TooLong\n"),
     ]
 
 

@@ -5,7 +5,8 @@ Run at the top of the repository:
     python3 bench/eval_vectors.py narrow > crates/leaf_tests/src/narrow_vectors.rt
     python3 bench/eval_vectors.py wide > crates/leaf_tests/src/wide_vectors.rt
 
-The narrow ones are those of i8, i16 and i32, the wide ones those of i64 and i128.
+The narrow ones are those of i8, i16 and i32, the wide ones those of i64 and i128. With `--orders` in place of either
+word it prints the opcodes of three kinds, in the order in which a line has their results.
 
 A line has a kind, its operands, and one result for each opcode of the kind, in the order of the lists below, which the
 test has too. A value is a letter for its type (B i8, H i16, W i32, D i64, Q i128) and its bits in hexadecimal digits. A
@@ -19,23 +20,28 @@ WIDTHS = [8, 16, 32, 64, 128]
 
 
 def mask(w):
+    """The greatest number of so many bits."""
     return (1 << w) - 1
 
 
 def signed(w, n):
+    """What these bits are as a signed number."""
     return n - (1 << w) if n >> (w - 1) else n
 
 
 def toward_zero(a, b):
+    """The quotient, rounded toward zero."""
     q = abs(a) // abs(b)
     return -q if (a < 0) != (b < 0) else q
 
 
 def bits_of(w, n):
+    """The number as so many binary digits."""
     return format(n, "0%db" % w)
 
 
 def number(bits):
+    """The number that these binary digits are."""
     return int(bits, 2)
 
 
@@ -64,43 +70,52 @@ for target in [8, 16, 32, 64]:
 
 
 def narrow(f):
+    """The operation, without a row for i128."""
     return lambda w, x, y: f(w, x, y) if w <= 64 else None
 
 
 def divided(f):
+    """The same, with a trap where the second operand is 0."""
     return narrow(lambda w, x, y: f(w, x, y) if y else "!z")
 
 
 def sdiv(w, x, y):
+    """The signed quotient, or a trap where it has no number of its type."""
     a, b = signed(w, x), signed(w, y)
     q = toward_zero(a, b)
     return "!o" if q > mask(w - 1) else (w, q)
 
 
 def srem(w, x, y):
+    """The signed remainder."""
     a, b = signed(w, x), signed(w, y)
     return (w, a - b * toward_zero(a, b))
 
 
 def overflow(w, wrapped, exact, low, high):
+    """The wrapped number, and whether the exact one is outside these ends."""
     return ((w, wrapped), (8, 0 if low <= exact <= high else 1))
 
 
 def u_overflow(op):
+    """A sum or difference of unsigned numbers, and whether it is wrapped."""
     return lambda w, x, y: overflow(w, op(x, y), op(x, y), 0, mask(w))
 
 
 def s_overflow(op):
+    """The same of signed numbers."""
     return lambda w, x, y: overflow(
         w, op(x, y), op(signed(w, x), signed(w, y)), -(1 << (w - 1)), mask(w - 1)
     )
 
 
 def add(a, b):
+    """The sum."""
     return a + b
 
 
 def sub(a, b):
+    """The difference."""
     return a - b
 
 
@@ -146,6 +161,7 @@ for name, relation in RELATIONS.items():
 
 
 def rotated(w, x, left):
+    """The bits moved to the left, those that fall out coming in on the right."""
     text = bits_of(w, x)
     return number(text[left:] + text[:left])
 
@@ -162,10 +178,12 @@ SHIFTS = {
 
 
 def value(w, n):
+    """A value as a line has it."""
     return LETTER[w] + format(n & mask(w), "x")
 
 
 def result(r):
+    """A result as a line has it."""
     if r is None:
         return "-"
     if isinstance(r, str):
@@ -176,6 +194,7 @@ def result(r):
 
 
 def line(kind, operands, results):
+    """A line of the vectors."""
     return " ".join([kind] + [value(w, n) for w, n in operands] + [result(r) for r in results])
 
 
@@ -203,6 +222,7 @@ def lines():
 
 
 def main(name):
+    """Prints the constant of this name."""
     text = [l for w, l in lines() if (w > 32) == (name == "wide")]
     cases = sum(len(l.split()) - 1 - {"u": 1, "b": 2, "s": 2, "t": 3}[l[0]] for l in text)
     print("// Written by bench/eval_vectors.py, which says what a line means: %d cases." % cases)

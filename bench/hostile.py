@@ -3,17 +3,18 @@
 
     python3 bench/hostile.py PATH/clifinl [SCALE]
 
-`rt ci`, or `rt run` in crates/clifinl, builds the program and leaves it in out/. SCALE (1) makes the large texts
-smaller. It runs:
+`rt ci`, or `rt run` in crates/clifinl, builds the program and leaves it in out/. SCALE (1, and at most that) makes the
+large texts smaller, and the endless loop shorter. It runs:
 - `check` of two texts cut behind each of their tokens: Syntax at the end, and nothing written, but behind a function;
-- `inline`, `test` and `gen` by two workers under limits on memory (`ulimit -v`), each a little further than the one
-  before, from what the program cannot begin with to what it needs in all: done with the same bytes, or status 5 and
-  nothing written;
-- a chain of 65,536 callers; the values and the parameters of a block; the longest chain of aliases that a text has room
-  for (3,400,000); one name of 60 MB; brackets 1,000,000 deep;
+- `inline` by four workers, `test`, and `gen` by two, under limits on memory (`ulimit -v`), each a little further than
+  the one before, from what the program cannot begin with to what it needs in all: done with the same bytes, or status 5
+  and nothing written;
+- a chain of 65,536 functions; the values and the parameters of a block; a chain of 3,400,000 aliases, which has nearly
+  64 MiB; one name of 60 MB; brackets 1,000,000 deep;
 - `run`: 1,000,000,000 steps of an endless loop, the last byte of the greatest memory and the one behind it, arguments
-  at each end of each type and one past it, the longest script that a command line holds (a word of it has at most
-  131,072 bytes), and by `test` one of a megabyte; and scripts and arguments that are none;
+  at each end of each type and one past it (for i128 at the ends of what is a number at all), a script of 126,008 bytes
+  in a command line (which takes words of 131,072 at most), and by `test` one of a megabyte; and scripts and arguments
+  that are none;
 - `inline` of a text of exactly 64 MiB, filled by 65,000 functions of about 1,030 bytes, by one, two and four workers on
   as many processors, under limits on memory: done with the same bytes, or status 5 and nothing written.
 Texts at the limits and one past them, a sink that is full and a source that fails are tried by `cases/run.py`.
@@ -28,6 +29,9 @@ import os
 import pathlib
 import re
 import sys
+
+from texts import aliases, chain, function
+from timing import program_and_scale
 
 sys.path.insert(0, str(pathlib.Path(__file__).resolve().parent.parent / 'cases'))
 from program import call
@@ -125,7 +129,9 @@ block2:
     return
 }
 '''
-ENDS = (('i8', -2**7, 2**8 - 1), ('i16', -2**15, 2**16 - 1), ('i32', -2**31, 2**32 - 1), ('i64', -2**63, 2**64 - 1))
+# The least and the greatest argument of each type. No number is below -2^63, nor is one 2^64 or above.
+ENDS = (('i8', -2**7, 2**8 - 1), ('i16', -2**15, 2**16 - 1), ('i32', -2**31, 2**32 - 1), ('i64', -2**63, 2**64 - 1),
+        ('i128', -2**63, 2**64 - 1))
 # The words, the text, the status: `test` has one check that fails.
 LIMITED = [
     (['inline'], CALLED, 0),
@@ -137,6 +143,7 @@ FAULTS = []
 
 
 def expect(holds, what):
+    """Notes and prints what does not hold."""
     if not holds:
         FAULTS.append(what)
         print('FAULT', what)
@@ -166,41 +173,25 @@ def answered(program, name, words, text, kind=None):
     return out
 
 
-def returning(name):
-    return f'function %{name}() {{\nblock0:\n    return\n}}\n'
-
-
-def one_block(lines):
-    return f'function %f() {{\nblock0:\n{lines}    return\n}}\n'
-
-
-def chain_of_callers(count):
-    return returning('f0') + ''.join(
-        f'function %f{i}() {{\n    fn0 = %f{i - 1}()\nblock0:\n    call fn0()\n    return\n}}\n'
-        for i in range(1, count))
-
-
 def values(count):
-    return one_block(''.join(f'    v{i} = iconst.i8 0\n' for i in range(count)))
+    """A function of one block that defines so many values."""
+    return function('%f', ''.join(f'    v{i} = iconst.i8 0\n' for i in range(count)))
 
 
 def params(count):
+    """A function with a block of so many parameters."""
     listed = ', '.join(f'v{i}: i8' for i in range(count))
-    return f'function %f() {{\nblock0:\n    return\nblock1({listed}):\n    return\n}}\n'
-
-
-def aliases(count):
-    lines = ''.join(f'v{i + 1}->v{i}\n' for i in range(count))
-    return f'function %f(i8) -> i8 {{\nblock0(v0: i8):\n{lines}return v{count}\n}}\n'
+    return function('%f', f'    return\n\nblock1({listed}):\n')
 
 
 def large(program, scale):
-    answered(program, 'a chain of callers', ['inline'], chain_of_callers(65_536))
-    answered(program, 'values of a block', ['inline'], values(130_000))
-    answered(program, 'parameters of a block', ['check'], params(262_000))
-    answered(program, 'aliases', ['check'], aliases(int(3_400_000 * scale)))
-    answered(program, 'one name', ['check'], returning('x' * int(60_000_000 * scale)))
-    answered(program, 'brackets', ['check'], '[' * 1_000_000, 'Syntax')
+    """The largest texts of one shape each."""
+    answered(program, 'a chain of callers', ['inline'], chain(int(65_536 * scale)))
+    answered(program, 'values of a block', ['inline'], values(int(130_000 * scale)))
+    answered(program, 'parameters of a block', ['check'], params(int(262_000 * scale)))
+    answered(program, 'aliases', ['check'], aliases(int(3_400_000 * scale), 'v{}->v{}\n'))
+    answered(program, 'one name', ['check'], function('%' + 'x' * int(60_000_000 * scale)))
+    answered(program, 'brackets', ['check'], '[' * int(1_000_000 * scale), 'Syntax')
 
 
 def ran(program, name, words, text, wanted):
@@ -209,8 +200,10 @@ def ran(program, name, words, text, wanted):
     expect(found == wanted, f'{name}: {found[0]} {found[1][:80]!r} {found[2]!r}')
 
 
-def runs(program):
-    ran(program, 'an endless loop', ['--steps', '1000000000'], SPIN, (0, b'going\n', b''))
+def runs(program, scale):
+    """Runs at their limits, and words that are none."""
+    steps = int(1_000_000_000 * scale)
+    ran(program, 'an endless loop', ['--steps', str(steps)], SPIN, (0, b'going\n', b''))
     last = b'returned []\nmemory 00fffff0:' + b' 00' * 15 + b' 07\n'
     for at, out in ((16_777_215, last), (16_777_216, b'trapped heap_oob\n')):
         ran(program, f'byte {at}', ['--memory', '16777216', f'--args={at}'], STORE, (0, out, b''))
@@ -225,7 +218,7 @@ def runs(program):
                         (['--args=1', '--script=,'], b'BadScript 1'), (['--args=1', '--script=trap'], b'BadScript 5')):
         ran(program, ' '.join(words), words, STORE, (1, b'', b'error ' + line + b'\n'))
     count = 18_000
-    ran(program, 'the longest script', [f'--args={count}', '--script=' + ','.join(['return'] * count)], HOST,
+    ran(program, 'a long script', [f'--args={count}', '--script=' + ','.join(['return'] * count)], HOST,
         (0, b'host %h()\n' * count + b'returned []\n', b''))
     script = ', '.join(['return'] * 131_072)
     found = call(program, ['test'], f'test run\n{HOST}; host: {script}\n; run: %f({len(script) // 8}) == []\n'.encode())
@@ -266,6 +259,7 @@ def filled(size):
 
 
 def memories(program, scale):
+    """A text of 64 MiB by several workers on as many processors, within less and less memory."""
     text = filled(int(67_108_864 * scale))
     whole = answered(program, 'a text of 64 MiB', ['inline'], text)
     everywhere = sorted(os.sched_getaffinity(0))
@@ -281,15 +275,13 @@ def memories(program, scale):
 
 
 def main():
-    if len(sys.argv) < 2:
-        sys.exit(__doc__)
-    program = os.path.abspath(sys.argv[1])
-    scale = float(sys.argv[2]) if len(sys.argv) > 2 else 1.0
+    """Runs all, and ends with status 1 where there was a fault."""
+    program, scale = program_and_scale(__doc__)
     cuts(program, EXAMPLE)
     cuts(program, JOINED)
     refusals(program)
     large(program, scale)
-    runs(program)
+    runs(program, scale)
     memories(program, scale)
     print(f'{len(FAULTS)} faults')
     sys.exit(1 if FAULTS else 0)

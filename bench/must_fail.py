@@ -43,6 +43,7 @@ def copy_with_edits(to, crates):
 
 
 def main():
+    """Tries the edits of the crates named, and ends with the status of `rt ci`."""
     crates = crates_named(sys.argv[1:])
     with tempfile.TemporaryDirectory(prefix="clifinl-must-fail-") as room:
         copy = pathlib.Path(room)

@@ -16,13 +16,16 @@ import sys
 
 
 def main():
+    """Checks the crate, and prints what took longest."""
+    if len(sys.argv) < 2:
+        sys.exit(__doc__)
     crate = sys.argv[1]
     most = int(sys.argv[2]) if len(sys.argv) > 2 else 20
     root = os.path.dirname(os.path.dirname(os.path.abspath(__file__)))
     folder = os.path.join(root, 'crates', crate)
     kept = os.path.join(folder, 'out', 'incremental')
     shutil.rmtree(kept, ignore_errors=True)
-    status = subprocess.run(['rt', 'check', '--jobs', '1'], cwd=folder, stdout=subprocess.DEVNULL, check=False).returncode
+    check = subprocess.run(['rt', 'check', '--jobs', '1'], cwd=folder, stdout=subprocess.DEVNULL, check=False)
     ends = sorted((os.stat(os.path.join(at, name)).st_mtime, name)
                   for at, _, names in os.walk(kept) for name in names if name.endswith('.oantt'))
     took = collections.Counter()
@@ -31,7 +34,7 @@ def main():
         part = next((it for it in ('Lts', 'Proof', 'Tie') if it in path), '')
         item = '.'.join(path[:path.index(part)] if part else path[:-1]) or path[0]
         took[item, part] += end - before
-    print('status %d; %.0f s, of which' % (status, sum(took.values())))
+    print('status %d; %.0f s, of which' % (check.returncode, sum(took.values())))
     for (item, part), time in took.most_common(most):
         print('%7.1f  %s %s' % (time, item, part))
 

@@ -1,7 +1,7 @@
 #!/usr/bin/env python3
 """Speed and memory of reading: the tokens of a text, and its raw module, beside `wc -w` on the same text.
 
-    python3 bench/reading.py PATH/read_counts [MEGABYTES]
+    python3 bench/reading.py PATH/read_counts [SCALE]
 
 `rt run` in crates/read_counts builds the program and leaves it in out/. It reads standard input and stops behind the
 bytes, the tokens, or the raw module: `raw` is read from the list of the tokens, `text` from the bytes, each by as many
@@ -9,18 +9,17 @@ workers as are asked for. A step's time is the median of nine runs, less that of
 raw module includes its tokens. With one worker it is the processor's time (user and system), since a machine is seldom
 idle, with several it is the clock's, as is that of the bytes then. Memory is the most that a run held, a byte of text.
 
-First a text of about 60 MB whose bodies have all forms. Then texts of one shape each, once and twice as large: twice
-the text should take at most 2.2 times the time."""
+First a text of about 60 MB whose bodies have many forms of lines. Then texts of one shape each, once and twice as
+large: twice the text should take at most 2.2 times the time. SCALE (1, and at most that) makes all texts smaller."""
 import os
 import random
-import sys
 import tempfile
 
-from timing import median, run
+from timing import medians, program_and_scale, scaled, write
 
-TURNS = 9
+REPEATS = 9
 
-# each step's words for the program, and whether several workers read
+# Each step's words for the program, and whether several workers read.
 STEPS = {
     'bytes': (['bytes'], False),
     'tokens': (['tokens'], False),
@@ -86,11 +85,10 @@ def end_of(chance, value, blocks):
     ])
 
 
-def mixed(size, seed=1):
-    """Functions of 1 to 9 blocks, whose bodies have all forms."""
-    chance = random.Random(seed)
-    parts = []
-    length = 0
+def mixed(size):
+    """Functions of 1 to 9 blocks, whose bodies have many forms of lines."""
+    chance = random.Random(1)
+    parts, length = [], 0
     while length < size:
         lines = ['function %%f%d(i64 uext, i32) -> i64 system_v {' % len(parts),
                  '    ss0 = explicit_slot 8, align = 8', '    sig0 = (i64) -> i64 tail',
@@ -110,13 +108,14 @@ def mixed(size, seed=1):
     return ''.join(parts)
 
 
-def whole(lines, params=''):
+def whole(lines, params='', name='f'):
     """A function of one block with these lines."""
-    return 'function %%f() {\nblock0%s:\n%s\n}\n' % (params, '\n'.join(lines))
+    return 'function %%%s() {\nblock0%s:\n%s\n}\n' % (name, params, '\n'.join(lines))
 
 
+# Of each shape the number of the half, and the text.
 SHAPES = {
-    'functions': (1_000_000, lambda n: ''.join('function %%f%d() {\nblock0:\nreturn\n}\n' % i for i in range(n))),
+    'functions': (1_000_000, lambda n: ''.join(whole(['return'], name='f%d' % i) for i in range(n))),
     'instructions of a block': (262_000, lambda n: whole('v%d = iadd v0, v%d' % (i, i - 1) for i in range(1, n))),
     'values of a block': (262_000, lambda n: whole(['return'], '(%s)' % ', '.join('v%d: i64' % i for i in range(n)))),
     'values of a return': (262_000, lambda n: whole(['return ' + ', '.join('v%d' % i for i in range(n))])),
@@ -126,21 +125,17 @@ SHAPES = {
 }
 
 
-def measured(program, texts):
-    """For each text the median times and the memory of each step, and of `wc -w`. The texts take turns, so that what
-    disturbs the machine for a while disturbs them alike."""
-    steps = {step: [program] + words for step, (words, _) in STEPS.items()} | {'wc': ['wc', '-w']}
-    found = [{step: [] for step in steps} for _ in texts]
+def steps_of(program, texts):
+    """For each text the median times and the memory of each step, and of `wc -w`."""
+    steps = {step: [program, *words] for step, (words, _) in STEPS.items()} | {'wc': ['wc', '-w']}
+    jobs = {}
     with tempfile.TemporaryDirectory() as folder:
-        paths = [os.path.join(folder, str(number)) for number in range(len(texts))]
-        for path, text in zip(paths, texts):
-            with open(path, 'w') as file:
-                file.write(text)
-        for _ in range(TURNS):
-            for path, runs in zip(paths, found):
-                for step, words in steps.items():
-                    runs[step].append(run(words, path))
-    return [{step: median(it) for step, it in runs.items()} for runs in found]
+        for number, text in enumerate(texts):
+            path = os.path.join(folder, str(number))
+            write(path, text)
+            jobs |= {(number, step): (words, path) for step, words in steps.items()}
+        found = medians(jobs, REPEATS)
+    return [{step: found[number, step] for step in steps} for number in range(len(texts))]
 
 
 def net(found, shown):
@@ -150,20 +145,21 @@ def net(found, shown):
 
 
 def main():
-    program = sys.argv[1]
-    size = int(float(sys.argv[2]) * 1e6) if len(sys.argv) > 2 else 60_000_000
-    text = mixed(size)
-    [found] = measured(program, [text])
+    """Measures the text of many forms, then the shapes."""
+    program, scale = program_and_scale(__doc__)
+    text = mixed(60e6 * scale)
+    [found] = steps_of(program, [text])
     length = len(text)
-    print('%.1f MB with all forms' % (length / 1e6))
+    print('%.1f MB with many forms' % (length / 1e6))
     for step in SHOWN:
         seconds = net(found, step)
         print('  %-18s %.3f s, %4.0f MB/s, %.1f bytes a byte of text'
               % (step, seconds, length / 1e6 / seconds, found[step].memory / length))
     print('  wc -w              %.3f s, %4.0f MB/s' % (found['wc'].processor, length / 1e6 / found['wc'].processor))
-    for name, (count, make) in SHAPES.items():
-        once, twice = make(count), make(2 * count)
-        first, second = measured(program, [once, twice])
+    for name, (number, make) in SHAPES.items():
+        count = scaled(number, scale)
+        once, double = make(count), make(2 * count)
+        first, second = steps_of(program, [once, double])
         print('%d %s (%.1f MB):' % (count, name, len(once) / 1e6), end=' ')
         print(', '.join('%s %.3f s, twice %.2f times' % (step, net(first, step), net(second, step) / net(first, step))
                         for step in SHOWN))

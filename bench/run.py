@@ -1,19 +1,18 @@
 #!/usr/bin/env python3
 """Steps a second of `run`, and its memory at a deep recursion.
 
-    python3 bench/run.py PATH/clifinl
+    python3 bench/run.py PATH/clifinl [SCALE]
 
 `rt ci`, or `rt run` in crates/clifinl, builds the program and leaves it in out/. Each loop is run once and twice as
-long; the time is the processor's, the median of five runs, less that of a run of no step. Wanted: 25 million steps a
-second of arithmetic and 10 million of the others, a million frames within 250 MB, twice the steps in at most 2.1 times
-the time."""
+long; SCALE (1, and at most that) makes it shorter. The time is the processor's, the median of five runs, less that of a
+run of one turn. Wanted: 25 million steps a second of arithmetic and 10 million of the others, a million frames within
+250 MB, twice the steps in at most 2.1 times the time."""
 import os
-import sys
 import tempfile
 
-from timing import median, run
+from timing import medians, program_and_scale, scaled, write
 
-TURNS = 5
+REPEATS = 5
 
 TEXT = '''function %arithmetic(i64) -> i64 {
 block0(v0: i64):
@@ -84,29 +83,29 @@ block4:
 }
 '''
 
-# the entry, how often its loop runs, and about how many steps a turn takes
+# The entry, how many turns its loop takes, and about how many steps a turn has.
 LOOPS = [('arithmetic', 4_000_000, 5), ('calls', 1_000_000, 5), ('memory', 2_000_000, 6), ('tables', 2_000_000, 5.25)]
 
 
-def measured(program, path, entry, turns):
-    """What a run of so many turns took."""
-    words = [program, 'run', '--entry', '%' + entry, '--args', str(turns), '--steps', '1000000000']
-    return median([run(words, path) for _ in range(TURNS)])
+def words_of(program, entry, turns):
+    """The words that run so many turns of a loop."""
+    return [program, 'run', '--entry', '%' + entry, '--args', str(turns), '--steps', '1000000000']
 
 
 def main():
-    program = os.path.abspath(sys.argv[1])
+    """Measures each loop; the runs of one turn, of all, and of twice as many take turns."""
+    program, scale = program_and_scale(__doc__)
     with tempfile.TemporaryDirectory() as folder:
         path = os.path.join(folder, 'text')
-        with open(path, 'w') as file:
-            file.write(TEXT)
-        for entry, turns, steps in LOOPS:
-            idle = measured(program, path, entry, 1).processor
-            once = measured(program, path, entry, turns)
-            twice = measured(program, path, entry, 2 * turns)
+        write(path, TEXT)
+        for entry, number, steps in LOOPS:
+            turns = scaled(number, scale)
+            jobs = {count: (words_of(program, entry, count), path) for count in (1, turns, 2 * turns)}
+            idle, once, double = medians(jobs, REPEATS).values()
+            seconds = max(once.processor - idle.processor, 1e-3)
             print('%-10s %5.1f million steps a second, twice %.2f times, %4.0f MB' % (
-                entry, turns * steps / (once.processor - idle) / 1e6,
-                (twice.processor - idle) / (once.processor - idle), once.memory / 1e6))
+                entry, turns * steps / seconds / 1e6, (double.processor - idle.processor) / seconds,
+                once.memory / 1e6))
 
 
 if __name__ == '__main__':

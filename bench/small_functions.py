@@ -52,6 +52,7 @@ LLVM = {
 
 
 def clif_function(i, text):
+    """The function of this number as CLIF."""
     names = callees(i, text)
     signature = '    sig0 = (i64) -> i64 fast\n' if names else ''
     declared = ''.join(f'    fn{k} = %{name} sig0\n' for k, name in enumerate(names))
@@ -61,6 +62,7 @@ def clif_function(i, text):
 
 
 def llvm_function(i, text):
+    """The function of this number as LLVM IR."""
     personality = ' personality i32 0' if kind(i, text) == 'try' else ''
     lines = LLVM[kind(i, text)].format(i % 99 + 1, *callees(i, text))
     return f'define fastcc i64 @f{i}(i64 %v0){personality} {{\nblock0:\n{lines}}}\n\n'

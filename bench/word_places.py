@@ -32,6 +32,7 @@ def words_of(source, name):
 
 
 def sum_of(word):
+    """A word's sum."""
     letters = word.encode()
     parts = letters[0], letters[1], letters[-1], len(letters) % 32
     return sum(factor * part for factor, part in zip(FACTORS, parts))
@@ -61,12 +62,14 @@ def tables(words):
 
 
 def constant(name, numbers):
+    """A table as a constant of the source."""
     rows = [numbers[i:i + 16] for i in range(0, len(numbers), 16)]
     lines = ['    %s,\n' % ', '.join(map(str, row)) for row in rows]
     return 'pub const %s: [u8; %d] = [\n%s];\n' % (name, len(numbers), ''.join(lines))
 
 
 def main():
+    """Prints the tables, or puts them into words.rt."""
     with open(OPCODES_FILE) as file:
         opcodes = words_of(file.read(), 'OPCODES')
     with open(WORDS_FILE) as file:

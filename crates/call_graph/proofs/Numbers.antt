@@ -67,7 +67,7 @@ number_is m d x f e = go (number_of m f.name) refl
     go None q = absurd (not_none m x f e (place_cases f.name m None (sym q)))
     go (Some k) q = let r = number_found m f.name k q in q ∙ ap (λ (z : ℕ). Some z) (one_place m d k x r.0 f r.1 e r.2)
 
-pub calls_by : Option Function → List FuncName
+calls_by : Option Function → List FuncName
 calls_by o = elim o [ None ↦ [] | Some f ↦ called_names f f.blocks ]
 
 calls_are : (m : Module) → DifferentNames m → (x : ℕ) (f : Function) → slice_get m x ≡ Some f → calls_of m f.name ≡ called_names f f.blocks

@@ -14,7 +14,7 @@ use Rattle.call_graph.specs.Order.{CalleesBefore, names_of, bottom_up}
 use Rattle.call_graph.specs.Orders.{IsOrderOf}
 use Rattle.call_graph.specs.declared.ordering.Order.{Order}
 use Rattle.call_graph.specs.Reach.{apart, called_names, calls_of}
-use Rattle.call_graph.proofs.Numbers.{calls_by, number_is, some_at}
+use Rattle.call_graph.proofs.Numbers.{number_is, some_at}
 use Rattle.call_graph.proofs.Placing.{order_is_bottom_up}
 use Rattle.inline_outcomes.proofs.Functions.{function_name}
 use Rattle.inline_finish.specs.Bodies.{HasCallees}
@@ -32,6 +32,9 @@ numbered m x k e =
     let q = place_cases x m (Some k) (sym e) in
     let s = some_at m k q.0 in
     let h = q.1 ∙ s.1 in (q.0, s.0, s.1, h, function_name x m s.0 h)
+
+calls_by : Option Function → List FuncName
+calls_by o = elim o [ None ↦ [] | Some f ↦ called_names f f.blocks ]
 
 calls_are :
     (m : Module) (x : FuncName) (f : Function) → find_function x m ≡ Some f → calls_of m x ≡ called_names f f.blocks

@@ -22,7 +22,7 @@ use Rattle.publish_table.specs.declared.view.Stage.TheVariants.{Idle, Filling, R
 use Rattle.publish_table.specs.declared.view.View.{View}
 use Rattle.publish_table.specs.Jobs.{tickets, IsFinished}
 use Rattle.publish_table.specs.Plays.{total, count, fresh, with_seat, new_seat, joined, joined_all, spent}
-use Rattle.publish_table.specs.Rule.{first_view, has_body, CellIs, Knows, ends_of, seats_of, once_below, below, reached, HasDrawn, ShowsAfter, Shows}
+use Rattle.publish_table.specs.Rule.{first_view, has_body, CellIs, Knows, ends_of, seats_of, once_below, below, reached, ShowsAfter, Shows}
 use Rattle.publish_table.proofs.Lists.{within, total_set, total_append, total_two, total_only}
 use Rattle.publish_table.proofs.Moves.{St, seats_stay, same_total, drawn_stays, once}
 

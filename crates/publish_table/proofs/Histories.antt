@@ -1,5 +1,5 @@
 -- A later state of a table shows the history of an earlier one, and more.
-use Rattle.std.proofs.Common.{◌≡◌, ◌≢◌, ℕ, ◌+◌, ◌<◌, true, false, List, [], ◌∷◌, ◌++◌, get_or, set, sym, ap, ◌∙◌, subst, refl, arith, Option, append_assoc, append-nil}
+use Rattle.std.proofs.Common.{◌≡◌, ℕ, ◌+◌, List, [], ◌∷◌, ◌++◌, get_or, set, sym, ◌∙◌, subst, refl, arith, Option, append_assoc, append-nil}
 use mathlib.Core.Option.{some}
 use mathlib.Core.Option as maybe
 use lib.ListN.{get_elem?}
@@ -16,7 +16,6 @@ use Rattle.publish_table.specs.declared.view.View.{View}
 use Rattle.publish_table.specs.Plays.{with_drawn, with_end, joined}
 use Rattle.publish_table.specs.Rule.{CellIs, ShowsAfter}
 use Rattle.publish_table.specs.Facts.{word_of}
-use Rattle.publish_table.specs.Jobs.{tickets}
 use Rattle.publish_table.specs.History.{Shown, Steps, draw, draw_none, begin_fill, fill_body, fill_refused, begin_read, find_refused, find_nothing, end_read, split_seat, join_seat, Leads, stays, goes_on}
 use Rattle.publish_table.proofs.Moves.{draws_ticket, draws_none}
 use Rattle.publish_table.proofs.Kept.{fill_begun, body_filled, refusal_filled, refusal_found, read_begun, read_ended}

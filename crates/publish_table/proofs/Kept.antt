@@ -24,8 +24,8 @@ use Rattle.publish_table.specs.declared.view.Cell.TheVariants.{Body, Refused}
 use Rattle.publish_table.specs.declared.view.Stage.TheVariants.{Idle, Filling, Reading}
 use Rattle.publish_table.specs.declared.view.View.{View}
 use Rattle.publish_table.specs.Jobs.{tickets, IsFinished}
-use Rattle.publish_table.specs.Plays.{total, count, filling, with_body, with_refusal, reading, with_read, with_refused}
-use Rattle.publish_table.specs.Rule.{has_body, once_below, CellIs, Knows, ShowsAfter}
+use Rattle.publish_table.specs.Plays.{count, filling, with_body, with_refusal, reading, with_read, with_refused}
+use Rattle.publish_table.specs.Rule.{has_body, CellIs, Knows, ShowsAfter}
 use Rattle.publish_table.proofs.Lists.{counted, count_here, count_more, count_snoc, total_two}
 use Rattle.publish_table.proofs.Claims.{put_phase, claim, phase_here, phase_else, others}
 use Rattle.publish_table.proofs.Moves.{St, IsLike, sound, once, at_most_once, cell_step, looked}
@@ -55,31 +55,31 @@ module _ (job : Job) (s : St) {es : List BoardEvent} (r : ShowsAfter job es s) (
       let so = sound job s r in let a = so.phases in let b = so.owners in
       let w : View = filling v t in let p : Phase = phase.Filling id in
       cell_step job s r id v w t 1 (BeginFill id t) p (set s.homes t none) at lt
-          (may_fill r.board t there id (omega arith) owner empty)
-          (length-set s.homes t none) (λ z ne. set_else s.homes t z none ne) refl (alike v w refl refl refl refl)
-          record {
-            job_is = k.job_is;
-            inside = k.inside;
-            owned = k.owned;
-            fills = λ z e. let same : t ≡ z = cc in ap (phase_at (put_phase r.board t p)) (sym same) ∙ phase_here r.board t p there;
-            reads = λ z e. let bad : Filling t ≡ Reading z = e in cc;
-            bodies = λ z c. claim r.board t p there (λ q. has_body q ≡ true) z (k.bodies z c) (λ e _. absurd (let h : 0 < count t v.bodies = subst (λ (x : ℕ). 0 < count x v.bodies) e c in omega arith));
-            refusals = λ z c. claim r.board t p there (λ q. q ≡ phase.Full mark.Refused) z (k.refusals z c) (λ e _. absurd (let h : 0 < count t v.refusals = subst (λ (x : ℕ). 0 < count x v.refusals) e c in omega arith));
-            fills_once = k.fills_once;
-            pending = λ z c nb nr ns. phase_else r.board t p there z (λ e. ns (ap (λ (x : ℕ). Filling x) (sym e)))
-                ∙ k.pending z c nb nr (λ e. let bad : Idle ≡ Filling z = sym idle ∙ e in cc);
-            read = λ z c. claim r.board t p there (λ q. has_body q ≡ true) z (k.read z c) (λ e h. let bad : false ≡ true = ap has_body (sym empty) ∙ h in cc);
-            refused = λ z c. claim r.board t p there (λ q. q ≡ phase.Full mark.Refused) z (k.refused z c) (λ e h. let bad : phase.Vacant ≡ phase.Full mark.Refused = sym empty ∙ h in cc);
-            ended = k.ended;
-            ends_few = k.ends_few;
-            idle = λ h. absurd (h one);
-            spent = λ h. absurd (omega arith);
-          }
-          (λ j u ne there_j h. others r.board t p there job phase.Vacant j u empty
-          (λ _ c. let both = total_two (λ (z : View). count t z.drawn) s.views id j v u (λ e. ne (sym e)) at there_j in let o = once job s r t in let m = at_most_once (tickets job) r.board.next t in omega arith)
-          (λ e. cc) (λ e. cc) (λ e. cc) (λ e. cc) h)
-          (λ y e. cc)
-          (λ z e. let bad : Idle ≡ Reading z = sym idle ∙ e in cc)
+      (may_fill r.board t there id (omega arith) owner empty)
+      (length-set s.homes t none) (λ z ne. set_else s.homes t z none ne) refl (alike v w refl refl refl refl)
+      record {
+        job_is = k.job_is;
+        inside = k.inside;
+        owned = k.owned;
+        fills = λ z e. let same : t ≡ z = cc in ap (phase_at (put_phase r.board t p)) (sym same) ∙ phase_here r.board t p there;
+        reads = λ z e. let bad : Filling t ≡ Reading z = e in cc;
+        bodies = λ z c. claim r.board t p there (λ q. has_body q ≡ true) z (k.bodies z c) (λ e _. absurd (let h : 0 < count t v.bodies = subst (λ (x : ℕ). 0 < count x v.bodies) e c in omega arith));
+        refusals = λ z c. claim r.board t p there (λ q. q ≡ phase.Full mark.Refused) z (k.refusals z c) (λ e _. absurd (let h : 0 < count t v.refusals = subst (λ (x : ℕ). 0 < count x v.refusals) e c in omega arith));
+        fills_once = k.fills_once;
+        pending = λ z c nb nr ns. phase_else r.board t p there z (λ e. ns (ap (λ (x : ℕ). Filling x) (sym e)))
+            ∙ k.pending z c nb nr (λ e. let bad : Idle ≡ Filling z = sym idle ∙ e in cc);
+        read = λ z c. claim r.board t p there (λ q. has_body q ≡ true) z (k.read z c) (λ e h. let bad : false ≡ true = ap has_body (sym empty) ∙ h in cc);
+        refused = λ z c. claim r.board t p there (λ q. q ≡ phase.Full mark.Refused) z (k.refused z c) (λ e h. let bad : phase.Vacant ≡ phase.Full mark.Refused = sym empty ∙ h in cc);
+        ended = k.ended;
+        ends_few = k.ends_few;
+        idle = λ h. absurd (h one);
+        spent = λ h. absurd (omega arith);
+      }
+      (λ j u ne there_j h. others r.board t p there job phase.Vacant j u empty
+      (λ _ c. let both = total_two (λ (z : View). count t z.drawn) s.views id j v u (λ e. ne (sym e)) at there_j in let o = once job s r t in let m = at_most_once (tickets job) r.board.next t in omega arith)
+      (λ e. cc) (λ e. cc) (λ e. cc) (λ e. cc) h)
+      (λ y e. cc)
+      (λ z e. let bad : Idle ≡ Reading z = sym idle ∙ e in cc)
 
   -- what the seat fills it has drawn, and has not filled before
   filling_now : v.stage ≡ Filling t → (0 < count t v.drawn) × (count t v.bodies ≡ 0) × (count t v.refusals ≡ 0)

@@ -1,5 +1,5 @@
 -- The rule, read as facts.
-use Rattle.std.proofs.Common.{◌≡◌, ◌≢◌, ℕ, zero, suc, ◌+◌, ◌<◌, ◌≤◌, ◌⊎◌, true, false, List, [], ◌∷◌, length, sym, ap, ◌∙◌, subst, inl, inr, ⊎_elim, arith, Option, refl, Some, None}
+use Rattle.std.proofs.Common.{◌≡◌, ◌≢◌, ℕ, ◌+◌, ◌<◌, ◌≤◌, ◌⊎◌, true, false, List, sym, ap, ◌∙◌, subst, inl, inr, ⊎_elim, arith, Option, refl, Some, None}
 use mathlib.Core.Logic.{dite}
 use mathlib.Core.Option.{some, some-injective}
 use mathlib.Core.Option as maybe
@@ -19,9 +19,9 @@ use Rattle.publish_table.specs.declared.view.Stage.{Stage}
 use Rattle.publish_table.specs.declared.view.Stage.TheVariants.{Idle, Filling, Reading}
 use Rattle.publish_table.specs.declared.view.View.{View}
 use Rattle.publish_table.specs.Jobs.{tickets}
-use Rattle.publish_table.specs.Plays.{total, count}
+use Rattle.publish_table.specs.Plays.{count}
 use Rattle.publish_table.specs.Rule.{CellIs, has_body, once_below, ShowsAfter}
-use Rattle.publish_table.specs.Facts.{IsNoted, IsShown, word_of, draws_of}
+use Rattle.publish_table.specs.Facts.{IsNoted, IsShown, word_of}
 use Rattle.publish_table.proofs.Lists.{total_two, total_has, total_some}
 use Rattle.publish_table.proofs.Moves.{St, sound, low, once, at_most_once}
 

@@ -9,7 +9,8 @@ use Rattle.std.specs.Arc.{arc_value}
 use Rattle.atomic_table.specs.Table.{Splits, Joins, opening}
 use Rattle.atomic_table.proofs.Lists.{set_here, set_else, at_snoc, at_longer}
 use Rattle.board_core.specs.Machine.{start, phase_at}
-use Rattle.board_core.proofs.Runs.{start_vacant}
+use Rattle.board_core.proofs.Runs.{start_vacant, told}
+use Rattle.board_core.specs.declared.state.BoardEvent.{BoardEvent}
 use Rattle.board_core.specs.declared.state.Phase.{Phase}
 use Rattle.board_core.specs.declared.state.Phase.TheVariants as phase
 use Rattle.board_core.specs.declared.state.Mark.TheVariants as mark
@@ -21,9 +22,9 @@ use Rattle.publish_table.specs.declared.view.Stage.TheVariants.{Idle, Filling, R
 use Rattle.publish_table.specs.declared.view.View.{View}
 use Rattle.publish_table.specs.Jobs.{tickets, IsFinished}
 use Rattle.publish_table.specs.Plays.{total, count, fresh, with_seat, new_seat, joined, joined_all, spent}
-use Rattle.publish_table.specs.Rule.{first_view, has_body, CellIs, Knows, ends_of, seats_of, once_below, below, reached, Shows}
+use Rattle.publish_table.specs.Rule.{first_view, has_body, CellIs, Knows, ends_of, seats_of, once_below, below, reached, ShowsAfter, Shows}
 use Rattle.publish_table.proofs.Lists.{within, total_set, total_append, total_two, total_only}
-use Rattle.publish_table.proofs.Moves.{St, seats_stay, same_total, once}
+use Rattle.publish_table.proofs.Moves.{St, seats_stay, same_total, drawn_stays, once}
 
 -- a view that says nothing of the board
 knows_nothing : (job : Job) (b : BoardState) (j : ℕ) (made : ℕ) → Knows job b j (fresh job made)
@@ -35,7 +36,8 @@ knows_nothing job b j made = record {
   reads = λ t e. let bad : Idle ≡ Reading t = e in cc;
   bodies = λ t c. absurd (omega arith);
   refusals = λ t c. absurd (omega arith);
-  pending = λ _ t c. absurd (omega arith);
+  fills_once = λ t. omega arith;
+  pending = λ t c. absurd (omega arith);
   read = λ t c. absurd (omega arith);
   refused = λ t c. absurd (omega arith);
   ended = λ c. absurd (omega arith);
@@ -53,7 +55,8 @@ knows_spent job b j = record {
   reads = λ t e. let bad : Idle ≡ Reading t = e in cc;
   bodies = λ t c. absurd (omega arith);
   refusals = λ t c. absurd (omega arith);
-  pending = λ _ t c. absurd (omega arith);
+  fills_once = λ t. omega arith;
+  pending = λ t c. absurd (omega arith);
   read = λ t c. absurd (omega arith);
   refused = λ t c. absurd (omega arith);
   ended = λ c. absurd (omega arith);
@@ -75,9 +78,8 @@ only_one v u j e = ⊎_elim (λ (h : get_elem? [] j ≡ some u). absurd (some-ne
 
 module _ (job : Job) where
   pub starts : (words : List ℕ) → length words ≡ tickets job + 1 → ((i : ℕ) → i < length words → get_or words i 0 ≡ 0) → tickets job < 9223372036854775808
-      → Shows job (opening words (replicate (tickets job) None) (first_view job))
+      → ShowsAfter job [] (opening words (replicate (tickets job) None) (first_view job))
   starts words wide blank small = let n : ℕ = tickets job in let v : View = first_view job in record {
-    events = [];
     board = start n;
     board_is = refl;
     wide = wide;
@@ -88,6 +90,7 @@ module _ (job : Job) where
     small = small;
     each_cell = λ t l. subst (CellIs job t (get_or words (t + 1) 0) (get_elem? (map some (replicate n None)) t)) (sym (start_vacant n t)) (blank (t + 1) (omega arith), all_vacant n t None l);
     each_seat = λ j u e. subst (Knows job (start n) j) (only_one v u j e) (knows_nothing job (start n) j 1);
+    owners = λ t j e. let bad : None ≡ Some j = sym ((told n []).sound.unowned t (omega arith)) ∙ e in cc;
     whole = refl;
     made = λ u e. ap (λ (x : View). x.made) (sym (only_one v u 0 e));
     weighed = λ h. ap (below h) (sym (reached_none n));
@@ -96,11 +99,12 @@ module _ (job : Job) where
 
   pub starts_at : (n : ℕ) (words : List ℕ) → n ≡ tickets job → length words ≡ n + 1 → ((i : ℕ) → i < length words → get_or words i 0 ≡ 0) → n < 9223372036854775808
       → Shows job (opening words (replicate n None) (first_view job))
-  starts_at n words is wide blank small = subst (λ (m : ℕ). Shows job (opening words (replicate m None) (first_view job))) (sym is) (starts words (omega arith) blank (omega arith))
+  starts_at n words is wide blank small = ([], subst (λ (m : ℕ). ShowsAfter job [] (opening words (replicate m None) (first_view job))) (sym is) (starts words (omega arith) blank (omega arith)))
 
   -- the first seat makes another
-  pub splits : (v : View) → v.seats ≡ 1 → v.made < 64 → Splits (Shows job) 0 v (with_seat v) (new_seat v)
-  splits v one room s r at = let w : View = with_seat v in let u0 : View = new_seat v in let k = r.each_seat 0 v at in let vs : List View = set s.views 0 w in
+  pub has_split : (v : View) → v.seats ≡ 1 → v.made < 64 → (s : St) {es : List BoardEvent} → ShowsAfter job es s → get_elem? s.views 0 ≡ some v
+      → ShowsAfter job es record { words = s.words; homes = s.homes; views = set s.views 0 (with_seat v) ++ new_seat v ∷ [] }
+  has_split v one room s r at = let w : View = with_seat v in let u0 : View = new_seat v in let k = r.each_seat 0 v at in let vs : List View = set s.views 0 w in
       let lw : length vs ≡ length s.views = length-set s.views 0 w in let la : length (vs ++ u0 ∷ []) ≡ length vs + 1 = length-append vs (u0 ∷ []) in
       let here : get_elem? (vs ++ u0 ∷ []) 0 ≡ some w = at_longer vs (u0 ∷ []) 0 w (set_here s.views 0 w (within s.views 0 v at)) in
       let m = r.made v at in
@@ -113,6 +117,7 @@ module _ (job : Job) where
         reads = k.reads;
         bodies = k.bodies;
         refusals = k.refusals;
+        fills_once = k.fills_once;
         pending = k.pending;
         read = k.read;
         refused = k.refused;
@@ -122,7 +127,6 @@ module _ (job : Job) where
         spent = k.spent;
       } in
       let jobs : v.job ≡ job = k.job_is (omega arith) in record {
-        events = r.events;
         board = r.board;
         board_is = r.board_is;
         wide = r.wide;
@@ -134,6 +138,7 @@ module _ (job : Job) where
         each_cell = r.each_cell;
         each_seat = λ j u e. ⊎_elim (λ (h : get_elem? vs j ≡ some u). seats_stay K s.views 0 w known (λ i x _ p. r.each_seat i x p) j u h)
             (λ (h : u0 ≡ u). subst (K j) h (subst (λ (q : Job). K j (fresh q 0)) (sym jobs) (knows_nothing job r.board j 0))) (at_snoc vs u0 u j e);
+        owners = λ t j e. let o = drawn_stays s.views 0 v w j t at (λ n. n) (λ _ n. n) (r.owners t j e) in (o.0, at_longer vs (u0 ∷ []) j o.0 o.1, o.2);
         whole = let b = r.whole in let e = same_total seats_of s.views 0 v w at refl in let f = total_append seats_of vs (u0 ∷ []) in omega arith;
         made = λ u e. let same : w ≡ u = some-injective w u (sym here ∙ e) in ap (λ (x : View). x.made) (sym same) ∙ omega arith;
         weighed = λ h. let e = same_total (λ (x : View). total h x.drawn) s.views 0 v w at refl in let f = total_append (λ (x : View). total h x.drawn) vs (u0 ∷ []) in let o = r.weighed h in omega arith;
@@ -142,14 +147,20 @@ module _ (job : Job) where
             (λ ne. (o.0, at_longer vs (u0 ∷ []) y o.0 (set_else s.views 0 y w ne ∙ o.1), o.2));
       }
 
+  pub splits : (v : View) → v.seats ≡ 1 → v.made < 64 → Splits (Shows job) 0 v (with_seat v) (new_seat v)
+  splits v one room s r at = (r.0, has_split v one room s r.1 at)
+
   -- the first seat takes in another
-  pub joins : (v : View) (other : ℕ) (w : View) → 0 < v.seats → 0 < w.seats → v.stage ≡ Idle → w.stage ≡ Idle → Joins (Shows job) 0 v other w (joined v w) spent
-  joins v other w some_v some_w idle_v idle_w s r at apart there = let both : View = joined v w in let vs : List View = set s.views 0 both in let us : List View = set vs other spent in
+  pub has_joined : (v : View) (other : ℕ) (w : View) → 0 < v.seats → 0 < w.seats → v.stage ≡ Idle → w.stage ≡ Idle → (s : St) {es : List BoardEvent} → ShowsAfter job es s → get_elem? s.views 0 ≡ some v
+      → other ≢ 0 → get_elem? (set s.views 0 (joined v w)) other ≡ some w → ShowsAfter job es record { words = s.words; homes = s.homes; views = set (set s.views 0 (joined v w)) other spent }
+  has_joined v other w some_v some_w idle_v idle_w s r at apart there = let both : View = joined v w in let vs : List View = set s.views 0 both in let us : List View = set vs other spent in
       let was : get_elem? s.views other ≡ some w = sym (set_else s.views 0 other both apart) ∙ there in
       let k = r.each_seat 0 v at in let q = r.each_seat other w was in let K = Knows job r.board in
       let lens : length us ≡ length s.views = length-set vs other spent ∙ length-set s.views 0 both in
       let sums : (f : View → ℕ) → f both ≡ f v + f w → f spent ≡ 0 → total f us ≡ total f s.views =
       λ (f : View → ℕ) (a : f both ≡ f v + f w) (b : f spent ≡ 0). let x = total_set f s.views 0 v both at in let y = total_set f vs other w spent there in omega arith in
+      let counts : (z : ℕ) (a b : List ℕ) → count z (a ++ b) ≡ count z a + count z b = λ (z : ℕ) (a : List ℕ) (b : List ℕ). total_append (λ x. cond (eqb x z) 1 0) a b in
+      let idles : (u : View) → u.stage ≡ Idle → (t : ℕ) → u.stage ≢ Filling t = λ (u : View) (i : u.stage ≡ Idle) (t : ℕ) (e : u.stage ≡ Filling t). let bad : Idle ≡ Filling t = sym i ∙ e in cc in
       let either_of : (z : ℕ) (a b : List ℕ) → 0 < count z (a ++ b) → (0 < count z a) ⊎ (0 < count z b) =
       λ (z : ℕ) (a : List ℕ) (b : List ℕ) (h : 0 < count z (a ++ b)). let e = total_append (λ x. cond (eqb x z) 1 0) a b in
       dite (ℕ_discrete (count z a) 0) (λ n. inr (omega arith)) (λ n. inl (omega arith)) in
@@ -161,7 +172,10 @@ module _ (job : Job) where
         reads = k.reads;
         bodies = λ t c. ⊎_elim (k.bodies t) (q.bodies t) (either_of t v.bodies w.bodies c);
         refusals = λ t c. ⊎_elim (k.refusals t) (q.refusals t) (either_of t v.refusals w.refusals c);
-        pending = λ e. absurd (omega arith);
+        fills_once = λ t. let a = k.fills_once t in let b = q.fills_once t in let c = counts t v.drawn w.drawn in let d = counts t v.bodies w.bodies in let e = counts t v.refusals w.refusals in omega arith;
+        pending = λ t c nb nr ns. let d = counts t v.bodies w.bodies in let e = counts t v.refusals w.refusals in
+            ⊎_elim (λ (h : 0 < count t v.drawn). k.pending t h (omega arith) (omega arith) (idles v idle_v t))
+            (λ (h : 0 < count t w.drawn). q.pending t h (omega arith) (omega arith) (idles w idle_w t)) (either_of t v.drawn w.drawn c);
         read = λ t c. ⊎_elim (k.read t) (q.read t) (either_of t v.read w.read c);
         refused = λ t c. ⊎_elim (k.refused t) (q.refused t) (either_of t v.refused w.refused c);
         ended = λ c. dite (ℕ_discrete v.ends 0) (λ n. q.ended (omega arith)) (λ n. k.ended (omega arith));
@@ -169,7 +183,6 @@ module _ (job : Job) where
         idle = λ _. idle_v;
         spent = λ e. absurd (omega arith);
       } in record {
-        events = r.events;
         board = r.board;
         board_is = r.board_is;
         wide = r.wide;
@@ -180,6 +193,8 @@ module _ (job : Job) where
         small = r.small;
         each_cell = r.each_cell;
         each_seat = seats_stay K vs other spent (knows_spent job r.board other) (λ j x _. seats_stay K s.views 0 both known (λ i y _ p. r.each_seat i y p) j x);
+        owners = λ t j e. drawn_stays vs other w spent j t there (λ n. absurd (omega arith)) (λ n _. absurd (omega arith))
+            (drawn_stays s.views 0 v both j t at (λ _. some_v) (λ _ n. let c = counts t v.drawn w.drawn in omega arith) (r.owners t j e));
         whole = sums seats_of refl refl ∙ (r.whole ∙ sym lens);
         made = λ u e. let here : get_elem? us 0 ≡ some both = set_else vs other 0 spent (λ z. apart (sym z)) ∙ set_here s.views 0 both (within s.views 0 v at) in
             ap (λ (x : View). x.made) (some-injective u both (sym e ∙ here)) ∙ (r.made v at ∙ sym lens);
@@ -193,6 +208,9 @@ module _ (job : Job) where
               o.2,
             );
       }
+
+  pub joins : (v : View) (other : ℕ) (w : View) → 0 < v.seats → 0 < w.seats → v.stage ≡ Idle → w.stage ≡ Idle → Joins (Shows job) 0 v other w (joined v w) spent
+  joins v other w some_v some_w idle_v idle_w s r at apart there = (r.0, has_joined v other w some_v some_w idle_v idle_w s r.1 at apart there)
 
 -- what the views know together
 pub joined_sum : (f : View → ℕ) → ((v w : View) → f (joined v w) ≡ f v + f w) → (v : View) (ws : List View) → f (joined_all v ws) ≡ f v + total f ws
@@ -239,7 +257,7 @@ no_count h (t ∷ ts) none = absurd (no_head t (count t ts) (none t))
 none_drawn : (h : ℕ → ℕ) (u : View) → ((t : ℕ) → count t u.drawn ≡ 0) → total h u.drawn ≡ 0
 none_drawn h u none = no_count h u.drawn none
 
-module _ (job : Job) (s : St) (r : Shows job s) (v : View) (at : get_elem? s.views 0 ≡ some v) (g : Gathered job v) where
+module _ (job : Job) (s : St) {es : List BoardEvent} (r : ShowsAfter job es s) (v : View) (at : get_elem? s.views 0 ≡ some v) (g : Gathered job v) where
   others_spent : (j : ℕ) (u : View) → j ≢ 0 → get_elem? s.views j ≡ some u → u.seats ≡ 0
   others_spent j u ne e = let h = total_two seats_of s.views 0 j v u (λ z. ne (sym z)) at e in let w = r.whole in let m = r.made v at in let q = g.seats in omega arith
 

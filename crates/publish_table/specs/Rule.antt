@@ -53,7 +53,9 @@ pub record Knows (job : Job) (b : BoardState) (j : ℕ) (v : View) : Type 0 wher
   pub reads : (t : ℕ) → v.stage ≡ Reading t → phase_at b t ≡ phase.Reading j
   pub bodies : (t : ℕ) → 0 < count t v.bodies → has_body (phase_at b t) ≡ true
   pub refusals : (t : ℕ) → 0 < count t v.refusals → phase_at b t ≡ phase.Full mark.Refused
-  pub pending : v.seats ≡ 1 → (t : ℕ) → 0 < count t v.drawn → count t v.bodies ≡ 0 → count t v.refusals ≡ 0
+  -- it fills only what it drew, and that once
+  pub fills_once : (t : ℕ) → count t v.bodies + count t v.refusals ≤ count t v.drawn
+  pub pending : (t : ℕ) → 0 < count t v.drawn → count t v.bodies ≡ 0 → count t v.refusals ≡ 0
       → v.stage ≢ Filling t → phase_at b t ≡ phase.Vacant
   pub read : (t : ℕ) → 0 < count t v.read → has_body (phase_at b t) ≡ true
   pub refused : (t : ℕ) → 0 < count t v.refused → phase_at b t ≡ phase.Full mark.Refused
@@ -81,9 +83,12 @@ below h (suc k) = below h k + h k
 abbrev pub reached : ℕ → ℕ → ℕ
 reached n next = if nat_lt next n then next else n
 
--- what holds of the words, the cells at home and the views between any two steps
-pub record Shows (job : Job) (s : State (Option Cell) View) : Type 0 where
-  pub events : List BoardEvent
+-- the seat j is there, and has drawn the ticket t unless it was joined into another
+abbrev pub HasDrawn : List View → ℕ → ℕ → Type 0
+HasDrawn vs j t = (v : View) × (get_elem? vs j ≡ some v) × (0 < v.seats → 0 < count t v.drawn)
+
+-- what the words, the cells at home and the views show of the board after these events
+pub record ShowsAfter (job : Job) (events : List BoardEvent) (s : State (Option Cell) View) : Type 0 where
   pub board : BoardState
   pub board_is : run (start (tickets job)) events ≡ board
   pub wide : length s.words ≡ tickets job + 1
@@ -96,9 +101,14 @@ pub record Shows (job : Job) (s : State (Option Cell) View) : Type 0 where
   pub each_cell : (t : ℕ) → t < tickets job
       → CellIs job t (slice_index s.words (t + 1)) (get_elem? s.homes t) (phase_at board t)
   pub each_seat : (j : ℕ) (v : View) → get_elem? s.views j ≡ some v → Knows job board j v
+  pub owners : (t j : ℕ) → owner_at board t ≡ Some j → HasDrawn s.views j t
   pub whole : total seats_of s.views ≡ length s.views
   pub made : (v : View) → get_elem? s.views 0 ≡ some v → v.made ≡ length s.views
   -- each ticket that was drawn stands once among all views, however tickets are weighed
   pub weighed : (h : ℕ → ℕ) → total (λ v. total h v.drawn) s.views ≡ below h (reached (tickets job) board.next)
   pub reader : (t w : ℕ) → phase_at board t ≡ phase.Reading w
       → (v : View) × (get_elem? s.views w ≡ some v) × (v.stage ≡ Reading t)
+
+-- what holds between any two steps
+abbrev pub Shows : Job → State (Option Cell) View → Type 0
+Shows job s = (events : List BoardEvent) × ShowsAfter job events s

@@ -17,9 +17,11 @@ use Rattle.publish_table.specs.declared.view.Cell.{Cell}
 use Rattle.publish_table.specs.declared.view.Cell.TheVariants.{Body, Refused}
 use Rattle.publish_table.specs.declared.view.Stage.TheVariants.{Idle, Filling, Reading}
 use Rattle.publish_table.specs.declared.view.View.{View}
+use Rattle.publish_table.specs.declared.words.Found.{Found}
+use Rattle.publish_table.specs.declared.words.Found.TheVariants as found
 use Rattle.publish_table.specs.Jobs.{tickets, IsFinished}
 use Rattle.publish_table.specs.Rule.{below}
-use Rattle.publish_table.specs.Plays.{total, count, fresh, with_read, with_refused}
+use Rattle.publish_table.specs.Plays.{total, count, fresh, reading, with_read, with_refused}
 
 abbrev pub Top : Type 0
 Top = Shared (Option Cell) View Job BoardRule
@@ -75,6 +77,13 @@ abbrev pub HoldsBody : Me (Option Cell) View → ℕ → Type 0
 HoldsBody m t =
     (m.0.stage ≡ Reading t)
     × ((a : Arc Built Global) × (m.1 ≡ (t, Some (Body a)) ∷ []) × IsFinished m.0.job t (arc_value a))
+
+-- what a try to read a ticket found, and the seat after it
+abbrev pub HasTried : Me (Option Cell) View → ℕ → Found → Me (Option Cell) View → Type 0
+HasTried m t found.Body n = (n.0 ≡ reading m.0 t) × HoldsBody n t
+HasTried m t found.Refused n = n ≡ (with_refused m.0 t, [])
+HasTried m t found.Reader n = n ≡ m
+HasTried m t (found.Unfilled word) n = n ≡ m
 
 -- it is out to be filled, with the finished body, or refused
 abbrev pub FillsBody : Me (Option Cell) View → ℕ → Type 0

@@ -8,6 +8,7 @@ use crate::board::{Board, Seat};
 use crate::plays::DrawTicket;
 use crate::steps::{Top, begin_fill, end_fill_body, end_fill_refused, end_read, swap, try_read};
 use crate::view::{Cell, View};
+use crate::words::Found;
 use atomic_table::Seat as Place;
 use crossbeam_utils::Backoff;
 use std::alloc::AllocError;
@@ -38,7 +39,8 @@ impl Board {
         }
     }
 
-    /// Fills the cell of a ticket that this seat drew and has not filled. The seat notes with what.
+    /// Fills the cell of a ticket that this seat drew and has not filled, and wakes those that sleep for it. The seat
+    /// notes with what.
     pub fn publish(&self, seat: &mut Seat, ticket: usize, cell: Cell)
         requires board { IsSeatOf self.now seat.old }
         requires ticket { (ticket < self.now.count) × IsOpen (view_of seat.old) ticket }
@@ -58,6 +60,7 @@ impl Board {
                 end_fill_refused(top, &mut seat.place, ticket);
             }
         }
+        top.wake_all(ticket + 1);
     }
 
     /// The finished body of a ticket by a copy of its `Arc`, whoever published it; or Refused, where a try of this call
@@ -76,16 +79,24 @@ impl Board {
         let top = &self.table.shared;
         let backoff = Backoff::new();
         for _ in rt.forever() {
-            let found = try_read(top, &mut seat.place, ticket);
-            if found == 2 {
-                return copy_out(top, &mut seat.place, ticket);
+            match try_read(top, &mut seat.place, ticket) {
+                Found::Body => return copy_out(top, &mut seat.place, ticket),
+                Found::Refused => return Ok(Cell::Refused),
+                found => pause(rt, top, &backoff, ticket + 1, found),
             }
-            if found == 4 {
-                return Ok(Cell::Refused);
-            }
-            backoff.snooze();
         }
         unreachable!()
+    }
+}
+
+/// What a reader does between two tries of the ticket with the word at this place. It spins and yields at first, and
+/// then sleeps until the cell is filled; but for another reader it never sleeps, since that one only copies an `Arc`.
+fn pause<R: Wait>(rt: &R, top: &Top, backoff: &Backoff, place: usize, found: Found)
+    requires { place < top.now.table_id.words }
+{
+    match found {
+        Found::Unfilled(word) if backoff.is_completed() => top.park(rt, place, word),
+        _ => backoff.snooze(),
     }
 }
 

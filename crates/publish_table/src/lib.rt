@@ -13,6 +13,7 @@ pub mod laws;
 mod plays;
 mod steps;
 mod view;
+mod words;
 
 pub use board::{Board, Seat};
 pub use job::Job;

@@ -1,13 +1,15 @@
 //! The steps of a call, each one atomic, and the exchange of the slot that is out.
-ghost use Rattle.std.specs.Prelude.{◌≡◌, ◌≢◌, ◌<◌, ℕ, Option, Some, None, [], ◌∷◌};
+ghost use Rattle.std.specs.Prelude.{◌≡◌, ◌<◌, ℕ, Option, Some, None, [], ◌∷◌};
 ghost use Rattle.publish_table.specs.declared.view.Stage.TheVariants.{Idle};
-ghost use Rattle.publish_table.specs.Plays.{with_body, with_refusal, filling, reading, with_read, with_refused};
+ghost use Rattle.publish_table.specs.Plays.{with_body, with_refusal, filling, with_read};
 ghost use Rattle.publish_table.specs.Seats.{IsOpen, HoldsBody, FillsBody, FillsRefused, IsPlaceOf, IsSamePlace, IsOut};
+ghost use Rattle.publish_table.specs.Seats.{HasTried};
 
 use crate::board::BoardRule;
 use crate::job::Job;
 use crate::plays::{BeginFill, EndRead, FillBody, FillRefused, TryRead};
 use crate::view::{Cell, View};
+use crate::words::{BODY, FILLING, Found, READING, REFUSED, VACANT};
 use atomic_table::{Seat as Place, Shared};
 
 /// The words and the cells, which all seats share.
@@ -23,7 +25,7 @@ pub(crate) fn begin_fill(top: &Top, place: &mut At, ticket: usize)
     ensures same { IsSamePlace place.old place.new }
     ensures me { place.new.me ≡ (filling place.old.me.0 ticket, (ticket, None) ∷ []) }
 {
-    top.store::<BeginFill>(place, ticket + 1, 1);
+    top.store::<BeginFill>(place, ticket + 1, FILLING);
 }
 
 /// Exchanges the cell that is out.
@@ -45,7 +47,7 @@ pub(crate) fn end_fill_body(top: &Top, place: &mut At, ticket: usize)
     ensures same { IsSamePlace place.old place.new }
     ensures me { place.new.me ≡ (with_body place.old.me.0 ticket, []) }
 {
-    top.store::<FillBody>(place, ticket + 1, 2);
+    top.store::<FillBody>(place, ticket + 1, BODY);
 }
 
 /// The slot comes home refused.
@@ -56,20 +58,24 @@ pub(crate) fn end_fill_refused(top: &Top, place: &mut At, ticket: usize)
     ensures same { IsSamePlace place.old place.new }
     ensures me { place.new.me ≡ (with_refusal place.old.me.0 ticket, []) }
 {
-    top.store::<FillRefused>(place, ticket + 1, 4);
+    top.store::<FillRefused>(place, ticket + 1, REFUSED);
 }
 
-/// The word that was found: 2 where the body is out with the seat now, 4 where the cell is refused.
-pub(crate) fn try_read(top: &Top, place: &mut At, ticket: usize) -> u64
+/// A try to read: the body goes out to the seat where it is at home.
+pub(crate) fn try_read(top: &Top, place: &mut At, ticket: usize) -> Found
     requires table { IsPlaceOf top.now place.old }
     requires ticket { ticket < top.now.table_id.slots }
     requires ready { (place.old.me.0.stage ≡ Idle) × (place.old.me.1 ≡ []) }
     ensures same { IsSamePlace place.old place.new }
-    ensures won { result ≡ 2 → (place.new.me.0 ≡ reading place.old.me.0 ticket) × HoldsBody place.new.me ticket }
-    ensures refused { result ≡ 4 → place.new.me ≡ (with_refused place.old.me.0 ticket, []) }
-    ensures lost { result ≢ 2 → result ≢ 4 → place.new.me ≡ place.old.me }
+    ensures me { HasTried place.old.me ticket result place.new.me }
 {
-    top.compare_exchange::<TryRead>(place, ticket + 1, 2, 3)
+    match top.compare_exchange::<TryRead>(place, ticket + 1, BODY, READING) {
+        BODY => Found::Body,
+        REFUSED => Found::Refused,
+        VACANT => Found::Unfilled(VACANT as u32),
+        FILLING => Found::Unfilled(FILLING as u32),
+        _ => Found::Reader,
+    }
 }
 
 /// The slot comes home with the body that went out.
@@ -80,5 +86,5 @@ pub(crate) fn end_read(top: &Top, place: &mut At, ticket: usize)
     ensures same { IsSamePlace place.old place.new }
     ensures me { place.new.me ≡ (with_read place.old.me.0 ticket, []) }
 {
-    top.store::<EndRead>(place, ticket + 1, 2);
+    top.store::<EndRead>(place, ticket + 1, BODY);
 }

@@ -27,12 +27,12 @@ CALL = '    call fn0()\n'
 # ---- check: functions of many blocks
 
 def blocks(count, other, first='    jump block1\n'):
-    """A function of a chain of blocks, each of which may also go to another one. A value of the second block of the
-    chain is used in the last, so its definition has to be on each path there; an odd number defines it, so that the
-    numbers of values do not show that."""
-    parts = ['function %f(i64) -> i64 fast {\nblock0(v0: i64):\n', first, '\nblock1:\n    v7 = iconst.i64 7\n']
+    """A function of a chain of blocks, each of which may also go to another one. A value of the third is used in the
+    last, so whether it is available takes the paths: the first blocks do not lead to one block each."""
+    parts = ['function %f(i64) -> i64 fast {\nblock0(v0: i64):\n', first, '\nblock1:\n']
     for i in range(1, count):
-        parts.append(f'    brif v0, block{i + 1}, block{other(i)}\n\nblock{i + 1}:\n')
+        defined = '    v7 = iconst.i64 7\n' if i == 2 else ''
+        parts.append(f'{defined}    brif v0, block{i + 1}, block{other(i)}\n\nblock{i + 1}:\n')
     parts.append('    v5 = iadd v7, v0\n    return v5\n\n')
     return ''.join(parts)
 

@@ -3,10 +3,15 @@
 
 mod avail;
 mod definitions;
+mod depth_first;
 mod dominators;
 mod edges;
+mod incoming;
 mod jumps;
+mod lifting;
 mod search;
+mod semidominators;
+mod settled;
 mod tree;
 
 pub use avail::{Avail, flow};

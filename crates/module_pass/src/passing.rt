@@ -15,8 +15,9 @@ ghost use Rattle.module_pass.specs.Places.{AreBuilt, AllFilled};
 use crate::places::Places;
 use call_graph::{Order, graph, pieces};
 use inline_finish::{Built, Passed, Policy, finish_body};
-use inline_pass::laws::{renumbered_finished_keep, renumbered_finished_stay_accepted};
-use inline_pass::laws::renumbered_finished_stay_writable;
+use inline_pass::laws::{
+    renumbered_finished_keep, renumbered_finished_stay_accepted, renumbered_finished_stay_writable,
+};
 use ir_check::Checked;
 use ir_core::{Func, Module};
 use std::alloc::{AllocError, Global};

@@ -17,8 +17,9 @@ ghost use Rattle.worker_driver.specs.Turns.{AllAnswered, AllBodies};
 
 use crate::plan::Plan;
 use inline_finish::{Built, Passed, Policy};
-use inline_pass::laws::{renumbered_finished_keep, renumbered_finished_stay_accepted};
-use inline_pass::laws::renumbered_finished_stay_writable;
+use inline_pass::laws::{
+    renumbered_finished_keep, renumbered_finished_stay_accepted, renumbered_finished_stay_writable,
+};
 use ir_check::Checked;
 use ir_core::{Boxed, Func, Module};
 use publish_table::Cell;

@@ -29,9 +29,9 @@ use step_counter::Steps;
 /// is accepted, has the outcomes of the given one, and is writable where that is. The counter rises by one for each
 /// function and one for each inlined site. No more workers start than the module has functions.
 ///
-/// A worker draws up to 63 tickets ahead of the one that it announces at the gate, where there are 128 functions or more
-/// for each worker, and works on them in the order in which it drew them. So a gate that holds a worker holds these
-/// tickets too, and a gate at which a worker waits for ticket n has to let go on whoever has a ticket before it.
+/// A worker draws up to 63 tickets ahead of the one that it announces at the gate, where there are 128 functions or
+/// more for each worker, and works on them in the order in which it drew them. So a gate that holds a worker holds
+/// these tickets too, and a gate at which a worker waits for ticket n has to let go on whoever has a ticket before it.
 ///
 /// # Errors
 ///

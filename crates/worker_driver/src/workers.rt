@@ -27,8 +27,7 @@ use std::thread::Threads;
 use step_counter::Steps;
 
 /// Takes turns until there is no ticket. The answer is what the bodies cost that were published. The worker's counter,
-/// which its turns have, rises by just that, and by more only where a turn was refused: what it built by then is counted
-/// too.
+/// which its turns have, rises by just that, and by more only where a turn was refused: what that one built is counted.
 fn work<R: Wait, G: Gate, L: Ledger>(
     rt: &R,
     alloc: Global,
@@ -68,8 +67,8 @@ fn work<R: Wait, G: Gate, L: Ledger>(
     unreachable!()
 }
 
-/// A worker at its desk, with a counter of its own, which all its turns have. The desk's count is how far they tell that
-/// it rose.
+/// A worker at its desk, with a counter of its own, which all its turns have. The desk's count is how far they tell
+/// that it rose.
 fn work_counted<R: Wait, G: Gate, L: Ledger>(
     rt: &R,
     alloc: Global,
@@ -216,9 +215,9 @@ fn seats_of<L: Ledger>(
     Ok(seats)
 }
 
-/// All turns of all workers, one at each seat and each with a counter of its own. The seats come back in their order, and
-/// each of them was answered None and has filled what it drew. What the workers' counters counted for the bodies that
-/// they published is added to the counter.
+/// All turns of all workers, one at each seat and each with a counter of its own. The seats come back in their order,
+/// and each of them was answered None and has filled what it drew. What the workers' counters counted for the bodies
+/// that they published is added to the counter.
 pub fn drive<R: Threads + Wait + Sync, G: Gate, L: Ledger>(
     rt: &R,
     alloc: Global,

@@ -2,8 +2,11 @@
 ghost use Rattle.std.specs.Prelude.{◌≡◌, ◌+◌, IfOk, OnOk, length, map};
 ghost use Rattle.call_graph.specs.Orders.{IsOrderOf};
 ghost use Rattle.ir_core.specs.Sound.{IsSound};
-ghost use Rattle.ir_core.specs.WellFormed.{DifferentNames};
+ghost use Rattle.ir_core.specs.WellFormed.{DifferentNames, IsModule};
+ghost use Rattle.ir_semantics.specs.Accepted.{Accepted};
 ghost use Rattle.ir_semantics.specs.Canon.{SameUpToNumbering};
+ghost use Rattle.ir_semantics.specs.Same.{Same};
+ghost use Rattle.ir_text.specs.Writable.{Writable};
 ghost use Rattle.inline_pass.specs.Finished as defined;
 ghost use Rattle.inline_pass.specs.Inlined.{inlined, all_inlined};
 ghost use Rattle.inline_finish.specs.Building.{policy_of, IsLimited};
@@ -12,7 +15,9 @@ ghost use Rattle.module_pass.specs.Places.{AreBuilt, AllFilled};
 use crate::places::Places;
 use call_graph::{Order, graph, pieces};
 use inline_finish::{Built, Passed, Policy, finish_body};
-use inline_pass::laws::renumbered_finished_stay_accepted;
+use inline_pass::laws::{
+    renumbered_finished_keep, renumbered_finished_stay_accepted, renumbered_finished_stay_writable,
+};
 use ir_check::Checked;
 use ir_core::{Func, Module};
 use std::alloc::{AllocError, Global};
@@ -21,8 +26,9 @@ use std::sync::ledger::Ledger;
 use step_counter::Steps;
 
 /// The finished bodies of an accepted module, in its order, and how many sites were inlined, in all and into each
-/// function: one function after the other, from callees to callers. The counter rises by one for each function and one
-/// for each inlined site. Only `AllocError` refuses.
+/// function: one function after the other, from callees to callers. The module that they make is accepted, has the
+/// outcomes of the given one, and is writable where that is. The counter rises by one for each function and one for
+/// each inlined site. Only `AllocError` refuses.
 pub fn pass<L: Ledger>(
     alloc: Global,
     module: &Checked,
@@ -32,6 +38,9 @@ pub fn pass<L: Ledger>(
     requires limited { IsLimited policy }
     ensures finished { IfOk result
         (λ passed. SameUpToNumbering (defined.passed (policy_of policy) «module».now) passed.«module») }
+    ensures outcomes { IfOk result (λ passed. Same «module».now passed.«module») }
+    ensures accepted { IfOk result (λ passed. IsModule passed.«module» × Accepted passed.«module») }
+    ensures writable { IfOk result (λ passed. Writable «module».now → Writable passed.«module») }
     ensures inlined { IfOk result (λ passed. passed.inlined ≡ all_inlined (policy_of policy) «module».now) }
     ensures by_function { IfOk result (λ passed.
         passed.inlined_by_function.items ≡ map (inlined (policy_of policy) «module».now) «module».now) }
@@ -43,6 +52,8 @@ pub fn pass<L: Ledger>(
     let built = bodies(alloc, module, &order, policy, steps)?;
     let (passed, inlined, inlined_by_function) = gather(alloc, functions, policy, built)?;
     renumbered_finished_stay_accepted();
+    renumbered_finished_keep();
+    renumbered_finished_stay_writable();
     Ok(Passed {
         module: Checked::of_accepted(passed),
         inlined,

@@ -1,5 +1,5 @@
 -- How the view of a seat goes through a turn.
-use Rattle.std.proofs.Common.{Bool, true, false, eqb, cond, eq-eqb, ◌≡◌, ◌≢◌, ℕ, ◌+◌, ◌*◌, ◌<◌, ◌≤◌, List, [], ◌∷◌, ◌++◌, length, length-append, refl, sym, ap, ◌∙◌, subst, ⊎_elim, arith}
+use Rattle.std.proofs.Common.{Bool, true, false, cond, eq-eqb, ◌≡◌, ◌≢◌, ℕ, ◌+◌, ◌*◌, ◌<◌, ◌≤◌, List, [], ◌∷◌, ◌++◌, length, length-append, refl, sym, ap, ◌∙◌, subst, ⊎_elim, arith}
 use Rattle.std.specs.Prelude.{◌==◌, if◌then◌else◌}
 use Rattle.std.proofs.lemmas.List.{append_assoc, append-nil}
 use Rattle.ir_core.specs.Module.{Module}
@@ -13,7 +13,7 @@ use Rattle.publish_table.proofs.Lists.{total_append, count_here, count_else, cou
 use Rattle.worker_driver.specs.Reading.{OnlyRead, ReadsStay, CalleesRead}
 use Rattle.std.proofs.lemmas.Bool.{cases_eq}
 use Rattle.worker_driver.proofs.Sums.{few, counted_in, total_ones}
-use Rattle.worker_driver.specs.Turns.{IsDone, IsDoneBut, IsIdle, IsNoted, IsOnce, IsOnceBelow, OnlyDrew, cost_of, inlined_at}
+use Rattle.worker_driver.specs.Turns.{IsDone, IsDoneBut, IsIdle, IsNoted, IsOnce, IsOnceBelow, OnlyDrew, RoseBy, cost_of, inlined_at}
 
 count_grows : (k t : ℕ) (l : List ℕ) → count k l ≤ count k (l ++ t ∷ [])
 count_grows k t l = let h = count_snoc k t l in omega arith
@@ -205,3 +205,17 @@ pub count_bound : (m : Module) (k : ℕ) (v w : View) (a : List ℕ) (c n t : �
     → n < 18446744073709551616 → (c + (1 + n) ≤ 18446744073709551616 * length w.bodies) × (length w.bodies ≤ length m)
 count_bound m k v w a c n t but once is low fits =
     let long : length w.bodies ≡ length v.bodies + 1 = ap length is ∙ length-append v.bodies (t ∷ []) in (omega arith, few_bodies m k w a but once)
+
+-- the worker's counter rises with the count
+pub rose_more : (v w : View) (n old new c i now : ℕ) → RoseBy v n old new → w.refusals ≡ v.refusals → c ≡ n + (1 + i) → now ≡ new + (1 + i) → RoseBy w c old now
+rose_more v w n old new c i now h same e f = let low = h.0 in (omega (arith, low, e, f), λ none. let all = h.1 (sym same ∙ none) in omega (arith, all, e, f))
+
+-- where a ticket was refused it may rise by more
+pub rose_refused : (v w : View) (t n old new now : ℕ) → RoseBy v n old new → w.refusals ≡ v.refusals ++ t ∷ [] → new ≤ now → RoseBy w n old now
+rose_refused v w t n old new now h more l = let low = h.0 in (
+  omega (arith, low, l),
+  λ none. let e = ap length (sym more ∙ none) in let f = length-append v.refusals (t ∷ []) in absurd (omega (arith, e, f)),
+)
+
+pub rose_same : (v w : View) (n old new now : ℕ) → RoseBy v n old new → w.refusals ≡ v.refusals → now ≡ new → RoseBy w n old now
+rose_same v w n old new now h same e = let low = h.0 in (omega (arith, low, e), λ none. e ∙ h.1 (sym same ∙ none))

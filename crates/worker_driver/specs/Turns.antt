@@ -86,6 +86,10 @@ IsThrough m b s = IsSeatOf b s × IsDone (view_of s) × (0 < (view_of s).ends) �
 abbrev pub CountsWell : Policy → Module → Desk → Type 0
 CountsWell p m d = d.count ≡ cost_of p m (view_of d.seat).bodies
 
+-- the counter of a seat's worker rose by n, and by more only where the seat refused a ticket
+abbrev pub RoseBy : View → ℕ → ℕ → ℕ → Type 0
+RoseBy v n old new = (old + n ≤ new) × (v.refusals ≡ [] → new ≡ old + n)
+
 -- a seat that has done nothing
 abbrev pub IsIdle : Board → Seat → Type 0
 IsIdle b s = IsSeatOf b s × (view_of s ≡ fresh b.table.shared.key (view_of s).made)

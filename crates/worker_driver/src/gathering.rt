@@ -3,17 +3,23 @@ ghost use Rattle.std.specs.Prelude.{◌≡◌, length, map, sum, IfOk, OnOk};
 ghost use Rattle.std.specs.Arc.{arc_value};
 ghost use Rattle.ir_core.specs.Lists.{Each};
 ghost use Rattle.ir_core.specs.Sound.{IsSound};
+ghost use Rattle.ir_core.specs.WellFormed.{IsModule};
+ghost use Rattle.ir_semantics.specs.Accepted.{Accepted};
 ghost use Rattle.ir_semantics.specs.Canon.{SameUpToNumbering};
+ghost use Rattle.ir_semantics.specs.Same.{Same};
+ghost use Rattle.ir_text.specs.Writable.{Writable};
 ghost use Rattle.inline_pass.specs.Finished as defined;
 ghost use Rattle.inline_pass.specs.Inlined.{inlined, all_inlined};
-ghost use Rattle.inline_finish.specs.Building.{policy_of};
+ghost use Rattle.inline_finish.specs.Building.{policy_of, IsLimited};
 ghost use Rattle.worker_driver.specs.Gathered.{AreGathered, functions_in, inlined_in};
 ghost use Rattle.worker_driver.specs.Plans.{IsPlanOf};
 ghost use Rattle.worker_driver.specs.Turns.{AllAnswered, AllBodies};
 
 use crate::plan::Plan;
 use inline_finish::{Built, Passed, Policy};
-use inline_pass::laws::renumbered_finished_stay_accepted;
+use inline_pass::laws::{
+    renumbered_finished_keep, renumbered_finished_stay_accepted, renumbered_finished_stay_writable,
+};
 use ir_check::Checked;
 use ir_core::{Boxed, Func, Module};
 use publish_table::Cell;
@@ -91,16 +97,21 @@ fn take_functions(
     Ok((funcs, inlined, inlined_by_function))
 }
 
-/// The accepted module of the bodies, and how many sites were inlined into them. Only `AllocError` refuses.
+/// The accepted module of the bodies, with the outcomes of the given one, and how many sites were inlined into them.
+/// Only `AllocError` refuses.
 pub(crate) fn make_passed(
     alloc: Global,
     module: &Checked,
     policy: Policy,
     bodies: Vec<Arc<Built>>,
 ) -> Result<Passed, AllocError>
-    requires { AreGathered policy «module».now bodies.items }
+    requires bodies { AreGathered policy «module».now bodies.items }
+    requires limited { IsLimited policy }
     ensures finished { IfOk result
         (λ passed. SameUpToNumbering (defined.passed (policy_of policy) «module».now) passed.«module») }
+    ensures outcomes { IfOk result (λ passed. Same «module».now passed.«module») }
+    ensures accepted { IfOk result (λ passed. IsModule passed.«module» × Accepted passed.«module») }
+    ensures writable { IfOk result (λ passed. Writable «module».now → Writable passed.«module») }
     ensures inlined { IfOk result (λ passed. passed.inlined ≡ all_inlined (policy_of policy) «module».now) }
     ensures by_function { IfOk result (λ passed.
         passed.inlined_by_function.items ≡ map (inlined (policy_of policy) «module».now) «module».now) }
@@ -109,6 +120,8 @@ pub(crate) fn make_passed(
     // That its functions are accepted, any call on it tells.
     let _functions = module.module();
     renumbered_finished_stay_accepted();
+    renumbered_finished_keep();
+    renumbered_finished_stay_writable();
     let (funcs, inlined, inlined_by_function) = take_functions(alloc, bodies)?;
     let made = Module::of_functions(alloc, funcs)?;
     let Some(passed) = made else {

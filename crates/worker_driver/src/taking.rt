@@ -166,8 +166,9 @@ fn build<R: Wait, L: Ledger>(
 
 /// One turn of a worker. It takes the first ticket that it drew ahead; where there is none it draws one, and then as
 /// many ahead as there is room for. It announces the ticket at the gate, and publishes the finished body of its
-/// function, by the bodies of callees in other pieces as they are read under their tickets. `Ended` comes where no
-/// ticket was left. `Refused` comes where memory failed or such a body is refused; so is then the ticket.
+/// function, by the bodies of callees in other pieces as they are read under their tickets. While the gate holds the
+/// ticket nobody else gets those ahead. `Ended` comes where no ticket was left. `Refused` comes where memory failed or
+/// such a body is refused; so is then the ticket.
 pub fn turn<R: Wait, G: Gate, L: Ledger>(
     rt: &R,
     alloc: Global,

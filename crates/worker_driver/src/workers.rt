@@ -8,7 +8,7 @@ ghost use Rattle.worker_driver.specs.declared.outcome.Desk.{Desk};
 ghost use Rattle.worker_driver.specs.Plans.{IsPlanOf};
 ghost use Rattle.worker_driver.specs.Turns.{IsBoardFor, IsDone, IsNoted, IsSameSeat, IsThrough, IsReady, IsIdle};
 ghost use Rattle.worker_driver.specs.Turns.{IsThroughAs, Worked, CountsWell, IsOnce, cost_of, desk_of, seat_at};
-ghost use Rattle.worker_driver.specs.Turns.{cost_in};
+ghost use Rattle.worker_driver.specs.Turns.{cost_in, RoseBy};
 
 use crate::drawing::{make_room_for_run, many_ahead, none_ahead};
 use crate::outcome::{Desk, Turn};
@@ -26,7 +26,8 @@ use std::thread;
 use std::thread::Threads;
 use step_counter::Steps;
 
-/// Takes turns until there is no ticket. The answer is what the bodies cost that were published.
+/// Takes turns until there is no ticket. The answer is what the bodies cost that were published. The worker's counter,
+/// which its turns have, rises by just that, and by more only where a turn was refused: what that one built is counted.
 fn work<R: Wait, G: Gate, L: Ledger>(
     rt: &R,
     alloc: Global,
@@ -47,6 +48,7 @@ fn work<R: Wait, G: Gate, L: Ledger>(
     ensures seat { IsThrough «module».now board.now seat.new × IsSameSeat seat.old seat.new }
     ensures count { cost_of policy «module».now (view_of seat.new).bodies
         ≡ cost_of policy «module».now (view_of seat.old).bodies + result }
+    ensures steps { RoseBy (view_of seat.new) result steps.old steps.new }
 {
     let mut count = 0u128;
     let mut ahead = none_ahead(alloc, many);
@@ -65,7 +67,8 @@ fn work<R: Wait, G: Gate, L: Ledger>(
     unreachable!()
 }
 
-/// A worker at its desk, with a counter of its own.
+/// A worker at its desk, with a counter of its own, which all its turns have. The desk's count is how far they tell
+/// that it rose.
 fn work_counted<R: Wait, G: Gate, L: Ledger>(
     rt: &R,
     alloc: Global,
@@ -212,8 +215,9 @@ fn seats_of<L: Ledger>(
     Ok(seats)
 }
 
-/// All turns of all workers. The seats come back in their order, and each of them was answered None and has filled
-/// what it drew; the counter has risen by what the bodies cost that they filled.
+/// All turns of all workers, one at each seat and each with a counter of its own. The seats come back in their order,
+/// and each of them was answered None and has filled what it drew. What the workers' counters counted for the bodies
+/// that they published is added to the counter.
 pub fn drive<R: Threads + Wait + Sync, G: Gate, L: Ledger>(
     rt: &R,
     alloc: Global,

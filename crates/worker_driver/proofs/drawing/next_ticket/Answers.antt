@@ -1,6 +1,5 @@
-use Rattle.std.proofs.Common.{rules, ◌≡◌, ℕ, List, [], ◌∷◌, ◌++◌, length, ap, ◌∙◌, sym, arith}
+use Rattle.std.proofs.Common.{rules, ◌≡◌, ℕ, List, [], ◌∷◌, ◌++◌, length, ap, ◌∙◌, sym}
 use Rattle.std.proofs.lemmas.List.{nil_from_length}
-use Rattle.publish_table.specs.declared.view.View.{View}
 use Rattle.worker_driver.proofs.Views.{only_drew_by, only_drew_both, left_more}
 use Rattle.worker_driver.proofs.drawing.next_ticket.Goals as goal
 

@@ -8,4 +8,4 @@ use Rattle.worker_driver.proofs.gathering.make_passed.Goals as goal
 
 pub of_functions-requires : goal.of_functions-requires
 of_functions-requires c = let funcs : List Body = c.in_ok-funcs.funcs.items in
-    all_whole funcs c.in_ok-funcs.ensures.sound (subst (λ (fs : List Function). Each WellFormed fs) (sym c.in_ok-funcs.ensures.functions) c.requires.same.1)
+    all_whole funcs c.in_ok-funcs.ensures.sound (subst (λ (fs : List Function). Each WellFormed fs) (sym c.in_ok-funcs.ensures.functions) c.requires.bodies.same.1)

@@ -22,7 +22,7 @@ use Rattle.clifinl.proofs.Runs.{told, told_long}
 
 -- ---- a text that has a report is not refused
 
-no_bad_line : (text : List ℕ) (r : Report) (line : ℕ) → IsReport text r → HasBadLine text line → ⊥
+pub no_bad_line : (text : List ℕ) (r : Report) (line : ℕ) → IsReport text r → HasBadLine text line → ⊥
 no_bad_line text r line report (ts, raw, is, bad) =
     let tokens : ts ≡ report.tokens = one_list text ts report.tokens raw report.raw is report.read in
     let same : raw ≡ report.raw = same_raw text ts report.tokens raw report.raw is report.read in
@@ -39,16 +39,16 @@ no_later_fault text r k spot report (ts, raw, is, good, needed, first) =
     let accepted : IsAcceptedRaw report.raw report.tested = subst (λ (b : Bool). IsTestedModule b report.raw report.tested) asks report.is_tested in
     meant_is_faultless report.raw report.tested k spot accepted.free accepted.means accepted.accepted (subst (λ (m : RawModule). FirstOfRaw m k spot) same first)
 
-no_fault : (text : List ℕ) (r : Report) (k : TextKind) (spot : ℕ) → IsReport text r → IsRefusal text (err.Text k spot) → ⊥
+pub no_fault : (text : List ℕ) (r : Report) (k : TextKind) (spot : ℕ) → IsReport text r → IsRefusal text (err.Text k spot) → ⊥
 no_fault text r k spot report (inl unread) = read_is_faultless text report.raw k spot (is_module text report.tokens report.raw report.read) unread
 no_fault text r k spot report (inr later) = no_later_fault text r k spot report later
 
 -- ---- how the failed checks decide
 
-done_end : (r : Report) → r.failed ≡ 0 → Done ≡ end_of r
+pub done_end : (r : Report) → r.failed ≡ 0 → Done ≡ end_of r
 done_end r none = rw none refl
 
-failed_end : (r : Report) → (r.failed ≡ 0 → ⊥) → ChecksFailed ≡ end_of r
+pub failed_end : (r : Report) → (r.failed ≡ 0 → ⊥) → ChecksFailed ≡ end_of r
 failed_end r some = let other : (r.failed == 0) ≡ false = grind (arith, some) in rw other refl
 
 -- ---- a run for each end

@@ -8,6 +8,7 @@ mod generating;
 #[cfg(test)]
 mod held_gate;
 mod inlining;
+pub mod laws;
 mod pieces;
 mod reading;
 mod report;

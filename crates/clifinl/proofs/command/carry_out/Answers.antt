@@ -1,4 +1,5 @@
 use Rattle.std.proofs.Common.{refl}
+use Rattle.settings.specs.Shown.{run_shown}
 use Rattle.clifinl.proofs.Asked.{run_unread}
 use Rattle.clifinl.proofs.GenEnds.{gen_run}
 use Rattle.clifinl.proofs.command.carry_out.Goals as goal
@@ -22,7 +23,7 @@ pub returns-in-Gen-clause-run : goal.returns-in-Gen-clause-run
 returns-in-Gen-clause-run g c = rw c.in-Gen.is (gen_run _ _ _ _ (record { left = refl; faults = refl }) c.generated.ensures.wrote (λ done. c.generated.ensures.reads_back))
 
 pub returns-in-Run-clause-unread : goal.returns-in-Run-clause-unread
-returns-in-Run-clause-unread g c = λ nothing. run_unread _ _ (rw c.in-Run.is at nothing) c.run.ensures.unread
+returns-in-Run-clause-unread g c = λ nothing. run_unread (run_shown c.in-Run.options) _ (rw c.in-Run.is at nothing) c.run.ensures.unread
 
 pub returns-in-Gen-clause-unread : goal.returns-in-Gen-clause-unread
 returns-in-Gen-clause-unread g c = λ nothing. refl

@@ -12,6 +12,6 @@ returns-in-Err-clause-run g c =
 
 pub returns-in-Ok-clause-unread : goal.returns-in-Ok-clause-unread
 returns-in-Ok-clause-unread g c = λ count is.
-    absurd (script_kept (run_shown c.args.asked.now) _ _ c.in-Ok.script.now _
+    absurd (script_kept (run_shown c.args.asked.now) _ _ c.in-Ok.script _
     (subst (λ (text : List ℕ). ReadsScript text c.in-Ok.script) c.as_str.ensures.value c.in-Ok.ensures.read)
     c.run_with.ensures.run count is)

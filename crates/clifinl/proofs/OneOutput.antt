@@ -130,15 +130,33 @@ module _ (bytes : List ℕ) (before after : Outside) (is : before.left ≡ Some 
     End = OfRun differ writable s bytes
 
     of_function : (status : Status) → function.HasCause s before after status → Nothing status → status ≢ NoMemory → Answered End status
-    of_function Done (script, m, read, took, (text, has, wrote)) nothing enough =
-        (text, wrote, inl ((script, read), inl (own_short took.bytes took.whole,
-        inl (script, m, read, own_is (λ b. IsAccepted b m) took.bytes took.whole took.takes, inl (refl, has)))))
+    of_function Done (script, m, read, took, (text, has, wrote)) nothing enough = (
+      text,
+      wrote,
+      inl (
+        (script, read),
+        inl (
+          own_short took.bytes took.whole,
+          inl (script, m, read, own_is (λ b. IsAccepted b m) took.bytes took.whole took.takes, inl (refl, has)),
+        ),
+      ),
+    )
     of_function (Refused NoEntry) (script, m, read, took, ends) nothing enough =
-        stops NoEntry End nothing (inl ((script, read), inl (own_short took.bytes took.whole,
-        inl (script, m, read, own_is (λ b. IsAccepted b m) took.bytes took.whole took.takes, inr (inl (ends, (refl, refl)))))))
+        stops NoEntry End nothing (inl (
+          (script, read),
+          inl (
+            own_short took.bytes took.whole,
+            inl (script, m, read, own_is (λ b. IsAccepted b m) took.bytes took.whole took.takes, inr (inl (ends, (refl, refl)))),
+          ),
+        ))
     of_function (Refused BadArgs) (script, m, read, took, ends) nothing enough =
-        stops BadArgs End nothing (inl ((script, read), inl (own_short took.bytes took.whole,
-        inl (script, m, read, own_is (λ b. IsAccepted b m) took.bytes took.whole took.takes, inr (inr (ends, (refl, refl)))))))
+        stops BadArgs End nothing (inl (
+          (script, read),
+          inl (
+            own_short took.bytes took.whole,
+            inl (script, m, read, own_is (λ b. IsAccepted b m) took.bytes took.whole took.takes, inr (inr (ends, (refl, refl)))),
+          ),
+        ))
     of_function (Refused (BadScript count)) (fault, unread) nothing enough = stops (BadScript count) End nothing (inr (count, fault, (refl, refl)))
     of_function (Refused (Text k place)) (script, (own, whole, fault)) nothing enough =
         stops (Text k place) End nothing (inl (script, inl (own_short own whole, inr (faulty k place own whole fault))))

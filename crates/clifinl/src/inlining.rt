@@ -41,9 +41,7 @@ pub(crate) fn inline<R: Threads + Wait + Sync, I: Source, O: Sink, G: Gate>(
 {
     inlined_reads::laws::inlined_text_is_kept();
     match read_module(rt, alloc, options.workers, input) {
-        Ok(checked) => {
-            write_inlined(rt, alloc, checked, options, out, gate)
-        }
+        Ok(checked) => { write_inlined(rt, alloc, checked, options, out, gate) }
         Err(status) => status,
     }
 }

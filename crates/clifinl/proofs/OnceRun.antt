@@ -1,10 +1,8 @@
 -- The run of a function is a function of its settings and the bytes.
-use Rattle.std.proofs.Common.{◌≡◌, ℕ, ℤ, ◌+◌, ◌<◌, ◌^◌, List, [], Option, None, Some, inl, inr, refl, sym, ap, subst, arith, ◌∙◌}
+use Rattle.std.proofs.Common.{◌≡◌, ℕ, ℤ, ◌+◌, List, [], Option, None, Some, inl, inr, refl, sym, ap, subst, arith, ◌∙◌}
 use Rattle.std.specs.Prelude.{◌⊎◌, replicate}
 use Rattle.clif_check.specs.Faults.{IsAccepted}
 use Rattle.clif_check.proofs.Stages.{one_module}
-use Rattle.clif_lex.specs.declared.faults.Place.{Place}
-use Rattle.clif_lex.specs.declared.faults.TextKind.{TextKind}
 use Rattle.clk_num.specs.Operations.{DataValue}
 use Rattle.ir_core.specs.declared.names.FuncName.{FuncName}
 use Rattle.ir_core.specs.declared.names.FuncName.TheVariants as name
@@ -23,11 +21,10 @@ use Rattle.interp.specs.Entries.{entry_values}
 use Rattle.interp.specs.Outcome.{outcome_of}
 use Rattle.interp_run.specs.Answers.{IsRefusal, IsRunOf}
 use Rattle.interp_run.specs.declared.run.RunErr.TheVariants as err
-use Rattle.program_run.specs.EntryName.{HasShortNumbers, IsRefusalOfSpelled, IsRunOfSpelled, IsSpelledEntry, NamesDiffer}
+use Rattle.program_run.specs.EntryName.{HasShortNumbers, IsSpelledEntry, NamesDiffer}
 use Rattle.program_run.specs.RunText.{run_text}
 use Rattle.read_writable.specs.Laws.{ReadIsWritable}
 use Rattle.script_text.specs.Grammar as grammar
-use Rattle.script_text.specs.Scripts.{StopsIn}
 use Rattle.script_text.specs.Values.{number_list_value, script_value}
 use Rattle.script_text.proofs.Places.{none_where_read, one_place_of_text}
 use Rattle.settings.specs.Settings.{RunSettings}

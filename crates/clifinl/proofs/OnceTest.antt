@@ -1,5 +1,5 @@
 -- The tests of a text are a function of its bytes.
-use Rattle.std.proofs.Common.{◌≡◌, ℕ, List, None, Some, true, inl, inr, refl, sym, ap, subst, ◌∙◌}
+use Rattle.std.proofs.Common.{◌≡◌, ℕ, List, Some, inl, inr, refl, sym, ap, subst, ◌∙◌}
 use Rattle.std.specs.Prelude.{◌⊎◌}
 use Rattle.clif_lex.specs.declared.faults.Place.{Place}
 use Rattle.clif_lex.specs.declared.faults.TextKind.{TextKind}

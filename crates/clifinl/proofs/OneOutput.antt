@@ -1,5 +1,5 @@
 -- Two runs of a command over the same bytes end the same and write the same.
-use Rattle.std.proofs.Common.{◌≡◌, ◌≢◌, ℕ, ◌<◌, ◌≤◌, List, [], length, Option, None, Some, Bool, true, false, inl, inr, refl, sym, ap, subst, arith, ◌∙◌}
+use Rattle.std.proofs.Common.{◌≡◌, ◌≢◌, ℕ, ◌≤◌, List, [], length, Some, inl, inr, refl, sym, subst, ◌∙◌}
 use Rattle.std.specs.Prelude.{◌⊎◌}
 use Rattle.std.specs.Io.KnownBytes.{Appends}
 use Rattle.clif_check.specs.Faults.{IsAccepted}
@@ -19,10 +19,10 @@ use Rattle.clifinl.specs.GenCommand.{gen_text}
 use Rattle.clifinl.specs.InlineCommand.{policy_of}
 use Rattle.clifinl.specs.Laws.{IsWholeRun, OneOutput}
 use Rattle.clifinl.specs.RunCommand as function
-use Rattle.clifinl.specs.Runs.{GivesTooMany, HasCause, HasNoFault, IsFirstFault, Outside, ReadsWhole, Stopped, Took, Wrote, count_line, most_bytes}
+use Rattle.clifinl.specs.Runs.{GivesTooMany, HasCause, HasNoFault, IsFirstFault, Outside, ReadsWhole, Wrote, count_line, most_bytes}
 use Rattle.filetest.specs.Tested.{HasBadLine, IsReport}
 use Rattle.clifinl.specs.TestCommand as testing
-use Rattle.clifinl.proofs.Once.{IsFaulty, OfBytes, OfText, Once, StopsAs, nothing_more, of_bytes_once, of_text_once}
+use Rattle.clifinl.proofs.Once.{IsFaulty, OfBytes, OfText, Once, nothing_more, of_bytes_once, of_text_once}
 use Rattle.clifinl.proofs.OnceRun.{OfRun, of_run_once}
 use Rattle.clifinl.proofs.OnceTest.{OfTest, of_test_once}
 use Rattle.clifinl.proofs.Runs.{told, told_long}

@@ -1,5 +1,5 @@
 -- How the runs of `print` end.
-use Rattle.std.proofs.Common.{◌≡◌, subst}
+use Rattle.std.proofs.Common.{subst}
 use Rattle.clif_check.specs.Faults.{IsAccepted}
 use Rattle.ir_text.specs.Text.{text_of}
 use Rattle.clifinl.specs.declared.status.Status.{Status}

@@ -1,5 +1,5 @@
 -- How runs of `test` end.
-use Rattle.std.proofs.Common.{◌≡◌, ℕ, ◌<◌, List, Option, Some, length, refl, sym, ap, subst, inl, inr, arith, ◌∙◌}
+use Rattle.std.proofs.Common.{◌≡◌, ℕ, ◌<◌, List, Option, Some, length, refl, sym, ap, subst, inl, inr, arith}
 use Rattle.std.specs.Prelude.{Bool, true, false, ◌==◌}
 use Rattle.clif_lex.specs.declared.faults.Place.{Place}
 use Rattle.clif_lex.specs.declared.faults.TextKind.{TextKind}

@@ -45,7 +45,8 @@ class Trial:
         if not goes_so:
             self.missed += 1
             shown = [(status, out[-2000:], err[-2000:]) for status, out, err in (wanted, found)]
-            print(f"{name}: {shlex.join(words)}\n  wanted {shown[0]}\n  found  {shown[1]}")
+            shown_words = shlex.join(words).encode(errors="backslashreplace").decode()
+            print(f"{name}: {shown_words}\n  wanted {shown[0]}\n  found  {shown[1]}")
 
     def expect_same(self, found, wanted, name, words):
         """Counts a run, and names it where its status or what it wrote is another."""
@@ -85,7 +86,7 @@ def main():
     paths = [pathlib.Path(it) for it in files] or sorted(HERE.glob("*.txt"))
     cases = [case for path in paths for case in read_cases(path)]
     if not files:
-        cases += made.limits() + made.stretches()
+        cases += made.limits() + made.stretches() + made.not_utf8() + made.prefixes()
     for case in cases:
         for one in (case, *by_other_commands(case)):
             trial.run(one)

@@ -4,6 +4,7 @@ pub mod Telling
 pub mod Spots
 pub mod RunEnds
 pub mod InlineEnds
+pub mod PrintEnds
 pub mod GenEnds
 pub mod OneReport
 pub mod TestEnds
@@ -11,3 +12,7 @@ pub mod Examples
 pub mod Measures
 pub mod Bounds
 pub mod Asked
+pub mod Once
+pub mod OnceRun
+pub mod OnceTest
+pub mod OneOutput

@@ -1,5 +1,6 @@
--- A text has one number of failed checks.
+-- A text has one report.
 use Rattle.std.proofs.Common.{◌≡◌, ℕ, zero, suc, Bool, true, false, List, [], ◌∷◌, ◌++◌, length, flat_map, slice_get, Option, None, Some, refl, sym, ap, subst, inl, inr, arith, ◌∙◌}
+use Rattle.std.specs.Prelude.{if◌then◌else◌}
 use Rattle.std.specs.List.{list_any}
 use Rattle.clif_lex.specs.declared.faults.TextKind.{TextKind}
 use Rattle.clif_lex.specs.declared.spans.Token.{Token}
@@ -15,8 +16,9 @@ use Rattle.ir_check.specs.Faults as rules
 use Rattle.ir_check.proofs.Firsts.{at_most_one}
 use Rattle.ir_core.specs.Module.{Module}
 use Rattle.filetest.specs.declared.report.Report.{Report}
-use Rattle.filetest.specs.Checks.{checks_of, failed}
+use Rattle.filetest.specs.Checks.{checks_of, command_text, failed, is_skipped, passed, report_text, skipped}
 use Rattle.filetest.specs.Report as report
+use Rattle.filetest.specs.Report.{Check, check_text, last_line, skip_text}
 use Rattle.filetest.specs.FaultLines.{AreFaultLines, IsFaultLine}
 use Rattle.filetest.specs.Tested.{HasFaultLines, IsRaw, IsReport, IsTestedModule, asked, is_verifier, needs_module}
 use Rattle.test_directives.specs.Commands as command
@@ -103,10 +105,33 @@ module _ (m : Module) (ts : List FunctionTests) (fs gs : List (Option ℕ)) wher
           let others : flat_map (checks_of m ts fs) cs ≡ flat_map (checks_of m ts gs) cs = more (grind (arith, is, all)) in
           ap (λ l. l ++ flat_map (checks_of m ts fs) cs) first ∙ ap (λ l. checks_of m ts gs c ++ l) others
 
+  none_told : (cs : List Command) → list_any is_verifier cs ≡ false → flat_map (command_text m ts fs) cs ≡ flat_map (command_text m ts gs) cs
+  none_told [] none = refl
+  none_told (c ∷ cs) none = go (is_verifier c) refl none (none_told cs)
+    where
+      go : (b : Bool) → is_verifier c ≡ b → list_any is_verifier (c ∷ cs) ≡ false
+          → (list_any is_verifier cs ≡ false → flat_map (command_text m ts fs) cs ≡ flat_map (command_text m ts gs) cs)
+          → flat_map (command_text m ts fs) (c ∷ cs) ≡ flat_map (command_text m ts gs) (c ∷ cs)
+      go true is all more = absurd (grind (arith, is, all))
+      go false is all more =
+          let first : command_text m ts fs c ≡ command_text m ts gs c =
+          ap (λ (ks : List Check). if is_skipped c then skip_text c else flat_map (check_text c) ks) (without_faults c is) in
+          let others : flat_map (command_text m ts fs) cs ≡ flat_map (command_text m ts gs) cs = more (grind (arith, is, all)) in
+          ap (λ l. l ++ flat_map (command_text m ts fs) cs) first ∙ ap (λ l. command_text m ts gs c ++ l) others
+
   one_count : (b : Bool) (text : List ℕ) (raw : RawModule) (cs : List Command) → list_any is_verifier cs ≡ b
       → HasFaultLines b text raw fs → HasFaultLines b text raw gs → failed m ts fs cs ≡ failed m ts gs cs
   one_count true text raw cs is p q = ap (λ (ls : List (Option ℕ)). failed m ts ls cs) (one_lines text raw fs gs p q)
   one_count false text raw cs is p q = ap report.failed (none_verified cs is)
+
+  one_report_text : (b : Bool) (text : List ℕ) (raw : RawModule) (cs : List Command) → list_any is_verifier cs ≡ b
+      → HasFaultLines b text raw fs → HasFaultLines b text raw gs → report_text m ts fs cs ≡ report_text m ts gs cs
+  one_report_text true text raw cs is p q = ap (λ (ls : List (Option ℕ)). report_text m ts ls cs) (one_lines text raw fs gs p q)
+  one_report_text false text raw cs is p q =
+      let told : flat_map (command_text m ts fs) cs ≡ flat_map (command_text m ts gs) cs = none_told cs is in
+      let checks : flat_map (checks_of m ts fs) cs ≡ flat_map (checks_of m ts gs) cs = none_verified cs is in
+      ap (λ l. l ++ last_line (passed m ts fs cs) (failed m ts fs cs) (skipped cs)) told
+      ∙ ap (λ (ks : List Check). flat_map (command_text m ts gs) cs ++ last_line (report.passed ks) (report.failed ks) (skipped cs)) checks
 
 -- ---- the law
 
@@ -125,3 +150,19 @@ one_failed text r s p q =
     ≡ failed p.tested (all_tests text p.tokens p.raw.functions) q.faults (asked text p.tokens) =
     one_count p.tested (all_tests text p.tokens p.raw.functions) p.faults q.faults (list_any is_verifier (asked text p.tokens)) text p.raw (asked text p.tokens) refl p.are_faults lines in
     p.failed_is ∙ other ∙ ap (λ (m : Module). failed m (all_tests text p.tokens p.raw.functions) q.faults (asked text p.tokens)) (sym same) ∙ sym count
+
+pub one_text : (text : List ℕ) (r s : Report) → IsReport text r → IsReport text s → r.text ≡ s.text
+one_text text r s p q =
+    let tokens : q.tokens ≡ p.tokens = one_list text q.tokens p.tokens q.raw p.raw q.read p.read in
+    let raw : q.raw ≡ p.raw = same_raw text q.tokens p.tokens q.raw p.raw q.read p.read in
+    let Tested : List Token → RawModule → Type 0 = λ ts raw. IsTestedModule (needs_module (asked text ts)) raw q.tested in
+    let tested : Tested p.tokens p.raw = subst (λ (w : RawModule). Tested p.tokens w) raw (subst (λ (ts : List Token). Tested ts q.raw) tokens q.is_tested) in
+    let Lines : List Token → RawModule → Type 0 = λ ts raw. HasFaultLines (list_any is_verifier (asked text ts)) text raw q.faults in
+    let lines : Lines p.tokens p.raw = subst (λ (w : RawModule). Lines p.tokens w) raw (subst (λ (ts : List Token). Lines ts q.raw) tokens q.are_faults) in
+    let Count : List Token → RawModule → Type 0 = λ ts raw. s.text ≡ report_text q.tested (all_tests text ts raw.functions) q.faults (asked text ts) in
+    let count : Count p.tokens p.raw = subst (λ (w : RawModule). Count p.tokens w) raw (subst (λ (ts : List Token). Count ts q.raw) tokens q.text_is) in
+    let same : q.tested ≡ p.tested = one_tested (needs_module (asked text p.tokens)) p.raw q.tested p.tested tested p.is_tested in
+    let other : report_text p.tested (all_tests text p.tokens p.raw.functions) p.faults (asked text p.tokens)
+    ≡ report_text p.tested (all_tests text p.tokens p.raw.functions) q.faults (asked text p.tokens) =
+    one_report_text p.tested (all_tests text p.tokens p.raw.functions) p.faults q.faults (list_any is_verifier (asked text p.tokens)) text p.raw (asked text p.tokens) refl p.are_faults lines in
+    p.text_is ∙ other ∙ ap (λ (m : Module). report_text m (all_tests text p.tokens p.raw.functions) q.faults (asked text p.tokens)) (sym same) ∙ sym count

@@ -30,7 +30,7 @@ use Rattle.clifinl.proofs.Runs as runs
 -- ---- readings
 
 -- a text has one value
-one_value : {A : Type 0} (r : Rule) (value : Tree r → A) (text : List ℕ) (x y : A) → Reads r value text x → Reads r value text y → x ≡ y
+pub one_value : {A : Type 0} (r : Rule) (value : Tree r → A) (text : List ℕ) (x y : A) → Reads r value text x → Reads r value text y → x ≡ y
 one_value r value text x y a b = a.2 ∙ ap value (sym (a.3 b.0 b.1)) ∙ sym b.2
 
 -- numbers that are read are not refused as a list
@@ -39,7 +39,7 @@ no_list text spot stops = λ numbers reads. none_where_read grammar.number_list 
 
 -- ---- entries
 
-found_at : (m : Module) (n : FuncName) (f : Function) → find_function n m ≡ Some f → (i : ℕ) × (slice_get m i ≡ Some f) × (f.name ≡ n)
+pub found_at : (m : Module) (n : FuncName) (f : Function) → find_function n m ≡ Some f → (i : ℕ) × (slice_get m i ≡ Some f) × (f.name ≡ n)
 found_at [] n f e = absurd cc
 found_at (g ∷ m) n f e = go (same_name g.name n) refl e (found_at m n f)
   where
@@ -49,7 +49,7 @@ found_at (g ∷ m) n f e = go (same_name g.name n) refl e (found_at m n f)
     go false same is more = let found = more is in (suc found.0, found.1, found.2)
 
 -- a module that has an entry has not none
-entry_there : (m : Module) (text : List ℕ) → HasEntry m text → HasNoEntry m text → ⊥
+pub entry_there : (m : Module) (text : List ℕ) → HasEntry m text → HasNoEntry m text → ⊥
 entry_there m text entry none =
     let found = found_at m entry.0 entry.1.1.0 entry.1.1.1 in
     none found.0 entry.1.1.0 found.1 (ap spelling found.2 ∙ entry.1.0)
@@ -110,6 +110,12 @@ module _ (s : RunSettings) (before after : Outside) where
   script_refused ReadFault why unread = absurd why
   script_refused WriteFault why unread = absurd why
   script_refused ChecksFailed why unread = absurd why
+
+  -- a script that was read is not refused
+  pub script_kept : (script : Script) (status : Status) → ReadsScript s.script script → Ends status → (count : ℕ) → status ≡ Refused (BadScript count) → ⊥
+  script_kept script status reads run count is =
+      let refused : Ends (Refused (BadScript count)) = subst Ends is run in
+      none_where_read grammar.script s.script refused.cause.0.0 reads.0 reads.1 refused.cause.0.1
 
   -- no module was read
   stop_cause : IsScriptText s.script → (status : Status) → Stopped IsFirstFault before.left after.left before.read_faults after.read_faults status → HasCause s before after status

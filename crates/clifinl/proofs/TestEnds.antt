@@ -1,5 +1,5 @@
 -- How runs of `test` end.
-use Rattle.std.proofs.Common.{◌≡◌, ℕ, ◌<◌, List, Option, Some, length, refl, sym, ap, subst, inl, inr, arith, ◌∙◌}
+use Rattle.std.proofs.Common.{◌≡◌, ℕ, ◌<◌, List, Option, Some, length, refl, sym, ap, subst, inl, inr, arith}
 use Rattle.std.specs.Prelude.{Bool, true, false, ◌==◌}
 use Rattle.clif_lex.specs.declared.faults.Place.{Place}
 use Rattle.clif_lex.specs.declared.faults.TextKind.{TextKind}
@@ -16,39 +16,49 @@ use Rattle.clifinl.specs.declared.status.Status.{Status}
 use Rattle.clifinl.specs.declared.status.Status.TheVariants.{Done, Refused, Usage, ReadFault, WriteFault, NoMemory, ChecksFailed}
 use Rattle.clifinl.specs.declared.status.Refusal.TheVariants.{Text, TooLong, BadScript, NoEntry, BadArgs, BadDirective}
 use Rattle.clifinl.specs.Runs.{GivesTooMany, NoText, Outside, ReadsWhole, Stopped, most_bytes}
-use Rattle.clifinl.specs.TestCommand.{HasNoReport, IsTestFault, IsTestRun, ReportEnds, TookReport, end_of}
-use Rattle.clifinl.proofs.OneReport.{is_module, one_failed, one_list, same_raw}
+use Rattle.clifinl.specs.TestCommand.{CanTest, HasNoReport, IsTestFault, IsTestRun, ReportEnds, TookReport, end_of}
+use Rattle.clifinl.proofs.OneReport.{is_module, one_list, same_raw}
 use Rattle.clifinl.proofs.Runs.{told, told_long}
 
--- ---- a text that has a report is not refused
+-- ---- a text that can be tested is not refused
 
-no_bad_line : (text : List ℕ) (r : Report) (line : ℕ) → IsReport text r → HasBadLine text line → ⊥
-no_bad_line text r line report (ts, raw, is, bad) =
-    let tokens : ts ≡ report.tokens = one_list text ts report.tokens raw report.raw is report.read in
-    let same : raw ≡ report.raw = same_raw text ts report.tokens raw report.raw is report.read in
-    let moved : bad_line text report.tokens report.raw ≡ Some line =
-    subst (λ (m : RawModule). bad_line text report.tokens m ≡ Some line) same (subst (λ (us : List Token). bad_line text us raw ≡ Some line) tokens bad) in
-    let good = report.good in
+pub can_test : (text : List ℕ) (r : Report) → IsReport text r → CanTest text
+can_test text r report = record {
+  tokens = report.tokens;
+  raw = report.raw;
+  read = report.read;
+  good = report.good;
+  tested = report.tested;
+  is_tested = report.is_tested;
+}
+
+pub no_bad_line : (text : List ℕ) (line : ℕ) → CanTest text → HasBadLine text line → ⊥
+no_bad_line text line can (ts, raw, is, bad) =
+    let tokens : ts ≡ can.tokens = one_list text ts can.tokens raw can.raw is can.read in
+    let same : raw ≡ can.raw = same_raw text ts can.tokens raw can.raw is can.read in
+    let moved : bad_line text can.tokens can.raw ≡ Some line =
+    subst (λ (m : RawModule). bad_line text can.tokens m ≡ Some line) same (subst (λ (us : List Token). bad_line text us raw ≡ Some line) tokens bad) in
+    let good = can.good in
     absurd cc
 
-no_later_fault : (text : List ℕ) (r : Report) (k : TextKind) (spot : ℕ) → IsReport text r → HasLaterFault text k spot → ⊥
-no_later_fault text r k spot report (ts, raw, is, good, needed, first) =
-    let tokens : ts ≡ report.tokens = one_list text ts report.tokens raw report.raw is report.read in
-    let same : raw ≡ report.raw = same_raw text ts report.tokens raw report.raw is report.read in
-    let asks : needs_module (asked text report.tokens) ≡ true = subst (λ (us : List Token). needs_module (asked text us) ≡ true) tokens needed in
-    let accepted : IsAcceptedRaw report.raw report.tested = subst (λ (b : Bool). IsTestedModule b report.raw report.tested) asks report.is_tested in
-    meant_is_faultless report.raw report.tested k spot accepted.free accepted.means accepted.accepted (subst (λ (m : RawModule). FirstOfRaw m k spot) same first)
+no_later_fault : (text : List ℕ) (k : TextKind) (spot : ℕ) → CanTest text → HasLaterFault text k spot → ⊥
+no_later_fault text k spot can (ts, raw, is, good, needed, first) =
+    let tokens : ts ≡ can.tokens = one_list text ts can.tokens raw can.raw is can.read in
+    let same : raw ≡ can.raw = same_raw text ts can.tokens raw can.raw is can.read in
+    let asks : needs_module (asked text can.tokens) ≡ true = subst (λ (us : List Token). needs_module (asked text us) ≡ true) tokens needed in
+    let accepted : IsAcceptedRaw can.raw can.tested = subst (λ (b : Bool). IsTestedModule b can.raw can.tested) asks can.is_tested in
+    meant_is_faultless can.raw can.tested k spot accepted.free accepted.means accepted.accepted (subst (λ (m : RawModule). FirstOfRaw m k spot) same first)
 
-no_fault : (text : List ℕ) (r : Report) (k : TextKind) (spot : ℕ) → IsReport text r → IsRefusal text (err.Text k spot) → ⊥
-no_fault text r k spot report (inl unread) = read_is_faultless text report.raw k spot (is_module text report.tokens report.raw report.read) unread
-no_fault text r k spot report (inr later) = no_later_fault text r k spot report later
+pub no_fault : (text : List ℕ) (k : TextKind) (spot : ℕ) → CanTest text → IsRefusal text (err.Text k spot) → ⊥
+no_fault text k spot can (inl unread) = read_is_faultless text can.raw k spot (is_module text can.tokens can.raw can.read) unread
+no_fault text k spot can (inr later) = no_later_fault text k spot can later
 
 -- ---- how the failed checks decide
 
-done_end : (r : Report) → r.failed ≡ 0 → Done ≡ end_of r
+pub done_end : (r : Report) → r.failed ≡ 0 → Done ≡ end_of r
 done_end r none = rw none refl
 
-failed_end : (r : Report) → (r.failed ≡ 0 → ⊥) → ChecksFailed ≡ end_of r
+pub failed_end : (r : Report) → (r.failed ≡ 0 → ⊥) → ChecksFailed ≡ end_of r
 failed_end r some = let other : (r.failed == 0) ≡ false = grind (arith, some) in rw other refl
 
 -- ---- a run for each end
@@ -60,7 +70,7 @@ module _ (before after : Outside) where
   pub out_of_memory : Ends NoMemory
   out_of_memory = record {
     cause = tt;
-    complete = λ bytes r is short report none. inr refl;
+    complete = λ bytes is short can none. inr refl;
     refuses = λ bytes is short no. inr (inr refl);
     too_long = λ bytes is long. inr (inr refl);
   }
@@ -68,7 +78,7 @@ module _ (before after : Outside) where
   not_read : Rose before.read_faults after.read_faults → Ends ReadFault
   not_read rose = record {
     cause = rose;
-    complete = λ bytes r is short report none. absurd (none.reads rose);
+    complete = λ bytes is short can none. absurd (none.reads rose);
     refuses = λ bytes is short no. inr (inl refl);
     too_long = λ bytes is long. inr (inl refl);
   }
@@ -76,7 +86,7 @@ module _ (before after : Outside) where
   given_too_many : GivesTooMany before.left after.left → Ends (Refused TooLong)
   given_too_many many = record {
     cause = many;
-    complete = λ bytes r is short report none. let long = told_long _ _ _ many is in absurd (omega (arith, long, short));
+    complete = λ bytes is short can none. let long = told_long _ _ _ many is in absurd (omega (arith, long, short));
     refuses = λ bytes is short no. let long = told_long _ _ _ many is in absurd (omega (arith, long, short));
     too_long = λ bytes is long. inl refl;
   }
@@ -87,13 +97,13 @@ module _ (before after : Outside) where
       let same : own ≡ bytes = told _ _ _ _ whole is in absurd (omega (arith, long, whole.short, ap length same))
 
   -- the bytes that are told are those that were read
-  report_of_own : (own bytes : List ℕ) (r : Report) → ReadsWhole before.left after.left own → before.left ≡ Some bytes → IsReport bytes r → IsReport own r
-  report_of_own own bytes r whole is report = subst (λ (b : List ℕ). IsReport b r) (sym (told _ _ _ _ whole is)) report
+  of_own : (own bytes : List ℕ) (P : List ℕ → Type 0) → ReadsWhole before.left after.left own → before.left ≡ Some bytes → P bytes → P own
+  of_own own bytes P whole is has = subst P (sym (told _ _ _ _ whole is)) has
 
   faulty : (k : TextKind) (place : Place) (bytes : List ℕ) → ReadsWhole before.left after.left bytes → IsTestFault bytes k place → Ends (Refused (Text k place))
   faulty k place bytes whole fault = record {
     cause = (bytes, whole, fault);
-    complete = λ all r is short report none. absurd (no_fault bytes r k fault.0 (report_of_own bytes all r whole is report) fault.1);
+    complete = λ all is short can none. absurd (no_fault bytes k fault.0 (of_own bytes all CanTest whole is can) fault.1);
     refuses = λ all is short no. inl (inl tt);
     too_long = λ all is long. not_long bytes all whole is long;
   }
@@ -101,7 +111,7 @@ module _ (before after : Outside) where
   misdirected : (line : ℕ) (bytes : List ℕ) → ReadsWhole before.left after.left bytes → HasBadLine bytes line → Ends (Refused (BadDirective line))
   misdirected line bytes whole bad = record {
     cause = (bytes, whole, bad);
-    complete = λ all r is short report none. absurd (no_bad_line bytes r line (report_of_own bytes all r whole is report) bad);
+    complete = λ all is short can none. absurd (no_bad_line bytes line (of_own bytes all CanTest whole is can) bad);
     refuses = λ all is short no. inl (inr tt);
     too_long = λ all is long. not_long bytes all whole is long;
   }
@@ -125,26 +135,26 @@ module _ (before after : Outside) where
     has_report : {Q : Type 0} (bytes : List ℕ) → before.left ≡ Some bytes → ((s : Report) → IsReport bytes s → ⊥) → Q
     has_report bytes is without = absurd (without r (subst (λ (b : List ℕ). IsReport b r) (told _ _ _ _ took.1 is) took.2))
 
-    -- each report of the text has as many failed checks
-    as_many : (bytes : List ℕ) (s : Report) → before.left ≡ Some bytes → IsReport bytes s → s.failed ≡ r.failed
-    as_many bytes s is report = one_failed took.0 s r (report_of_own took.0 bytes s took.1 is report) took.2
+    -- it is that of the bytes that are told
+    its_report : (bytes : List ℕ) → before.left ≡ Some bytes → IsReport bytes r
+    its_report bytes is = subst (λ (b : List ℕ). IsReport b r) (told _ _ _ _ took.1 is) took.2
 
     pub ended : (status : Status) → ReportEnds r before.written after.written before.write_faults after.write_faults status → Ends status
     ended Done ends = record {
       cause = (r, took, ends);
-      complete = λ bytes s is short report none. inl (done_end s (as_many bytes s is report ∙ ends.0));
+      complete = λ bytes is short can none. inl (r, its_report bytes is, done_end r ends.0);
       refuses = λ bytes is short no. has_report bytes is no;
       too_long = λ bytes is long. not_long took.0 bytes took.1 is long;
     }
     ended ChecksFailed ends = record {
       cause = (r, took, ends);
-      complete = λ bytes s is short report none. inl (failed_end s (λ no-failed. ends.0 (sym (as_many bytes s is report) ∙ no-failed)));
+      complete = λ bytes is short can none. inl (r, its_report bytes is, failed_end r ends.0);
       refuses = λ bytes is short no. has_report bytes is no;
       too_long = λ bytes is long. not_long took.0 bytes took.1 is long;
     }
     ended WriteFault ends = record {
       cause = (r, took, ends);
-      complete = λ bytes s is short report none. absurd (none.writes ends.1);
+      complete = λ bytes is short can none. absurd (none.writes ends.1);
       refuses = λ bytes is short no. has_report bytes is no;
       too_long = λ bytes is long. not_long took.0 bytes took.1 is long;
     }

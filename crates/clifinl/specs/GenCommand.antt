@@ -1,6 +1,6 @@
 -- What `gen` writes, and how it ends: it makes a module, and writes its text, or what the pass over it does, in
 -- numbers.
-use Rattle.std.specs.Prelude.{◌≡◌, ℕ, ◌+◌, ◌⊎◌, Bool, false, List, ◌++◌, length, slice_get, count_by, codes, decimal}
+use Rattle.std.specs.Prelude.{◌≡◌, ℕ, ◌+◌, ◌⊎◌, Bool, true, false, List, ◌++◌, length, slice_get, count_by, codes, decimal}
 use Rattle.std.specs.Prelude.{Some, None, is_some, if◌then◌else◌}
 use Rattle.clk_flow.specs.Faults.{Rose}
 use Rattle.gen_mod.specs.Generated.{generated}
@@ -16,6 +16,7 @@ use Rattle.settings.specs.Settings.{GenSettings}
 use Rattle.clifinl.specs.declared.status.Status.{Status}
 use Rattle.clifinl.specs.declared.status.Status.TheVariants.{Done, NoMemory}
 use Rattle.clifinl.specs.InlineCommand.{policy_of}
+use Rattle.clifinl.specs.PrintCommand.{ReadsBack}
 use Rattle.clifinl.specs.RunCommand.{IsUnread}
 use Rattle.clifinl.specs.Runs.{Outside, Wrote}
 
@@ -74,8 +75,10 @@ gen_text s =
     if s.text then text_of (generated s.number s.functions)
     else summary_text (summary_of (policy_of s.pass) (generated s.number s.functions))
 
--- Nothing is read; each status has its cause; and where the sink has no fault, all is done or memory ran out.
+-- Nothing is read; each status has its cause; where the sink has no fault, all is done or memory ran out; and where a
+-- text was written, it reads back.
 pub record IsGenRun (s : GenSettings) (before after : Outside) (status : Status) : Type 0 where
   pub unread : IsUnread before after
   pub cause : Wrote (gen_text s) before.written after.written before.write_faults after.write_faults status
   pub complete : (Rose before.write_faults after.write_faults → ⊥) → (status ≡ Done) ⊎ (status ≡ NoMemory)
+  pub headline : status ≡ Done → s.text ≡ true → ReadsBack (generated s.number s.functions)

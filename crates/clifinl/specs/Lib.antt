@@ -2,8 +2,10 @@ pub mod Asked
 pub mod Codes
 pub mod GenCommand
 pub mod InlineCommand
+pub mod Laws
 pub mod Lines
 pub mod Measured
+pub mod PrintCommand
 pub mod RunCommand
 pub mod Runs
 pub mod TestCommand

@@ -1,5 +1,5 @@
 -- The line that is written on standard error after a refusal. After Usage stands the text of `clap`'s fault, of which
--- nothing is said here.
+-- nothing is said here, or the line of a word that is not UTF-8.
 use Rattle.std.specs.Prelude.{ℕ, List, [], ◌++◌, codes, decimal}
 use Rattle.clif_lex.specs.Faults.{kind_name}
 use Rattle.clifinl.specs.declared.status.Refusal.{Refusal}
@@ -26,3 +26,7 @@ line_of ReadFault = codes "error ReadFault\n"
 line_of WriteFault = codes "error WriteFault\n"
 line_of NoMemory = codes "error NoMemory\n"
 line_of ChecksFailed = []
+
+-- the word of this number, counted from 1 behind the program's name, is not UTF-8
+abbrev pub bad_word_line : ℕ → List ℕ
+bad_word_line number = codes "error: invalid UTF-8 was detected in word " ++ decimal number ++ codes "\n"

@@ -6,7 +6,7 @@ ghost use Rattle.clk_flow.specs.Whole.{AppendsPrefix};
 ghost use Rattle.settings.specs.Meaning.{settings_of};
 ghost use Rattle.settings.specs.Settings as asked;
 ghost use Rattle.settings.specs.Shown.{shown};
-ghost use Rattle.clifinl.specs.Asked.{IsRunOf};
+ghost use Rattle.clifinl.specs.Asked.{IsRunOf, ReadsNothing};
 ghost use Rattle.clifinl.specs.Lines.{line_of};
 ghost use Rattle.clifinl.specs.Runs.{outside};
 
@@ -35,6 +35,7 @@ fn carry_out<R: Threads + Wait + Sync, I: Source, O: Sink, G: Gate>(
     ensures run { IsRunOf (shown settings.now)
         (outside (I.left input.old) (I.faults input.old) (O.written out.old) (O.faults out.old))
         (outside (I.left input.new) (I.faults input.new) (O.written out.new) (O.faults out.new)) result }
+    ensures unread { ReadsNothing (shown settings.now) result → input.new ≡ input.old }
     ensures nothing { (out.new ≡ out.old)
         ⊎ ((result ≡ Status.Done) ⊎ ((result ≡ Status.ChecksFailed) ⊎ (result ≡ Status.WriteFault))) }
 {
@@ -72,6 +73,8 @@ pub fn command<R: Threads + Wait + Sync, I: Source, O: Sink, E: Sink, G: Gate>(
     ensures run { (s : asked.Settings) → settings_of (map string_bytes words.now) ≡ Some s → IsRunOf s
         (outside (I.left input.old) (I.faults input.old) (O.written out.old) (O.faults out.old))
         (outside (I.left input.new) (I.faults input.new) (O.written out.new) (O.faults out.new)) result }
+    ensures unread { (s : asked.Settings) → settings_of (map string_bytes words.now) ≡ Some s → ReadsNothing s result
+        → input.new ≡ input.old }
     ensures nothing { (out.new ≡ out.old)
         ⊎ ((result ≡ Status.Done) ⊎ ((result ≡ Status.ChecksFailed) ⊎ (result ≡ Status.WriteFault))) }
 

@@ -1,9 +1,10 @@
 //! The commands.
 ghost use Rattle.std.specs.Prelude.{◌≡◌, ◌⊎◌};
 ghost use Rattle.clif_check.specs.Faults.{IsAccepted};
-ghost use Rattle.ir_text.specs.Text.{text_of};
+ghost use Rattle.clifinl.specs.PrintCommand.{IsPrintRun};
 ghost use Rattle.clifinl.specs.Runs.{IsFirstFault, IsRun, count_line, outside};
 
+use crate::laws::printed_text_reads_back;
 use crate::reading::{read_canonical_text, read_heads};
 use crate::status::Status;
 use crate::writing::{write_canonical_text, write_count};
@@ -46,11 +47,12 @@ pub(crate) fn print<R: Threads + Wait + Sync, I: Source, O: Sink>(
     input: &mut I,
     out: &mut O,
 ) -> Status
-    ensures run { IsRun IsAccepted IsFirstFault text_of
+    ensures run { IsPrintRun
         (outside (I.left input.old) (I.faults input.old) (O.written out.old) (O.faults out.old))
         (outside (I.left input.new) (I.faults input.new) (O.written out.new) (O.faults out.new)) result }
     ensures nothing { (out.new ≡ out.old) ⊎ ((result ≡ Status.Done) ⊎ (result ≡ Status.WriteFault)) }
 {
+    printed_text_reads_back();
     match read_canonical_text(rt, alloc, WORKERS, input) {
         Ok(written) => {
             let status = write_canonical_text(&written, out);

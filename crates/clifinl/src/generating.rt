@@ -1,14 +1,17 @@
 //! The command `gen`.
 ghost use Rattle.std.specs.Prelude.{◌≡◌, ◌<◌, ◌⊎◌, IfOk};
+ghost use Rattle.gen_mod.specs.Generated.{generated};
 ghost use Rattle.ir_semantics.specs.Accepted.{Accepted};
 ghost use Rattle.ir_text.specs.Writable.{Writable};
 ghost use Rattle.settings.specs.Shown.{gen_shown, inline_shown};
 ghost use Rattle.clifinl.specs.GenCommand.{gen_text, summary_of, summary_text};
 ghost use Rattle.clifinl.specs.InlineCommand.{policy_of};
 ghost use Rattle.clifinl.specs.Measured.{measured};
+ghost use Rattle.clifinl.specs.PrintCommand.{ReadsBack};
 ghost use Rattle.clifinl.specs.Runs.{Wrote};
 
 use crate::commands::WORKERS;
+use crate::laws::canonical_text_reads_back;
 use crate::status::Status;
 use crate::summary::{Summary, measure, write_summary};
 use crate::writing::write_text;
@@ -36,8 +39,11 @@ pub(crate) fn generated<R: Threads + Wait + Sync, O: Sink, G: Gate>(
 ) -> Status
     ensures wrote { Wrote (gen_text (gen_shown options.now))
         (O.written out.old) (O.written out.new) (O.faults out.old) (O.faults out.new) result }
+    ensures reads_back { ReadsBack
+        (generated (gen_shown options.now).number (gen_shown options.now).functions) }
     ensures nothing { (out.new ≡ out.old) ⊎ ((result ≡ Status.Done) ⊎ (result ≡ Status.WriteFault)) }
 {
+    canonical_text_reads_back();
     gen_mod::laws::generated_is_accepted();
     let Ok(module) = generate(alloc, options.number, options.functions) else {
         return Status::NoMemory;

@@ -3,7 +3,7 @@ ghost use Rattle.std.specs.Prelude.{◌≡◌, ◌⊎◌, ◌++◌, OnOk, OnErr,
 ghost use Rattle.std.specs.Io.KnownBytes.{Appends};
 ghost use Rattle.clk_flow.specs.Faults.{HasCause, Rose};
 ghost use Rattle.clk_flow.specs.Whole.{AppendsPrefix};
-ghost use Rattle.clifinl.specs.Lines.{line_of, refusal_line};
+ghost use Rattle.clifinl.specs.Lines.{bad_word_line, line_of, refusal_line};
 
 use crate::pieces::put_all;
 use crate::status::{Refusal, Status};
@@ -71,6 +71,15 @@ fn report<K: Sink>(sink: &mut K, status: Status) -> Result<(), Failed>
         Status::WriteFault => put(sink, b"error WriteFault\n"),
         Status::NoMemory => put(sink, b"error NoMemory\n"),
     }
+}
+
+/// Tells that the word of this number is not UTF-8. It takes no memory.
+pub(crate) fn tell_bad_word<K: Sink>(sink: &mut K, number: u64)
+    ensures told { AppendsPrefix (K.written sink.old) (K.written sink.new) (bad_word_line number) }
+    ensures told_whole { (Rose (K.faults sink.old) (K.faults sink.new) → ⊥)
+        → Appends (K.written sink.old) (K.written sink.new) (bad_word_line number) }
+{
+    let _told = put_numbered(sink, b"error: invalid UTF-8 was detected in word ", number);
 }
 
 /// Tells how a run ended: nothing where all was written, else a line. It takes no memory, and a fault of the sink

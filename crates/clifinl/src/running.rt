@@ -1,5 +1,5 @@
 //! The command `run`.
-ghost use Rattle.std.specs.Prelude.{◌≡◌, ◌⊎◌, IfErr, IfOk, string_bytes};
+ghost use Rattle.std.specs.Prelude.{◌≡◌, ◌⊎◌, ℕ, IfErr, IfOk, string_bytes};
 ghost use Rattle.interp.specs.Outcome.{outcome_of};
 ghost use Rattle.ir_text.specs.TextTree.{spelled};
 ghost use Rattle.program_run.specs.EntryName.{IsSpelledEntry};
@@ -36,6 +36,7 @@ pub(crate) fn run<R: Threads + Wait + Sync, I: Source, O: Sink>(
     ensures run { IsFunctionRun (run_shown asked.now)
         (outside (I.left input.old) (I.faults input.old) (O.written out.old) (O.faults out.old))
         (outside (I.left input.new) (I.faults input.new) (O.written out.new) (O.faults out.new)) result }
+    ensures unread { (count : ℕ) → result ≡ Status.Refused (Refusal.BadScript count) → input.new ≡ input.old }
     ensures nothing { (out.new ≡ out.old) ⊎ ((result ≡ Status.Done) ⊎ (result ≡ Status.WriteFault)) }
 {
     match read_script(alloc, asked.script.as_str()) {

@@ -1,7 +1,7 @@
 -- What `gen` writes, and how it ends: it makes a module, and writes its text, or what the pass over it does, in
 -- numbers.
-use Rattle.std.specs.Prelude.{◌≡◌, ℕ, ◌+◌, ◌⊎◌, Bool, true, false, List, ◌++◌, length, slice_get, count_by, codes, decimal}
-use Rattle.std.specs.Prelude.{Some, None, is_some, if◌then◌else◌}
+use Rattle.std.specs.Prelude.{◌≡◌, ℕ, ◌+◌, ◌⊎◌, Bool, false, List, ◌++◌, length, slice_get, count_by, codes, decimal}
+use Rattle.std.specs.Prelude.{true, Some, None, is_some, if◌then◌else◌}
 use Rattle.clk_flow.specs.Faults.{Rose}
 use Rattle.gen_mod.specs.Generated.{generated}
 use Rattle.inline_pass.specs.Finished.{passed}

@@ -45,8 +45,8 @@ ReportEnds r before after faults now status = ⊥
 
 -- ---- the texts that can be tested
 
--- the text has tokens, they are a raw module, no line of it is a bad directive, and it is accepted where a command needs
--- it
+-- the text has tokens, they are a raw module, no line of it is a bad directive, and where a command needs it, it is
+-- accepted
 pub record CanTest (text : List ℕ) : Type 0 where
   pub tokens : List Token
   pub raw : RawModule

@@ -1,5 +1,5 @@
 -- A text has at most one first fault: of its tokens, of its syntax, of its names and numbers, of the rules.
-use Rattle.std.proofs.Common.{◌≡◌, ℕ, List, Some, Result, Ok, Err, inl, inr, refl, sym, ap, subst, ◌∙◌}
+use Rattle.std.proofs.Common.{◌≡◌, ℕ, List, Result, Ok, Err, inl, inr, refl, sym, ap, subst, ◌∙◌}
 use Rattle.grammar.specs.Rules as grammar
 use Rattle.grammar.specs.Rules.{Lexeme, Kind}
 use Rattle.grammar.proofs.OneStop.{one_stop}

@@ -22,7 +22,8 @@ use std::thread::Threads;
 
 /// The accepted module that a text is, read by so many workers. All stages take time linear in the text, but for
 /// logarithms. Of a long text each function is checked as soon as it is read, and its callee declarations at the end;
-/// where the text is not accepted, it is read again by the calling thread alone.
+/// where the text is not accepted, or many callees of a function share a long signature, it is read again by the
+/// calling thread alone.
 ///
 /// # Errors
 ///

@@ -6,6 +6,7 @@ ghost use Rattle.ir_core.specs.WellFormed.{DifferentNames};
 ghost use Rattle.ir_semantics.specs.CallRules.{Declared};
 ghost use Rattle.clif_check.specs.Declarations.{DeclareWithin, DeclaresAt, IsFunctionRange};
 
+use crate::comparing::compares_in_linear_time;
 use body_import::is_same_sig;
 use ir_core::{Callee, Func, FuncName, Heads, Module};
 use range_workers::{Ranges, end_behind, read_by_workers};
@@ -79,12 +80,16 @@ fn declares<N: Named>(all: &N, func: &Func, callee: &Callee) -> bool
     }
 }
 
-/// Whether each callee declaration of the function at a place does.
+/// Whether each callee declaration of the function at a place does. False also where it takes too long to compare their
+/// signatures list by list.
 fn declares_at<N: Named>(all: &N, place: usize) -> bool
     requires { place < length (N.functions all.now) }
     ensures { result ≡ true → DeclaresAt (N.functions all.now) place }
 {
     let func = all.func_at(place);
+    if !compares_in_linear_time(func) {
+        return false;
+    }
     for callee in func.callees() {
         if !declares(all, func, callee) {
             return false;
@@ -136,7 +141,9 @@ impl<'n, N: Named + Sync> Ranges<()> for NamedRanges<'n, N> {
 const FUNCTIONS: usize = 1_024;
 
 /// Whether each callee declaration of these functions states the signature of the function that it names, if there is
-/// one; by so many workers. Of the functions heads are enough. False also where memory runs out.
+/// one; by so many workers, in time linear in what the functions declare. Of the functions heads are enough. False also
+/// where memory runs out, and where many callees of one function share a long signature: there `check` is faster, which
+/// compares signatures by their numbers.
 pub fn declare_all<R: Threads + Sync, N: Named + Sync>(
     rt: &R,
     alloc: Global,

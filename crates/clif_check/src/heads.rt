@@ -50,7 +50,8 @@ fn take_functions(alloc: Global, checked: Checked) -> Result<Heads, TextErr>
 /// The heads of the functions of the accepted module that a text is, checked by so many workers. Of a long text each
 /// function is checked as soon as it is read, and then its body is let go (of a short one bodies may stay): so memory
 /// is needed for the text, for the heads, and for a stretch and a function of each worker. All stages take time linear
-/// in the text, but for logarithms. A text that is not accepted is read again by the calling thread alone.
+/// in the text, but for logarithms. A text that is not accepted, and one in which many callees of a function share a
+/// long signature, is read again by the calling thread alone, which keeps all bodies.
 ///
 /// # Errors
 ///

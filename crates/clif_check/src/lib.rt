@@ -2,6 +2,7 @@
 #![tactic(auto)]
 
 mod checking;
+mod comparing;
 mod declarations;
 mod heads;
 pub mod laws;

@@ -41,38 +41,42 @@ pub(crate) fn inline<R: Threads + Wait + Sync, I: Source, O: Sink, G: Gate>(
 {
     inlined_reads::laws::inlined_text_is_kept();
     match read_module(rt, alloc, options.workers, input) {
-        Ok(checked) => { write_inlined(rt, alloc, checked, options, out, gate) }
+        Ok(checked) => {
+            let status = write_inlined(rt, alloc, &checked, options, out, gate);
+            // The program ends here: its memory goes with it, and not part by part before.
+            forget(checked);
+            status
+        }
         Err(status) => status,
     }
 }
 
-/// Writes the canonical text of a module's finished bodies. The module is let go before they are printed.
+/// Writes the canonical text of a module's finished bodies.
 fn write_inlined<R: Threads + Wait + Sync, O: Sink, G: Gate>(
     rt: &R,
     alloc: Global,
-    checked: Checked,
+    checked: &Checked,
     options: &InlineSettings,
     out: &mut O,
     gate: &G,
 ) -> Status
-    ensures wrote { Wrote (inlined_text (policy_of (inline_shown options.now)) checked)
+    ensures wrote { Wrote (inlined_text (policy_of (inline_shown options.now)) checked.now)
         (O.written out.old) (O.written out.new) (O.faults out.old) (O.faults out.new) result }
     ensures nothing { (out.new ≡ out.old) ⊎ ((result ≡ Status.Done) ⊎ (result ≡ Status.WriteFault)) }
 {
     inlined_reads::laws::inlined_text_is_one();
-    let finished = pass_counted::<R, G, Brand>(rt, alloc, &checked, options, gate, Blank::new(1));
-    // Nothing looks at what was read from here on: its memory goes to the text.
-    drop(checked);
-    let Ok(finished) = finished else {
-        return Status::NoMemory;
-    };
-    let bodies = Bodies {
-        finished: &finished,
-    };
-    let status = write_text(rt, alloc, &bodies, options.workers, out);
-    // The program ends here: its memory goes with it, and not part by part before.
-    forget(finished);
-    status
+    let workers = options.workers;
+    match pass_counted::<R, G, Brand>(rt, alloc, checked, options, gate, Blank::new(1)) {
+        Ok(finished) => {
+            let bodies = Bodies {
+                finished: &finished,
+            };
+            let status = write_text(rt, alloc, &bodies, workers, out);
+            forget(finished);
+            status
+        }
+        Err(_) => Status::NoMemory,
+    }
 }
 
 /// The finished bodies of a module, with a counter of the steps, which nobody reads here.

@@ -26,13 +26,28 @@ CALL = '    call fn0()\n'
 
 # ---- check: functions of many blocks
 
+# The first blocks of a function: a value behind two ways, so that where it is available takes the paths.
+FORK = """function %f(i64) -> i64 fast {
+block0(v0: i64):
+    brif v0, block900001, block900002
+
+block900001:
+    jump block900003
+
+block900002:
+    jump block900003
+
+block900003:
+    v7 = iconst.i64 7
+"""
+
+
 def blocks(count, other, first='    jump block1\n'):
-    """A function of a chain of blocks, each of which may also go to another one. A value of the third is used in the
-    last, so whether it is available takes the paths: the first blocks do not lead to one block each."""
-    parts = ['function %f(i64) -> i64 fast {\nblock0(v0: i64):\n', first, '\nblock1:\n']
+    """A function of a chain of blocks, each of which may also go to another one. A value from before the chain is used
+    in the last."""
+    parts = [FORK, first, '\nblock1:\n']
     for i in range(1, count):
-        defined = '    v7 = iconst.i64 7\n' if i == 2 else ''
-        parts.append(f'{defined}    brif v0, block{i + 1}, block{other(i)}\n\nblock{i + 1}:\n')
+        parts.append(f'    brif v0, block{i + 1}, block{other(i)}\n\nblock{i + 1}:\n')
     parts.append('    v5 = iadd v7, v0\n    return v5\n\n')
     return ''.join(parts)
 
@@ -54,8 +69,7 @@ def back_to_half(count):
 
 def there_and_back(count):
     """Each block may go to the one before it, and the entry to both ends: no order of the blocks is one of loops."""
-    return blocks(count, lambda i: max(i - 1, 1), f'    brif v0, block1, block{count}\n').replace(
-        'v5 = iadd v7, v0\n    return v5', 'return v0') + '}\n'
+    return blocks(count, lambda i: max(i - 1, 1), f'    brif v0, block1, block{count}\n') + '}\n'
 
 
 def skips(count):
@@ -71,7 +85,7 @@ def nested_loops(count):
 def two_chains(count):
     """Two chains of blocks, side by side, each block of which may go over to the other chain."""
     half = count // 2
-    parts = ['function %f(i64) -> i64 fast {\nblock0(v0: i64):\n    v7 = iconst.i64 7\n    brif v0, block1, block2\n\n']
+    parts = [FORK, '    brif v0, block1, block2\n\n']
     for i in range(1, half):
         for side in (0, 1):
             at = 2 * i - 1 + side

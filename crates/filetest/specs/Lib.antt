@@ -12,6 +12,7 @@ pub mod Placing
 pub mod Refusing
 pub mod Report
 pub mod Reporting
+pub mod Sections
 pub mod Taking
 pub mod Telling
 pub mod Tested

@@ -5,11 +5,13 @@
 #![tactic(auto)]
 
 mod inlining;
+mod kinds;
 pub mod laws;
 mod line_checks;
 mod lines;
 mod report;
 mod runs;
+mod sections;
 mod testing;
 mod texts;
 mod verifying;

@@ -15,6 +15,7 @@ ghost use Rattle.filetest.specs.Tested.{is_verifier, needs_module, HasFaultLines
 use crate::inlining::check_inlined;
 use crate::report::{Report, Writer};
 use crate::runs::check_runs;
+use crate::sections::Sections;
 use crate::texts::check_lines;
 use crate::verifying::{check_faults, fault_lines};
 use clif_check::check_raw;
@@ -167,7 +168,7 @@ fn needed_fault_lines(
 }
 
 /// Carries out a command, and tells of each check.
-fn carry_out(
+pub(crate) fn carry_out(
     alloc: Global,
     command: &Command,
     checked: &Checked,
@@ -200,7 +201,7 @@ fn carry_out(
     }
 }
 
-/// The report of all commands.
+/// The report of all commands. Of equal ones one is carried out.
 fn report_of(
     alloc: Global,
     commands: &[Command],
@@ -214,16 +215,17 @@ fn report_of(
         (map command_of commands.now)) }
 {
     let mut out = Writer::new(alloc);
+    let mut sections = Sections::new(alloc);
     for i in 0..commands.len() {
-        carry_out(alloc, &commands[i], checked, tests, faults, &mut out)?;
+        sections.tell(alloc, &commands[i], checked, tests, faults, &mut out)?;
     }
     out.finish()
 }
 
 /// Carries out what the header lines of a text ask for, and tells of each check. The text has to be accepted where a
-/// command other than `verifier` is carried out; else its tokens and its grammar alone refuse it. Each command takes
-/// time linear in the text, but for logarithms, for the steps of its runs, and for `not:` tests, each of which is
-/// compared with each line of its range.
+/// command other than `verifier` is carried out; else its tokens and its grammar alone refuse it. Each
+/// different command takes time linear in the text, but for logarithms, for the steps of its runs, and for `not:` tests,
+/// each of which is compared with each line of its range; what an equal one tells is told again.
 ///
 /// # Errors
 ///

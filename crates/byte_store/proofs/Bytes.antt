@@ -1,5 +1,5 @@
 -- Numbers and their bytes, in memory and in slots.
-use Rattle.std.proofs.Common.{◌≡◌, ℕ, zero, suc, ◌+◌, ◌*◌, ◌^◌, ◌/◌, ◌%◌, ◌-◌, ◌<◌, ◌≤◌, List, [], ◌∷◌, ◌++◌, length, take, drop, reverse, get_or, set, refl, arith, ap, ◌∙◌, sym, subst, append_assoc, append-nil, pow_mono, Option, Some, None, if◌then◌else◌, nat_le, Bool, true, false, drop-cons, sub-one, add-one, length-drop, pow-add, Fits, w8, inl, inr}
+use Rattle.std.proofs.Common.{◌≡◌, ℕ, zero, suc, ◌+◌, ◌*◌, ◌^◌, ◌/◌, ◌%◌, ◌-◌, ◌<◌, ◌≤◌, List, [], ◌∷◌, ◌++◌, length, take, drop, reverse, get_or, set, refl, arith, ap, ◌∙◌, sym, subst, append_assoc, append-nil, pow_mono, Option, Some, None, if◌then◌else◌, Bool, true, false, drop-cons, sub-one, add-one, length-drop, pow-add, Fits, w8, inl, inr}
 use Rattle.std.proofs.lemmas.List.{take_more_set, get_or-drop, get_or-reverse, length-reverse, get_or_past, drop-drop, drop_all, take_all, length-take-le, length-append, length-set}
 use Rattle.std.proofs.lemmas.Bool.{le-leb, lt-leb, cases_lt}
 use Rattle.std.proofs.Math.Seq.{drop-length, take-length}

@@ -1,5 +1,5 @@
 //! Cells that are written one by one.
-ghost use Rattle.std.specs.Prelude.{◌≡◌, [], OnOk, OnErr};
+ghost use Rattle.std.specs.Prelude.{◌≡◌, ◌<◌, ◌≤◌, [], length, OnOk, OnErr};
 ghost use Rattle.byte_store.specs.Cells.{cell_of, put_cell};
 
 use std::alloc::{AllocError, Global};
@@ -43,6 +43,28 @@ impl<T: Copy> Cells<T> {
         } else {
             None
         }
+    }
+
+    /// Makes place for the first `len` cells. What is written stays as it was; an `Err` is want of memory.
+    #[inline]
+    pub fn make_room(&mut self, len: usize) -> Result<(), AllocError>
+        ensures same { cell_of self.new ≡ cell_of self.old }
+        ensures room { OnOk result (len ≤ length self.new) }
+    {
+        'room: while self.cells.len() < len {
+            self.cells.push(None)?;
+        }
+        Ok(())
+    }
+
+    /// Writes a cell that has its place.
+    #[inline]
+    pub fn set(&mut self, at: usize, value: T)
+        requires { at < length self.old }
+        ensures written { cell_of self.new ≡ put_cell (cell_of self.old) at value }
+        ensures room { length self.new ≡ length self.old }
+    {
+        self.cells[at] = Some(value);
     }
 
     /// Writes a cell. Only `AllocError` refuses; then no cell has changed.

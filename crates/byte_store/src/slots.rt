@@ -1,5 +1,6 @@
 //! The bytes of a frame's slots.
-ghost use Rattle.std.specs.Prelude.{◌≡◌, ◌*◌, ◌^◌, ◌<◌, ◌≤◌, OnOk, OnErr, IfOk, MatchResult};
+ghost use Rattle.std.specs.Prelude.{◌≡◌, ◌*◌, ◌^◌, ◌<◌, ◌≤◌, [], length, OnOk, OnErr, IfOk, MatchResult};
+ghost use Rattle.std.proofs.Common.{get_or};
 ghost use Rattle.ir_semantics.specs.Values.{unwritten, bytes_from, put_byte, put_bytes, bytes_of};
 ghost use Rattle.byte_store.specs.Cells.{bytes_at};
 ghost use Rattle.byte_store.specs.Bytes.{number_at};
@@ -66,21 +67,34 @@ impl Slots {
         Ok(number)
     }
 
-    /// Writes a byte at an offset of a slot. Only `AllocError` refuses; then no byte has changed.
-    fn put(&mut self, slot: u32, offset: usize, byte: u8) -> Result<(), AllocError>
-        ensures ok { OnOk result (bytes_at self.new ≡ put_byte (bytes_at self.old) slot offset byte) }
-        ensures err { OnErr result (bytes_at self.new ≡ bytes_at self.old) }
+    /// Makes place for the first `len` bytes of a slot. What is written stays as it was; an `Err` is want of memory.
+    fn make_room(&mut self, slot: usize, len: usize) -> Result<(), AllocError>
+        ensures same { bytes_at self.new ≡ bytes_at self.old }
+        ensures slot { OnOk result (slot < length self.new) }
+        ensures room { OnOk result (len ≤ length (get_or self.new slot [])) }
     {
-        let slot = slot as usize;
-        'room: while self.slots.len() <= slot {
+        'slots: while self.slots.len() <= slot {
             self.slots.push(Cells::new(self.alloc))?;
         }
         let cells = &mut self.slots[slot];
-        cells.put(offset, byte)
+        cells.make_room(len)
     }
 
-    /// Writes the lowest bytes of a number from an offset of a slot on, the lowest first. Only `AllocError` refuses;
-    /// then some of the bytes may be written.
+    /// Writes a byte that has its place.
+    fn set(&mut self, slot: usize, offset: usize, byte: u8)
+        requires slot { slot < length self.old }
+        requires room { offset < length (get_or self.old slot []) }
+        ensures written { bytes_at self.new ≡ put_byte (bytes_at self.old) slot offset byte }
+        ensures slot { length self.new ≡ length self.old }
+        ensures room { length (get_or self.new slot []) ≡ length (get_or self.old slot []) }
+    {
+        let cells = &mut self.slots[slot];
+        cells.set(offset, byte);
+    }
+
+    /// Writes the lowest bytes of a number from an offset of a slot on, the lowest first. Slots take memory as they are
+    /// written, so a frame costs nothing for slots that it does not use: only `AllocError` refuses, and then the slots
+    /// are as they were.
     pub fn write(
         &mut self,
         slot: u32,
@@ -88,11 +102,17 @@ impl Slots {
         bytes: u32,
         value: u128,
     ) -> Result<(), AllocError>
-        ensures { OnOk result (bytes_at self.new ≡ put_bytes (bytes_at self.old) slot offset (bytes_of bytes value)) }
+        requires { bytes ≤ 16 }
+        ensures ok { OnOk result
+            (bytes_at self.new ≡ put_bytes (bytes_at self.old) slot offset (bytes_of bytes value)) }
+        ensures err { OnErr result (bytes_at self.new ≡ bytes_at self.old) }
     {
+        let slot = slot as usize;
+        let offset = offset as usize;
+        self.make_room(slot, offset + bytes as usize)?;
         let mut rest = value;
         'bytes: for i in 0..bytes {
-            self.put(slot, offset as usize + i as usize, (rest % 256) as u8)?;
+            self.set(slot, offset + i as usize, (rest % 256) as u8);
             rest /= 256;
         }
         Ok(())

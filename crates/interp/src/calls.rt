@@ -161,21 +161,22 @@ pub fn call<'m>(
     Ok(None)
 }
 
-/// A call of the function at a place, in place of the frame on top.
+/// A call of the function at a place, in place of the frame on top. The new frame takes over the numbers in front of the
+/// tags.
 pub fn return_call<'m>(
     alloc: Global,
     program: &Program<'m>,
     top: &mut Frame<'m>,
     at: usize,
     args: &[Bits],
-    extra: Vec<u32>,
 ) -> Result<Option<Stop>, AllocError>
     requires linked { Linked program.now }
     ensures { IfOk result (λ r. (below : List DeclaredWait) (w : RunWorld)
         → moment program.now.module.now top.new below w r
-        ≡ step.must w (step.begin (function_at program.now.module.now at) (data_of_all args.now) extra.items) Stuck
-        (λ y. On y (waits_of program.now.module.now below) w)) }
+        ≡ step.must w (step.begin (function_at program.now.module.now at) (data_of_all args.now) top.old.extra.items)
+        Stuck (λ y. On y (waits_of program.now.module.now below) w)) }
 {
+    let extra = mem::replace(&mut top.extra, Vec::new(alloc));
     let Some(frame) = begin(alloc, program, at, args, extra)? else {
         return Ok(Some(Stop::Stuck));
     };
@@ -183,15 +184,14 @@ pub fn return_call<'m>(
     Ok(None)
 }
 
-/// The numbers in front of the tags of a tail call, then its tags. False where one of these is a slot.
-pub fn join_numbers(extra: &[u32], tags: &[Tag], out: &mut Vec<u32>) -> Result<bool, AllocError>
-    ensures { IfOk result (λ b. some_if b out.new.items ≡ join (Some extra.now) (step.numbers tags.now)) }
+/// Appends the numbers that the tags of a tail call are. False where one of them is a slot.
+pub fn add_numbers(tags: &[Tag], numbers: &mut Vec<u32>) -> Result<bool, AllocError>
+    ensures { IfOk result (λ b. some_if b numbers.new.items
+        ≡ join (Some numbers.old.items) (step.numbers tags.now)) }
 {
-    out.clear();
-    out.extend_from_slice(extra)?;
     'tags: for tag in tags {
         match tag {
-            Tag::User(number) => out.push(*number)?,
+            Tag::User(number) => numbers.push(*number)?,
             Tag::Slot(_) => return Ok(false),
         }
     }

@@ -1,5 +1,5 @@
 //! Calls of what a call finds: a function of the module, a host function, or nothing.
-ghost use Rattle.std.specs.Prelude.{◌≡◌, ◌∷◌, [], map, IfOk, OnOk};
+ghost use Rattle.std.specs.Prelude.{◌≡◌, ◌∷◌, ◌++◌, [], map, IfOk, OnOk};
 ghost use Rattle.ir_core.specs.Module.{Module as RunModule};
 ghost use Rattle.clk_num.specs.Views.{data_of_all};
 ghost use Rattle.ir_core.specs.Viewed.{line_of};
@@ -108,7 +108,8 @@ pub fn invoke<'m>(
     }
 }
 
-/// A call of what was found, in place of the frame on top. `extra` are the numbers in front of the new frame's tags.
+/// A call of what was found, in place of the frame on top. `own` are the numbers that the line's tags are: a new frame
+/// takes over the numbers in front of the tags, and these behind them, so a call costs nothing for those before it.
 pub fn invoke_tail<'m>(
     alloc: Global,
     program: &Program<'m>,
@@ -117,7 +118,7 @@ pub fn invoke_tail<'m>(
     world: &mut World<'m>,
     line: &'m InstData,
     target: Target<'m>,
-    extra: Vec<u32>,
+    own: &[u32],
     values: &mut Vec<Bits>,
     xs: &mut Vec<Bits>,
 ) -> Result<Option<Stop>, AllocError>
@@ -125,11 +126,14 @@ pub fn invoke_tail<'m>(
     ensures { IfOk result
         (λ r. let m = program.now.module.now in let s = waits_of m below.old.items in moment m top.new below.new.items
         (world_of world.new) r
-        ≡ step.invoke (target_of m target.entry) (data_of_all values.old.items) extra.items
+        ≡ step.invoke (target_of m target.entry) (data_of_all values.old.items) (top.old.extra.items ++ own.now)
         (step.shown (record { line = line_of line.now; frame = frame_of m top.old } ∷ s)) s (world_of world.old)) }
 {
     match target {
-        Target::Inside(at) => return_call(alloc, program, top, at, values, extra),
+        Target::Inside(at) => {
+            top.extra.extend_from_slice(own)?;
+            return_call(alloc, program, top, at, values)
+        }
         Target::Outside(name, sig) => {
             let Some(shown) = show(alloc, program, top, below.as_slice(), line)? else {
                 return Ok(Some(Stop::At(End::Unwritten)));

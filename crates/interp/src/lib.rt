@@ -25,7 +25,7 @@ mod throws;
 
 pub use accesses::{load, store};
 pub use branches::{br_table, brif, jump};
-pub use calls::{begin, join_numbers};
+pub use calls::{add_numbers, begin};
 pub use held::{Held, Register};
 pub use hosts::fit_values;
 pub use invokes::{invoke, invoke_tail};

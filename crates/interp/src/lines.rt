@@ -6,7 +6,7 @@ ghost use Rattle.ir_semantics.specs.Machine.{World as RunWorld, Stuck};
 ghost use Rattle.ir_semantics.specs.Effect.{ShowTags, Give, need, calls};
 ghost use Rattle.interp.specs.State.{env_of, world_of, moment, done, Linked};
 
-use crate::calls::{find_callee, join_numbers, resume};
+use crate::calls::{add_numbers, find_callee, resume};
 use crate::invokes::{invoke, invoke_tail};
 use crate::moves::read_all;
 use crate::outcome::{End, Event};
@@ -106,12 +106,12 @@ pub fn tail_call_callee<'m>(
     if !read_all(&top.values, args, values)? {
         return Ok(Some(Stop::Stuck));
     }
-    let mut extra = Vec::new(alloc);
-    if !join_numbers(top.extra.as_slice(), line.tags.list(), &mut extra)? {
+    let mut own = Vec::new(alloc);
+    if !add_numbers(line.tags.list(), &mut own)? {
         return Ok(Some(Stop::Stuck));
     }
     let target = find_callee(program, top.at, callee);
     invoke_tail(
-        alloc, program, top, below, world, line, target, extra, values, xs,
+        alloc, program, top, below, world, line, target, &own, values, xs,
     )
 }

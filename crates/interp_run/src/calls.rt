@@ -12,7 +12,7 @@ ghost use Rattle.interp_run.specs.Addressing.{IsAddressed};
 use crate::addresses::{Addresses, address_of_callee, find_address};
 use clk_num::{Bits, Width};
 use interp::{
-    Frame, Program, Stop, Wait, World, give_results, invoke, invoke_tail, join_numbers, read_all,
+    Frame, Program, Stop, Wait, World, add_numbers, give_results, invoke, invoke_tail, read_all,
 };
 use ir_core::{FuncRef, InstData, SigRef, Value};
 use std::alloc::{AllocError, Global};
@@ -105,12 +105,12 @@ pub fn tail_call_address<'m>(
     if !read_all(&top.values, args, values)? {
         return Ok(Some(Stop::Stuck));
     }
-    let mut extra = Vec::new(alloc);
-    if !join_numbers(top.extra.as_slice(), line.tags.list(), &mut extra)? {
+    let mut own = Vec::new(alloc);
+    if !add_numbers(line.tags.list(), &mut own)? {
         return Ok(Some(Stop::Stuck));
     }
     let target = find_address(program, addresses, top.at, sig, base.value());
     invoke_tail(
-        alloc, program, top, below, world, line, target, extra, values, xs,
+        alloc, program, top, below, world, line, target, &own, values, xs,
     )
 }

@@ -1,5 +1,4 @@
-use Rattle.std.proofs.Common.{◌≡◌, ◌<◌, ◌*◌, ◌+◌, ◌^◌, ◌-◌, arith, sym, ◌∙◌, ap, rules, length, drop, get_or}
-use Rattle.ir_semantics.specs.Values.{number_of, by_endian}
+use Rattle.std.proofs.Common.{◌+◌, arith, sym, ◌∙◌, ap, rules, get_or}
 use Rattle.byte_store.proofs.Bytes.{higher_none, higher_next, higher_fits, higher_all, number_small}
 use Rattle.byte_store.proofs.memory.number.Goals as goal
 

@@ -1,4 +1,4 @@
-use Rattle.std.proofs.Common.{◌≡◌, ◌∙◌, sym, ap, length, rules, reverse, if◌then◌else◌, true, false, arith, ◌<◌}
+use Rattle.std.proofs.Common.{◌≡◌, ◌∙◌, sym, ap, length, rules, reverse}
 use Rattle.ir_semantics.specs.Values.{bytes_of, by_endian}
 use Rattle.byte_store.proofs.Bytes.{fill_step, fill_end}
 use Rattle.byte_store.proofs.memory.put_number.Goals as goal

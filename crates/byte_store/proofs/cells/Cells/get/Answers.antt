@@ -1,4 +1,4 @@
-use Rattle.std.proofs.Common.{sym, None, ◌∙◌, ap, ◌<◌, ◌≤◌, length, rules}
+use Rattle.std.proofs.Common.{sym, ◌∙◌, ap, ◌<◌, ◌≤◌, length, rules}
 use Rattle.byte_store.specs.Cells.{cell_of}
 use Rattle.byte_store.proofs.Room.{cell_within, cell_past}
 use Rattle.byte_store.proofs.cells.Cells.get.Goals as goal

@@ -1,4 +1,4 @@
-use Rattle.std.proofs.Common.{◌≡◌, ◌∙◌, sym, ap, ◌<◌, arith, length, vec_len, rules}
+use Rattle.std.proofs.Common.{◌≡◌, ◌∙◌, ap, rules}
 use Rattle.byte_store.specs.Cells.{cell_of, put_cell}
 use Rattle.byte_store.proofs.Room.{more_room, set_is_put, on_err}
 use Rattle.byte_store.proofs.cells.Cells.put.Goals as goal

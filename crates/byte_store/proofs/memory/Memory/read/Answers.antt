@@ -1,4 +1,4 @@
-use Rattle.std.proofs.Common.{◌≡◌, ◌∙◌, sym, ap, rules, arith, Some, take, drop, length, ◌+◌, ◌-◌, ◌<◌, ◌≤◌, List, ℕ, ◌*◌, ◌^◌, subst, length-drop}
+use Rattle.std.proofs.Common.{◌≡◌, ◌∙◌, ap, rules, arith, Some, take, drop, length, ◌+◌, ◌-◌, ◌<◌, ◌≤◌, List, ℕ, ◌*◌, ◌^◌, subst, length-drop}
 use Rattle.std.proofs.lemmas.List.{take_rest, length-take-le}
 use Rattle.ir_semantics.specs.Values.{number_of, by_endian, memory_read}
 use Rattle.byte_store.specs.Bytes.{number_by}

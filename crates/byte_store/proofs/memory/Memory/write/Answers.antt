@@ -1,4 +1,4 @@
-use Rattle.std.proofs.Common.{◌≡◌, ◌∙◌, sym, ap, rules, arith, Some, take, drop, length, ◌++◌, ◌+◌, ◌-◌, ◌<◌, ◌≤◌, List, ℕ}
+use Rattle.std.proofs.Common.{◌≡◌, ◌∙◌, ap, rules, Some, take, drop, length, ◌+◌, ◌-◌, ◌<◌, ◌≤◌, List, ℕ}
 use Rattle.ir_semantics.specs.Values.{bytes_of, by_endian, memory_write}
 use Rattle.byte_store.proofs.Bytes.{write_in, write_out, bytes_length, endian_length, splice_written, range_length}
 use Rattle.byte_store.proofs.memory.Memory.write.Goals as goal

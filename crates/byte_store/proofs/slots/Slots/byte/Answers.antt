@@ -1,4 +1,4 @@
-use Rattle.std.proofs.Common.{◌≡◌, ◌∙◌, sym, ap, rules, length, ◌<◌, ◌≤◌}
+use Rattle.std.proofs.Common.{◌∙◌, ap, rules, length, ◌<◌, ◌≤◌}
 use Rattle.byte_store.specs.Cells.{cell_of, bytes_at}
 use Rattle.byte_store.proofs.SlotRoom.{byte_there, byte_past}
 use Rattle.byte_store.proofs.slots.Slots.byte.Goals as goal

@@ -1,5 +1,4 @@
-use Rattle.std.proofs.Common.{◌≡◌, ◌∙◌, sym, ap, rules, arith, ◌+◌, ◌-◌, ◌*◌, ◌^◌, ◌<◌, ◌≤◌, Some, None, ℕ, lit<}
-use Rattle.std.proofs.Math.Facts.{Fits-of_lt}
+use Rattle.std.proofs.Common.{◌≡◌, ◌∙◌, ap, rules, arith, ◌+◌, ◌-◌, ◌*◌, ◌^◌, ◌<◌, Some, lit<}
 use Rattle.ir_semantics.specs.Values.{bytes_from}
 use Rattle.byte_store.specs.Cells.{bytes_at}
 use Rattle.byte_store.specs.Bytes.{number_at}

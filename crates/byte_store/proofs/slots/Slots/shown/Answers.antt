@@ -1,4 +1,4 @@
-use Rattle.std.proofs.Common.{◌≡◌, ◌∙◌, sym, ap, rules, arith, ◌+◌, ◌-◌, ◌<◌, Some, None}
+use Rattle.std.proofs.Common.{◌≡◌, ◌∙◌, ap, arith, ◌+◌, ◌-◌, Some}
 use Rattle.ir_semantics.specs.Values.{bytes_from, join}
 use Rattle.byte_store.specs.Cells.{bytes_at}
 use Rattle.byte_store.proofs.Bytes.{shown_next, from_lacks}

@@ -1,7 +1,0 @@
-use Rattle.std.proofs.Common.{◌≡◌, Some, drop}
-use Rattle.ir_semantics.specs.Values.{join}
-use Rattle.ir_semantics.specs.Step.{numbers}
-use Rattle.interp.proofs.calls.join_numbers.Given as goal
-
-abbrev pub invariant-tags : goal.invariant-tags
-invariant-tags l = join (Some l.out.items) (numbers (drop l.tag-index l.tags)) ≡ join (Some l.extra) (numbers l.tags)

@@ -6,7 +6,6 @@ pub mod RunEnds
 pub mod InlineEnds
 pub mod PrintEnds
 pub mod GenEnds
-pub mod OneReport
 pub mod TestEnds
 pub mod Examples
 pub mod Measures

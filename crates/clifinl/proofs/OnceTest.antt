@@ -16,8 +16,8 @@ use Rattle.clifinl.specs.declared.status.Status.TheVariants.{Refused}
 use Rattle.clifinl.specs.declared.status.Refusal.TheVariants.{BadDirective, Text}
 use Rattle.clifinl.specs.TestCommand.{IsTestFault, end_of}
 use Rattle.clifinl.proofs.Once.{Once, StopsAs, first_once, same_stop}
-use Rattle.clifinl.proofs.OneReport.{is_module, one_failed, one_list, one_text, same_raw}
-use Rattle.clifinl.proofs.TestEnds.{can_test, no_bad_line, no_fault}
+use Rattle.filetest.proofs.OneReport.{is_module, one_list, one_report, reported_can_be_tested, same_raw}
+use Rattle.clifinl.proofs.TestEnds.{no_bad_line, no_fault}
 
 -- ---- refusals
 
@@ -60,13 +60,12 @@ module _ (bytes : List ℕ) where
 
   pub of_test_once : Once OfTest
   of_test_once a b x y (inl (r, report, end, is)) (inl (q, report', end', is')) =
-      let failed : r.failed ≡ q.failed = one_failed bytes r q report report' in
-      let same : end_of r ≡ end_of q = rw failed refl in
-      (end ∙ same ∙ sym end', is ∙ one_text bytes r q report report' ∙ sym is')
-  of_test_once a b x y (inl (r, report, end, is)) (inr (inl (k, place, fault, stop))) = absurd (no_fault bytes k fault.0 (can_test bytes r report) fault.1)
-  of_test_once a b x y (inl (r, report, end, is)) (inr (inr (line, bad, stop))) = absurd (no_bad_line bytes line (can_test bytes r report) bad)
-  of_test_once a b x y (inr (inl (k, place, fault, stop))) (inl (r, report, end, is)) = absurd (no_fault bytes k fault.0 (can_test bytes r report) fault.1)
-  of_test_once a b x y (inr (inr (line, bad, stop))) (inl (r, report, end, is)) = absurd (no_bad_line bytes line (can_test bytes r report) bad)
+      let same : r ≡ q = one_report bytes r q report report' in
+      (end ∙ ap end_of same ∙ sym end', is ∙ ap (λ (s : Report). s.text) same ∙ sym is')
+  of_test_once a b x y (inl (r, report, end, is)) (inr (inl (k, place, fault, stop))) = absurd (no_fault bytes k fault.0 (reported_can_be_tested bytes r report) fault.1)
+  of_test_once a b x y (inl (r, report, end, is)) (inr (inr (line, bad, stop))) = absurd (no_bad_line bytes line (reported_can_be_tested bytes r report) bad)
+  of_test_once a b x y (inr (inl (k, place, fault, stop))) (inl (r, report, end, is)) = absurd (no_fault bytes k fault.0 (reported_can_be_tested bytes r report) fault.1)
+  of_test_once a b x y (inr (inr (line, bad, stop))) (inl (r, report, end, is)) = absurd (no_bad_line bytes line (reported_can_be_tested bytes r report) bad)
   of_test_once a b x y (inr (inl (k, place, fault, stop))) (inr (inl (l, other, fault', stop'))) =
       same_stop _ _ a b x y
       (first_once bytes k l fault.0 fault'.0 place other (is_first bytes k fault.0 fault.1) (is_first bytes l fault'.0 fault'.1) fault.2 fault'.2)

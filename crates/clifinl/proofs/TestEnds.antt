@@ -3,55 +3,26 @@ use Rattle.std.proofs.Common.{◌≡◌, ℕ, ◌<◌, List, Option, Some, lengt
 use Rattle.std.specs.Prelude.{Bool, true, false, ◌==◌}
 use Rattle.clif_lex.specs.declared.faults.Place.{Place}
 use Rattle.clif_lex.specs.declared.faults.TextKind.{TextKind}
-use Rattle.clif_lex.specs.declared.spans.Token.{Token}
-use Rattle.clif_read.specs.declared.raw.RawModule.{RawModule}
-use Rattle.clif_check.specs.Faults.{FirstOfRaw, IsAcceptedRaw}
-use Rattle.clif_check.proofs.Stages.{meant_is_faultless, read_is_faultless}
 use Rattle.clk_flow.specs.Faults.{Rose}
 use Rattle.filetest.specs.declared.report.Report.{Report}
 use Rattle.filetest.specs.declared.testing.TestErr.TheVariants as err
-use Rattle.filetest.specs.Tested.{HasBadLine, HasLaterFault, IsRefusal, IsReport, IsTestedModule, asked, needs_module}
-use Rattle.test_directives.specs.Tests.{bad_line}
+use Rattle.filetest.specs.Laws.{CanTest}
+use Rattle.filetest.specs.Tested.{IsRefusal, IsReport}
+use Rattle.filetest.proofs.OneReport.{can_test_is_not_refused}
 use Rattle.clifinl.specs.declared.status.Status.{Status}
 use Rattle.clifinl.specs.declared.status.Status.TheVariants.{Done, Refused, Usage, ReadFault, WriteFault, NoMemory, ChecksFailed}
 use Rattle.clifinl.specs.declared.status.Refusal.TheVariants.{Text, TooLong, BadScript, NoEntry, BadArgs, BadDirective}
 use Rattle.clifinl.specs.Runs.{GivesTooMany, NoText, Outside, ReadsWhole, Stopped, most_bytes}
-use Rattle.clifinl.specs.TestCommand.{CanTest, HasNoReport, IsTestFault, IsTestRun, ReportEnds, TookReport, end_of}
-use Rattle.clifinl.proofs.OneReport.{is_module, one_list, same_raw}
+use Rattle.clifinl.specs.TestCommand.{HasNoReport, IsTestFault, IsTestRun, ReportEnds, TookReport, end_of}
 use Rattle.clifinl.proofs.Runs.{told, told_long}
 
 -- ---- a text that can be tested is not refused
 
-pub can_test : (text : List ℕ) (r : Report) → IsReport text r → CanTest text
-can_test text r report = record {
-  tokens = report.tokens;
-  raw = report.raw;
-  read = report.read;
-  good = report.good;
-  tested = report.tested;
-  is_tested = report.is_tested;
-}
-
-pub no_bad_line : (text : List ℕ) (line : ℕ) → CanTest text → HasBadLine text line → ⊥
-no_bad_line text line can (ts, raw, is, bad) =
-    let tokens : ts ≡ can.tokens = one_list text ts can.tokens raw can.raw is can.read in
-    let same : raw ≡ can.raw = same_raw text ts can.tokens raw can.raw is can.read in
-    let moved : bad_line text can.tokens can.raw ≡ Some line =
-    subst (λ (m : RawModule). bad_line text can.tokens m ≡ Some line) same (subst (λ (us : List Token). bad_line text us raw ≡ Some line) tokens bad) in
-    let good = can.good in
-    absurd cc
-
-no_later_fault : (text : List ℕ) (k : TextKind) (spot : ℕ) → CanTest text → HasLaterFault text k spot → ⊥
-no_later_fault text k spot can (ts, raw, is, good, needed, first) =
-    let tokens : ts ≡ can.tokens = one_list text ts can.tokens raw can.raw is can.read in
-    let same : raw ≡ can.raw = same_raw text ts can.tokens raw can.raw is can.read in
-    let asks : needs_module (asked text can.tokens) ≡ true = subst (λ (us : List Token). needs_module (asked text us) ≡ true) tokens needed in
-    let accepted : IsAcceptedRaw can.raw can.tested = subst (λ (b : Bool). IsTestedModule b can.raw can.tested) asks can.is_tested in
-    meant_is_faultless can.raw can.tested k spot accepted.free accepted.means accepted.accepted (subst (λ (m : RawModule). FirstOfRaw m k spot) same first)
+pub no_bad_line : (text : List ℕ) (line : ℕ) → CanTest text → IsRefusal text (err.BadDirective line) → ⊥
+no_bad_line text line can why = let same = can_test_is_not_refused text (err.BadDirective line) can why in absurd cc
 
 pub no_fault : (text : List ℕ) (k : TextKind) (spot : ℕ) → CanTest text → IsRefusal text (err.Text k spot) → ⊥
-no_fault text k spot can (inl unread) = read_is_faultless text can.raw k spot (is_module text can.tokens can.raw can.read) unread
-no_fault text k spot can (inr later) = no_later_fault text k spot can later
+no_fault text k spot can why = let same = can_test_is_not_refused text (err.Text k spot) can why in absurd cc
 
 -- ---- how the failed checks decide
 
@@ -108,7 +79,7 @@ module _ (before after : Outside) where
     too_long = λ all is long. not_long bytes all whole is long;
   }
 
-  misdirected : (line : ℕ) (bytes : List ℕ) → ReadsWhole before.left after.left bytes → HasBadLine bytes line → Ends (Refused (BadDirective line))
+  misdirected : (line : ℕ) (bytes : List ℕ) → ReadsWhole before.left after.left bytes → IsRefusal bytes (err.BadDirective line) → Ends (Refused (BadDirective line))
   misdirected line bytes whole bad = record {
     cause = (bytes, whole, bad);
     complete = λ all is short can none. absurd (no_bad_line bytes line (of_own bytes all CanTest whole is can) bad);

@@ -1,17 +1,14 @@
 -- What `test` reads and writes, and how it ends: it carries out the tests of a text and writes the report.
-use Rattle.std.specs.Prelude.{◌≡◌, ◌≢◌, ℕ, ◌==◌, ◌<◌, ◌≤◌, ◌⊎◌, ⊤, if◌then◌else◌, List, length, Option, Some, None}
+use Rattle.std.specs.Prelude.{◌≡◌, ◌≢◌, ℕ, ◌==◌, ◌<◌, ◌≤◌, ◌⊎◌, ⊤, if◌then◌else◌, List, length, Option, Some}
 use Rattle.std.specs.Io.KnownBytes.{Appends}
 use Rattle.clk_flow.specs.Faults.{Rose}
 use Rattle.clk_flow.specs.Whole.{AppendsPrefix}
 use Rattle.clif_lex.specs.declared.faults.Place.{Place}
 use Rattle.clif_lex.specs.declared.faults.TextKind.{TextKind}
-use Rattle.clif_lex.specs.declared.spans.Token.{Token}
-use Rattle.clif_read.specs.declared.raw.RawModule.{RawModule}
 use Rattle.filetest.specs.declared.report.Report.{Report}
 use Rattle.filetest.specs.declared.testing.TestErr.TheVariants as err
-use Rattle.filetest.specs.Tested.{IsRaw, IsRefusal, IsReport, IsTestedModule, asked, needs_module}
-use Rattle.ir_core.specs.Module.{Module}
-use Rattle.test_directives.specs.Tests.{bad_line}
+use Rattle.filetest.specs.Laws.{CanTest}
+use Rattle.filetest.specs.Tested.{IsRefusal, IsReport}
 use Rattle.clifinl.specs.declared.status.Status.{Status}
 use Rattle.clifinl.specs.declared.status.Status.TheVariants.{Done, Refused, ReadFault, WriteFault}
 use Rattle.clifinl.specs.declared.status.Status.TheVariants.{NoMemory, ChecksFailed}
@@ -42,18 +39,6 @@ ReportEnds r before after faults now Done = (r.failed ≡ 0) × Appends before a
 ReportEnds r before after faults now ChecksFailed = (r.failed ≢ 0) × Appends before after r.text
 ReportEnds r before after faults now WriteFault = AppendsPrefix before after r.text × Rose faults now
 ReportEnds r before after faults now status = ⊥
-
--- ---- the texts that can be tested
-
--- the text has tokens, they are a raw module, no line of it is a bad directive, and where a command needs it, it is
--- accepted
-pub record CanTest (text : List ℕ) : Type 0 where
-  pub tokens : List Token
-  pub raw : RawModule
-  pub read : IsRaw text tokens raw
-  pub good : bad_line text tokens raw ≡ None
-  pub tested : Module
-  pub is_tested : IsTestedModule (needs_module (asked text tokens)) raw tested
 
 -- ---- the command
 

@@ -9,13 +9,14 @@ use Rattle.test_directives.specs.Tests.{FunctionTests}
 use Rattle.filetest.specs.Report as report
 use Rattle.filetest.specs.Report.{Check, check_text, last_line}
 use Rattle.filetest.specs.declared.report.Report.{Report}
-use Rattle.filetest.specs.Telling.{Told, Tells, nothing_told}
+use Rattle.filetest.specs.Telling.{Told, Tells}
 use Rattle.filetest.specs.Checks.{checks_of, command_text, is_skipped, passed, failed, skipped}
 use Rattle.inline_finish.specs.Building.{IsLimited}
 use Rattle.inline_finish.specs.declared.bodies.Policy.{Policy}
 use Rattle.filetest.specs.Limits.{AreWithin, IsLimitedCommand}
 use Rattle.filetest.specs.Carrying.{one_if, IsCarriedOut, CarriesWith}
 use Rattle.filetest.specs.Reporting.{IsReportOf}
+use Rattle.filetest.specs.Sections.{nothing_told}
 use Rattle.test_directives.specs.declared.commands.Command.{Command as CodeCommand}
 use Rattle.test_directives.specs.Views.{command_of}
 use Rattle.filetest.proofs.Telling.{passed_both, failed_both}
@@ -47,28 +48,6 @@ module _ (m : Module) (ts : List FunctionTests) (faults : List (Option ℕ)) whe
         failed = let z : a.failed ≡ a.failed + 0 = omega arith in n.1 ∙ (z ∙ ap (λ xs. a.failed + report.failed xs) (sym none));
         skipped = n.2 ∙ ap (λ z. a.skipped + one_if z) (sym s);
       }
-
-  -- told again what a report was told that was told of nothing else
-  pub carried_again : (a b s : Told) (k c : Command) → k ≡ c → IsCarriedOut nothing_told s m ts faults k → b.text ≡ a.text ++ s.text
-      → (b.passed ≡ a.passed + s.passed) × (b.failed ≡ a.failed + s.failed) × (b.skipped ≡ a.skipped + s.skipped) → IsCarriedOut a b m ts faults c
-  carried_again a b s k c e h t n =
-      let is : IsCarriedOut nothing_told s m ts faults c = subst (λ x. IsCarriedOut nothing_told s m ts faults x) e h in
-      record {
-        text = t ∙ ap (λ x. a.text ++ x) is.text;
-        passed = omega (arith, n.0, is.passed);
-        failed = omega (arith, n.1, is.failed);
-        skipped = omega (arith, n.2, is.skipped);
-      }
-
-  -- what was told of nothing before is that of a command alone
-  pub carried_alone : (a b : Told) (k c : Command) → k ≡ c → a.text ≡ [] → (a.passed ≡ 0) × (a.failed ≡ 0) × (a.skipped ≡ 0)
-      → IsCarriedOut a b m ts faults c → IsCarriedOut nothing_told b m ts faults k
-  carried_alone a b k c e t n h = subst (λ x. IsCarriedOut nothing_told b m ts faults x) (sym e) (record {
-    text = h.text ∙ ap (λ x. x ++ command_text m ts faults c) t;
-    passed = omega (arith, n.0, h.passed);
-    failed = omega (arith, n.1, h.failed);
-    skipped = omega (arith, n.2, h.skipped);
-  })
 
   count_skipped : (c : Command) (rest : List Command) → skipped (c ∷ rest) ≡ one_if (is_skipped c) + skipped rest
   count_skipped c rest = go (is_skipped c)

@@ -58,3 +58,10 @@ found_is_contained line text None h = go (contains text line) refl
     go false e = refl
     go true e = let p = has_place line text e in absurd (h p.0 (omega arith) p.1 p.2)
 found_is_contained line text (Some k) h = sym (place_has line text k h.1)
+
+pub longer_is_not : (line text : List ℕ) → length line < length text → false ≡ contains text line
+longer_is_not line text l = go (contains text line) refl
+  where
+    go : (b : Bool) → contains text line ≡ b → false ≡ b
+    go false e = refl
+    go true e = let p = has_place line text e in absurd (omega (arith, p.2.fits, l))

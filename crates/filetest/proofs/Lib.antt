@@ -5,13 +5,13 @@ pub mod Differing
 pub mod Ends
 pub mod FaultChecks
 pub mod FaultLaws
-pub mod KeptEntries
+pub mod Kept
 pub mod LineChecking
 pub mod Limits
+pub mod OneReport
 pub mod PassChecks
 pub mod Placing
 pub mod RunChecks
-pub mod SameKinds
 pub mod Telling
 pub mod TextChecks
 pub mod Whole

@@ -5,6 +5,7 @@ pub mod Examples
 pub mod Expecting
 pub mod FaultLines
 pub mod Judging
+pub mod Laws
 pub mod Limits
 pub mod LineTests
 pub mod Outputs

@@ -1,5 +1,5 @@
 -- What a report in the making is told.
-use Rattle.std.specs.Prelude.{◌≡◌, ℕ, ◌+◌, ◌≤◌, List, [], ◌++◌, length, flat_map}
+use Rattle.std.specs.Prelude.{◌≡◌, ℕ, ◌+◌, ◌≤◌, List, ◌++◌, length, flat_map}
 use Rattle.test_directives.specs.Commands.{Command}
 use Rattle.filetest.specs.Report.{Check, check_text, passed, failed}
 
@@ -9,10 +9,6 @@ pub record Told : Type 0 where
   pub passed : ℕ
   pub failed : ℕ
   pub skipped : ℕ
-
--- told of nothing
-abbrev pub nothing_told : Told
-nothing_told = record { text = []; passed = 0; failed = 0; skipped = 0 }
 
 -- told of these checks, and then of those that are left, it is as if it were told of all
 pub record TellsWith (old new : Told) (command : Command) (left all : List Check) : Type 0 where

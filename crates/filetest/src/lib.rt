@@ -5,7 +5,6 @@
 #![tactic(auto)]
 
 mod inlining;
-mod kinds;
 pub mod laws;
 mod line_checks;
 mod lines;

@@ -27,10 +27,13 @@ pub(crate) fn split_lines<'t>(alloc: Global, text: &'t [u8]) -> Result<Vec<&'t [
     Ok(lines)
 }
 
-/// Whether a line contains a text.
+/// Whether a line contains a text. Takes time linear in the line, however long the text is.
 pub(crate) fn contains(line: &[u8], text: &[u8]) -> bool
     ensures { result ≡ defined.contains text.now line.now }
 {
+    if text.len() > line.len() {
+        return false;
+    }
     memmem::find(line, text).is_some()
 }
 

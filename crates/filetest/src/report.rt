@@ -147,21 +147,6 @@ impl Writer {
         Ok(())
     }
 
-    /// Tells again what another report was told.
-    pub(crate) fn append(&mut self, other: &Writer) -> Result<(), AllocError>
-        ensures text { OnOk result (self.new.text ≡ self.old.text ++ other.now.text) }
-        ensures counts { OnOk result
-            ((self.new.passed ≡ self.old.passed + other.now.passed)
-            × (self.new.failed ≡ self.old.failed + other.now.failed)
-            × (self.new.skipped ≡ self.old.skipped + other.now.skipped)) }
-    {
-        self.text.extend_from_slice(other.text.as_slice())?;
-        self.passed += other.passed;
-        self.failed += other.failed;
-        self.skipped += other.skipped;
-        Ok(())
-    }
-
     /// Tells of a command that is left out.
     pub(crate) fn skip(&mut self, command: &Command) -> Result<(), AllocError>
         ensures text { OnOk result (self.new.text ≡ self.old.text ++ skip_text (command_of command.now)) }
@@ -173,6 +158,21 @@ impl Writer {
         self.put(command.word())?;
         self.put(b"\n")?;
         self.skipped += 1;
+        Ok(())
+    }
+
+    /// Tells again what another report in the making was told.
+    pub(crate) fn append(&mut self, section: &Writer) -> Result<(), AllocError>
+        ensures text { OnOk result (self.new.text ≡ self.old.text ++ section.now.text) }
+        ensures counts { OnOk result
+            ((self.new.passed ≡ self.old.passed + section.now.passed)
+            × (self.new.failed ≡ self.old.failed + section.now.failed)
+            × (self.new.skipped ≡ self.old.skipped + section.now.skipped)) }
+    {
+        self.text.extend_from_slice(section.text.as_slice())?;
+        self.passed += section.passed;
+        self.failed += section.failed;
+        self.skipped += section.skipped;
         Ok(())
     }
 

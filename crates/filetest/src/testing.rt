@@ -5,23 +5,18 @@ ghost use Rattle.clif_lex.specs.Faults.{text_err_of};
 ghost use Rattle.clif_meaning.specs.Meaning.{HasBlocks};
 ghost use Rattle.test_directives.specs.Views.{command_of, function_of};
 ghost use Rattle.filetest.specs.declared.testing.TestErr.TheVariants.{NoMemory};
-ghost use Rattle.filetest.specs.Carrying.{IsCarriedOut};
 ghost use Rattle.filetest.specs.Limits.{IsLimitedCommand};
 ghost use Rattle.filetest.specs.Placing.{ArePlaced};
 ghost use Rattle.filetest.specs.Refusing.{of_directive_err, of_text_err, IsCheckRefusal};
 ghost use Rattle.filetest.specs.Reporting.{IsReportOf};
 ghost use Rattle.filetest.specs.Tested.{is_verifier, needs_module, HasFaultLines, IsRefusal, IsReport, IsTestedModule};
 
-use crate::inlining::check_inlined;
 use crate::report::{Report, Writer};
-use crate::runs::check_runs;
 use crate::sections::Sections;
-use crate::texts::check_lines;
-use crate::verifying::{check_faults, fault_lines};
+use crate::verifying::fault_lines;
 use clif_check::check_raw;
 use clif_lex::{LexErr, TextErr, TextKind, tokens};
 use clif_read::{RawModule, read_raw_alone};
-use inline_finish::Policy;
 use ir_check::Checked;
 use ir_core::Module;
 use std::alloc::{AllocError, AllocFailed, Global};
@@ -167,41 +162,7 @@ fn needed_fault_lines(
     }
 }
 
-/// Carries out a command, and tells of each check.
-pub(crate) fn carry_out(
-    alloc: Global,
-    command: &Command,
-    checked: &Checked,
-    tests: &[FunctionTests],
-    faults: &[Option<u32>],
-    out: &mut Writer,
-) -> Result<(), AllocError>
-    requires limited { IsLimitedCommand (command_of command.now) }
-    requires placed { ArePlaced checked.now tests.now }
-    ensures { OnOk result (IsCarriedOut out.old out.new checked.now (map function_of tests.now) faults.now
-        (command_of command.now)) }
-{
-    match command {
-        Command::Cat => check_lines(alloc, command, checked.module(), tests, out),
-        Command::Verifier => check_faults(alloc, command, faults, tests, out),
-        Command::Interpret => check_runs(alloc, command, checked, tests, out),
-        Command::Run => check_runs(alloc, command, checked, tests, out),
-        Command::Inline {
-            precise,
-            callee_size,
-            caller_size,
-        } => {
-            let policy = Policy {
-                callee_size: *callee_size,
-                caller_size: *caller_size,
-            };
-            check_inlined(alloc, command, checked, *precise, policy, tests, out)
-        }
-        Command::Other(_) => out.skip(command),
-    }
-}
-
-/// The report of all commands. Of equal ones one is carried out.
+/// The report of all commands, each of which is carried out once, however often it stands there.
 fn report_of(
     alloc: Global,
     commands: &[Command],
@@ -223,9 +184,9 @@ fn report_of(
 }
 
 /// Carries out what the header lines of a text ask for, and tells of each check. The text has to be accepted where a
-/// command other than `verifier` is carried out; else its tokens and its grammar alone refuse it. Each
-/// different command takes time linear in the text, but for logarithms, for the steps of its runs, and for `not:` tests,
-/// each of which is compared with each line of its range; what an equal one tells is told again.
+/// command other than `verifier` is carried out; else its tokens and its grammar alone refuse it. Each different command
+/// takes time linear in the text, but for logarithms, for the steps of its runs, and for `not:` tests, each of which is
+/// compared with each line of its range. One that stands there again takes time linear in what the report tells of it.
 ///
 /// # Errors
 ///

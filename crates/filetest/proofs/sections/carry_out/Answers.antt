@@ -5,7 +5,7 @@ use Rattle.test_directives.specs.Views.{command_of, function_of}
 use Rattle.filetest.specs.Outputs.{line_checks}
 use Rattle.filetest.proofs.CommandChecks.{carried_as, carried_skipped, on_both, policy_limited}
 use Rattle.filetest.proofs.PassChecks.{each_lines}
-use Rattle.filetest.proofs.testing.carry_out.Goals as goal
+use Rattle.filetest.proofs.sections.carry_out.Goals as goal
 
 pub returns-in-Cat : goal.returns-in-Cat
 returns-in-Cat c = on_ok_weaker _ (carried_as c.args.checked.now (map function_of c.args.tests.now) c.args.faults.now c.args.out.now c.check_lines.new.out (command_of c.args.command.now) _ _

@@ -1,4 +1,4 @@
--- A text has one report.
+-- A text has one report, and no refusal where it can be tested.
 use Rattle.std.proofs.Common.{◌≡◌, ℕ, zero, suc, Bool, true, false, List, [], ◌∷◌, ◌++◌, length, flat_map, slice_get, Option, None, Some, refl, sym, ap, subst, inl, inr, arith, ◌∙◌}
 use Rattle.std.specs.Prelude.{if◌then◌else◌}
 use Rattle.std.specs.List.{list_any}
@@ -10,8 +10,8 @@ use Rattle.clif_read.specs.Texts.{IsModuleText}
 use Rattle.clif_names.proofs.FaultLaws.{one_first_fault}
 use Rattle.clif_meaning.specs.Reads.{alone}
 use Rattle.clif_meaning.proofs.OneMeaning.{one_meaning}
-use Rattle.clif_check.specs.Faults.{FirstOfRaw, BreaksRule}
-use Rattle.clif_check.proofs.Stages.{meant_is_faultless, one_raw}
+use Rattle.clif_check.specs.Faults.{FirstOfRaw, BreaksRule, IsAcceptedRaw}
+use Rattle.clif_check.proofs.Stages.{meant_is_faultless, one_raw, read_is_faultless}
 use Rattle.ir_check.specs.Faults as rules
 use Rattle.ir_check.proofs.Firsts.{at_most_one}
 use Rattle.ir_core.specs.Module.{Module}
@@ -20,10 +20,12 @@ use Rattle.filetest.specs.Checks.{checks_of, command_text, failed, is_skipped, p
 use Rattle.filetest.specs.Report as report
 use Rattle.filetest.specs.Report.{Check, check_text, last_line, skip_text}
 use Rattle.filetest.specs.FaultLines.{AreFaultLines, IsFaultLine}
-use Rattle.filetest.specs.Tested.{HasFaultLines, IsRaw, IsReport, IsTestedModule, asked, is_verifier, needs_module}
+use Rattle.filetest.specs.declared.testing.TestErr.TheVariants as err
+use Rattle.filetest.specs.Laws.{CanTest, CanTestIsNotRefused, OneReport, ReportedCanBeTested}
+use Rattle.filetest.specs.Tested.{HasBadLine, HasFaultLines, HasLaterFault, IsRaw, IsReport, IsTestedModule, asked, is_verifier, needs_module}
 use Rattle.test_directives.specs.Commands as command
 use Rattle.test_directives.specs.Commands.{Command}
-use Rattle.test_directives.specs.Tests.{FunctionTests, all_tests}
+use Rattle.test_directives.specs.Tests.{FunctionTests, all_tests, bad_line}
 
 -- ---- a text has one raw module
 
@@ -119,10 +121,10 @@ module _ (m : Module) (ts : List FunctionTests) (fs gs : List (Option ℕ)) wher
           let others : flat_map (command_text m ts fs) cs ≡ flat_map (command_text m ts gs) cs = more (grind (arith, is, all)) in
           ap (λ l. l ++ flat_map (command_text m ts fs) cs) first ∙ ap (λ l. command_text m ts gs c ++ l) others
 
-  one_count : (b : Bool) (text : List ℕ) (raw : RawModule) (cs : List Command) → list_any is_verifier cs ≡ b
-      → HasFaultLines b text raw fs → HasFaultLines b text raw gs → failed m ts fs cs ≡ failed m ts gs cs
-  one_count true text raw cs is p q = ap (λ (ls : List (Option ℕ)). failed m ts ls cs) (one_lines text raw fs gs p q)
-  one_count false text raw cs is p q = ap report.failed (none_verified cs is)
+  one_checks : (b : Bool) (text : List ℕ) (raw : RawModule) (cs : List Command) → list_any is_verifier cs ≡ b
+      → HasFaultLines b text raw fs → HasFaultLines b text raw gs → flat_map (checks_of m ts fs) cs ≡ flat_map (checks_of m ts gs) cs
+  one_checks true text raw cs is p q = ap (λ (ls : List (Option ℕ)). flat_map (checks_of m ts ls) cs) (one_lines text raw fs gs p q)
+  one_checks false text raw cs is p q = none_verified cs is
 
   one_report_text : (b : Bool) (text : List ℕ) (raw : RawModule) (cs : List Command) → list_any is_verifier cs ≡ b
       → HasFaultLines b text raw fs → HasFaultLines b text raw gs → report_text m ts fs cs ≡ report_text m ts gs cs
@@ -133,36 +135,98 @@ module _ (m : Module) (ts : List FunctionTests) (fs gs : List (Option ℕ)) wher
       ap (λ l. l ++ last_line (passed m ts fs cs) (failed m ts fs cs) (skipped cs)) told
       ∙ ap (λ (ks : List Check). flat_map (command_text m ts gs) cs ++ last_line (report.passed ks) (report.failed ks) (skipped cs)) checks
 
--- ---- the law
+-- ---- the laws
 
-pub one_failed : (text : List ℕ) (r s : Report) → IsReport text r → IsReport text s → r.failed ≡ s.failed
-one_failed text r s p q =
-    let tokens : q.tokens ≡ p.tokens = one_list text q.tokens p.tokens q.raw p.raw q.read p.read in
-    let raw : q.raw ≡ p.raw = same_raw text q.tokens p.tokens q.raw p.raw q.read p.read in
-    let Tested : List Token → RawModule → Type 0 = λ ts raw. IsTestedModule (needs_module (asked text ts)) raw q.tested in
-    let tested : Tested p.tokens p.raw = subst (λ (w : RawModule). Tested p.tokens w) raw (subst (λ (ts : List Token). Tested ts q.raw) tokens q.is_tested) in
-    let Lines : List Token → RawModule → Type 0 = λ ts raw. HasFaultLines (list_any is_verifier (asked text ts)) text raw q.faults in
-    let lines : Lines p.tokens p.raw = subst (λ (w : RawModule). Lines p.tokens w) raw (subst (λ (ts : List Token). Lines ts q.raw) tokens q.are_faults) in
-    let Count : List Token → RawModule → Type 0 = λ ts raw. s.failed ≡ failed q.tested (all_tests text ts raw.functions) q.faults (asked text ts) in
-    let count : Count p.tokens p.raw = subst (λ (w : RawModule). Count p.tokens w) raw (subst (λ (ts : List Token). Count ts q.raw) tokens q.failed_is) in
-    let same : q.tested ≡ p.tested = one_tested (needs_module (asked text p.tokens)) p.raw q.tested p.tested tested p.is_tested in
-    let other : failed p.tested (all_tests text p.tokens p.raw.functions) p.faults (asked text p.tokens)
-    ≡ failed p.tested (all_tests text p.tokens p.raw.functions) q.faults (asked text p.tokens) =
-    one_count p.tested (all_tests text p.tokens p.raw.functions) p.faults q.faults (list_any is_verifier (asked text p.tokens)) text p.raw (asked text p.tokens) refl p.are_faults lines in
-    p.failed_is ∙ other ∙ ap (λ (m : Module). failed m (all_tests text p.tokens p.raw.functions) q.faults (asked text p.tokens)) (sym same) ∙ sym count
+module _ (text : List ℕ) (r s : Report) (p : IsReport text r) (q : IsReport text s) where
+  tokens_same : q.tokens ≡ p.tokens
+  tokens_same = one_list text q.tokens p.tokens q.raw p.raw q.read p.read
 
-pub one_text : (text : List ℕ) (r s : Report) → IsReport text r → IsReport text s → r.text ≡ s.text
-one_text text r s p q =
-    let tokens : q.tokens ≡ p.tokens = one_list text q.tokens p.tokens q.raw p.raw q.read p.read in
-    let raw : q.raw ≡ p.raw = same_raw text q.tokens p.tokens q.raw p.raw q.read p.read in
-    let Tested : List Token → RawModule → Type 0 = λ ts raw. IsTestedModule (needs_module (asked text ts)) raw q.tested in
-    let tested : Tested p.tokens p.raw = subst (λ (w : RawModule). Tested p.tokens w) raw (subst (λ (ts : List Token). Tested ts q.raw) tokens q.is_tested) in
-    let Lines : List Token → RawModule → Type 0 = λ ts raw. HasFaultLines (list_any is_verifier (asked text ts)) text raw q.faults in
-    let lines : Lines p.tokens p.raw = subst (λ (w : RawModule). Lines p.tokens w) raw (subst (λ (ts : List Token). Lines ts q.raw) tokens q.are_faults) in
-    let Count : List Token → RawModule → Type 0 = λ ts raw. s.text ≡ report_text q.tested (all_tests text ts raw.functions) q.faults (asked text ts) in
-    let count : Count p.tokens p.raw = subst (λ (w : RawModule). Count p.tokens w) raw (subst (λ (ts : List Token). Count ts q.raw) tokens q.text_is) in
-    let same : q.tested ≡ p.tested = one_tested (needs_module (asked text p.tokens)) p.raw q.tested p.tested tested p.is_tested in
-    let other : report_text p.tested (all_tests text p.tokens p.raw.functions) p.faults (asked text p.tokens)
-    ≡ report_text p.tested (all_tests text p.tokens p.raw.functions) q.faults (asked text p.tokens) =
-    one_report_text p.tested (all_tests text p.tokens p.raw.functions) p.faults q.faults (list_any is_verifier (asked text p.tokens)) text p.raw (asked text p.tokens) refl p.are_faults lines in
-    p.text_is ∙ other ∙ ap (λ (m : Module). report_text m (all_tests text p.tokens p.raw.functions) q.faults (asked text p.tokens)) (sym same) ∙ sym count
+  raws_same : q.raw ≡ p.raw
+  raws_same = same_raw text q.tokens p.tokens q.raw p.raw q.read p.read
+
+  -- what is known of the tokens and the raw module of the second is known of those of the first
+  moved : (P : List Token → RawModule → Type 0) → P q.tokens q.raw → P p.tokens p.raw
+  moved P h = subst (λ (w : RawModule). P p.tokens w) raws_same (subst (λ (ts : List Token). P ts q.raw) tokens_same h)
+
+  tested_same : q.tested ≡ p.tested
+  tested_same = one_tested (needs_module (asked text p.tokens)) p.raw q.tested p.tested (moved (λ ts raw. IsTestedModule (needs_module (asked text ts)) raw q.tested) q.is_tested) p.is_tested
+
+  faults_there : HasFaultLines (list_any is_verifier (asked text p.tokens)) text p.raw q.faults
+  faults_there = moved (λ ts raw. HasFaultLines (list_any is_verifier (asked text ts)) text raw q.faults) q.are_faults
+
+  abbrev Tests : List FunctionTests
+  Tests = all_tests text p.tokens p.raw.functions
+
+  -- what both reports say of the module, the tests, the lines of faults and the commands
+  one_part : {A : Type 0} (f : Module → List FunctionTests → List (Option ℕ) → List Command → A) (a b : A)
+      → a ≡ f p.tested Tests p.faults (asked text p.tokens)
+      → b ≡ f q.tested (all_tests text q.tokens q.raw.functions) q.faults (asked text q.tokens)
+      → f p.tested Tests p.faults (asked text p.tokens) ≡ f p.tested Tests q.faults (asked text p.tokens) → a ≡ b
+  one_part f a b x y same =
+      let z : b ≡ f q.tested Tests q.faults (asked text p.tokens) = moved (λ ts raw. b ≡ f q.tested (all_tests text ts raw.functions) q.faults (asked text ts)) y in
+      x ∙ same ∙ ap (λ (m : Module). f m Tests q.faults (asked text p.tokens)) (sym tested_same) ∙ sym z
+
+  checks_same : flat_map (checks_of p.tested Tests p.faults) (asked text p.tokens) ≡ flat_map (checks_of p.tested Tests q.faults) (asked text p.tokens)
+  checks_same = one_checks p.tested Tests p.faults q.faults (list_any is_verifier (asked text p.tokens)) text p.raw (asked text p.tokens) refl p.are_faults faults_there
+
+  one_text : r.text ≡ s.text
+  one_text = one_part report_text r.text s.text p.text_is q.text_is
+      (one_report_text p.tested Tests p.faults q.faults (list_any is_verifier (asked text p.tokens)) text p.raw (asked text p.tokens) refl p.are_faults faults_there)
+
+  one_passed : r.passed ≡ s.passed
+  one_passed = one_part passed r.passed s.passed p.passed_is q.passed_is (ap report.passed checks_same)
+
+  one_failed : r.failed ≡ s.failed
+  one_failed = one_part failed r.failed s.failed p.failed_is q.failed_is (ap report.failed checks_same)
+
+  one_skipped : r.skipped ≡ s.skipped
+  one_skipped = one_part (λ m ts faults cs. skipped cs) r.skipped s.skipped p.skipped_is q.skipped_is refl
+
+abbrev made : List ℕ → ℕ → ℕ → ℕ → Report
+made text passed failed skipped = record { text = text; passed = passed; failed = failed; skipped = skipped }
+
+-- reports with the same parts are the same
+same_parts : (r s : Report) → r.text ≡ s.text → r.passed ≡ s.passed → r.failed ≡ s.failed → r.skipped ≡ s.skipped → r ≡ s
+same_parts r s a b c d =
+    let same : made r.text r.passed r.failed r.skipped ≡ made s.text s.passed s.failed s.skipped =
+    ap (λ t. made t r.passed r.failed r.skipped) a ∙ ap (λ n. made s.text n r.failed r.skipped) b
+    ∙ ap (λ n. made s.text s.passed n r.skipped) c ∙ ap (λ n. made s.text s.passed s.failed n) d in
+    same
+
+pub one_report : OneReport
+one_report text r s p q = same_parts r s (one_text text r s p q) (one_passed text r s p q) (one_failed text r s p q) (one_skipped text r s p q)
+
+-- ---- a text that can be tested
+
+pub reported_can_be_tested : ReportedCanBeTested
+reported_can_be_tested text r report = record {
+  tokens = report.tokens;
+  raw = report.raw;
+  read = report.read;
+  good = report.good;
+  tested = report.tested;
+  is_tested = report.is_tested;
+}
+
+no_bad_line : (text : List ℕ) (line : ℕ) → CanTest text → HasBadLine text line → ⊥
+no_bad_line text line can (ts, raw, is, bad) =
+    let tokens : ts ≡ can.tokens = one_list text ts can.tokens raw can.raw is can.read in
+    let same : raw ≡ can.raw = same_raw text ts can.tokens raw can.raw is can.read in
+    let moved : bad_line text can.tokens can.raw ≡ Some line =
+    subst (λ (m : RawModule). bad_line text can.tokens m ≡ Some line) same (subst (λ (us : List Token). bad_line text us raw ≡ Some line) tokens bad) in
+    let good = can.good in
+    absurd cc
+
+no_later_fault : (text : List ℕ) (k : TextKind) (spot : ℕ) → CanTest text → HasLaterFault text k spot → ⊥
+no_later_fault text k spot can (ts, raw, is, good, needed, first) =
+    let tokens : ts ≡ can.tokens = one_list text ts can.tokens raw can.raw is can.read in
+    let same : raw ≡ can.raw = same_raw text ts can.tokens raw can.raw is can.read in
+    let asks : needs_module (asked text can.tokens) ≡ true = subst (λ (us : List Token). needs_module (asked text us) ≡ true) tokens needed in
+    let accepted : IsAcceptedRaw can.raw can.tested = subst (λ (b : Bool). IsTestedModule b can.raw can.tested) asks can.is_tested in
+    meant_is_faultless can.raw can.tested k spot accepted.free accepted.means accepted.accepted (subst (λ (m : RawModule). FirstOfRaw m k spot) same first)
+
+pub can_test_is_not_refused : CanTestIsNotRefused
+can_test_is_not_refused text (err.BadDirective line) can bad = absurd (no_bad_line text line can bad)
+can_test_is_not_refused text (err.Text k spot) can (inl unread) = absurd (read_is_faultless text can.raw k spot (is_module text can.tokens can.raw can.read) unread)
+can_test_is_not_refused text (err.Text k spot) can (inr later) = absurd (no_later_fault text k spot can later)
+can_test_is_not_refused text err.NoMemory can why = refl

@@ -222,7 +222,8 @@ def header_lines(header):
 
 def line_tests(directive, header='cat'):
     """A function of n lines, and as many directives of its lines."""
-    return lambda count: (f'test {header}\n\nfunction %f() {{\nblock0:\n' + '    nop\n' * count + '    return\n}\n'
+    return lambda count: (f'test {header}\n\nfunction %f(i64) {{\nblock0(v0: i64):\n'
+                          + ''.join(f'    v{i + 1} = iadd_imm v{i}, 1\n' for i in range(count)) + '    return\n}\n'
                           + ''.join(directive.format(i) for i in range(count)))
 
 
@@ -260,7 +261,7 @@ SHAPES = {
     'test: as many headers `inline` as functions': (8_000, ['test'], header_lines('inline')),
     'test: as many headers `run` as functions': (8_000, ['test'], header_lines('run')),
     'test: as many headers `cat` as functions': (8_000, ['test'], header_lines('cat')),
-    'test: a `check:` for each line': (16_000, ['test'], line_tests('; check: nop\n')),
+    'test: a `check:` for each line': (16_000, ['test'], line_tests('; check: iadd_imm\n')),
     'test: a `not:` for each line': (16_000, ['test'], line_tests('; not: absent{0}\n')),
     'test: one `check:` that is found late, behind `not:`s': (
         16_000, ['test'], lambda n: line_tests('; not: absent{0}\n')(n) + '; check: return\n'),
